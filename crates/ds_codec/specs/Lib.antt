@@ -1,0 +1,5 @@
+pub mod Geometry
+pub mod Address
+pub mod Attribute
+pub mod Character
+pub mod Aid

@@ -1,0 +1,18 @@
+//! The 3270 data stream: codes, buffer addresses, attributes, and outbound records read and written.
+#![tactic(auto)]
+
+mod address;
+mod aid;
+mod attribute;
+mod cell;
+mod character;
+mod geometry;
+mod size;
+
+pub use address::{decode_address, encode_address};
+pub use aid::Aid;
+pub use attribute::Attr;
+pub use cell::Cell;
+pub use character::Char;
+pub use geometry::{BadSize, Geometry};
+pub use size::{Mode, Size};
