@@ -3,3 +3,8 @@ pub mod Address
 pub mod Attribute
 pub mod Character
 pub mod Aid
+pub mod Refused
+pub mod Command
+pub mod Order
+pub mod Record
+pub mod Reading
