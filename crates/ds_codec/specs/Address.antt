@@ -3,22 +3,26 @@ use Rattle.std.specs.Prelude.{◌≡◌, ℕ, ◌+◌, ◌*◌, ◌/◌, ◌%◌
 use Rattle.ds_codec.specs.declared.size.Mode.{Mode}
 use Rattle.ds_codec.specs.declared.size.Mode.TheVariants.{Bits14}
 
+-- the first two bits of a byte
+abbrev pub top_bits : ℕ → ℕ
+top_bits byte = byte / 64 % 4
+
 -- Two bytes that begin with 00 are a number of 14 bits, the high byte first. Where they begin with 01 or 11 the
 -- low six bits of each are a number of 12 bits. No address begins with 10.
 abbrev pub SpellsAddress : Mode → ℕ → ℕ → ℕ → Type 0
 SpellsAddress Bits14 address first second =
-    ((first / 64 ≡ 0) × (address ≡ 256 * first + second))
-    ⊎ (((first / 64 ≡ 1) ⊎ (first / 64 ≡ 3)) × (address ≡ 64 * (first % 64) + second % 64))
+    ((top_bits first ≡ 0) × (address ≡ 256 * (first % 64) + second))
+    ⊎ (((top_bits first ≡ 1) ⊎ (top_bits first ≡ 3)) × (address ≡ 64 * (first % 64) + second % 64))
 
 -- the form that no address takes
 abbrev pub IsReserved : Mode → ℕ → Type 0
-IsReserved Bits14 first = first / 64 ≡ 2
+IsReserved Bits14 first = top_bits first ≡ 2
 
 -- the address that two bytes spell
 abbrev pub address_at : Mode → ℕ → ℕ → Option ℕ
 address_at Bits14 first second =
-    if first / 64 == 0 then Some (256 * first + second)
-    else (if first / 64 == 2 then None else Some (64 * (first % 64) + second % 64))
+    if top_bits first == 0 then Some (256 * (first % 64) + second)
+    else (if top_bits first == 2 then None else Some (64 * (first % 64) + second % 64))
 
 -- the byte that stands for six bits in what is sent: each is a character that can be printed
 abbrev pub six_bit_codes : List ℕ

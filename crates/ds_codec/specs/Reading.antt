@@ -1,5 +1,5 @@
 -- Reading a record from left to right, with the first fault that is met.
-use Rattle.std.specs.Prelude.{ℕ, zero, suc, ◌+◌, ◌-◌, ◌*◌, ◌%◌, nat_lt, ◌==◌, List, [], ◌∷◌, length, take, Option, Some, None, Result, Ok, Err, true, false, if◌then◌else◌}
+use Rattle.std.specs.Prelude.{◌≡◌, ℕ, zero, suc, ◌+◌, ◌-◌, ◌*◌, ◌%◌, nat_lt, ◌==◌, List, [], ◌∷◌, length, take, Option, Some, None, Result, Ok, Err, true, false, if◌then◌else◌}
 use Rattle.std.specs.List.{prefix_len}
 use Rattle.ds_codec.specs.declared.size.Mode.{Mode}
 use Rattle.ds_codec.specs.declared.command.Command.{Command}
@@ -14,12 +14,21 @@ use Rattle.ds_codec.specs.declared.refused.Why.TheVariants.{Empty, UnknownComman
 use Rattle.ds_codec.specs.Address.{address_at}
 use Rattle.ds_codec.specs.Character.{Glyph, glyph, is_text, is_graphic, is_glyph}
 use Rattle.ds_codec.specs.Command.{command_code_at}
-use Rattle.ds_codec.specs.Order.{Item, text, start_field, start_field_extended, set_buffer_address, set_attribute, modify_field, insert_cursor, program_tab, repeat_to_address, erase_unprotected_to_address, graphic_escape, Site, code_of, order_code_at, is_set_type, have_types}
+use Rattle.ds_codec.specs.declared.order.Order.{Order}
+use Rattle.ds_codec.specs.Order.{Item, item_of, text, start_field, start_field_extended, set_buffer_address, set_attribute, modify_field, insert_cursor, program_tab, repeat_to_address, erase_unprotected_to_address, graphic_escape, Site, code_of, order_code_at, is_set_type, have_types}
 use Rattle.ds_codec.specs.Record.{Message}
 
 -- an order and how many bytes it takes, or what is wrong with it
 abbrev pub Front : Type 0
 Front = Result (Item × ℕ) Why
+
+-- what a function returned, seen by view, is this
+abbrev pub Gives : {A B E : Type 0} → (A → B) → Result A E → Result B E → Type 0
+Gives view (Ok found) read = read ≡ Ok (view found)
+Gives view (Err e) read = read ≡ Err e
+
+abbrev pub Reads : Result (Order × ℕ) Why → Front → Type 0
+Reads found front = Gives (λ x. (item_of x.0, x.1)) found front
 
 infixl 10 ◌>>=◌
 abbrev pub ◌>>=◌ : {A B E : Type 0} → Result A E → (A → Result B E) → Result B E
