@@ -9,7 +9,7 @@ use Rattle.ds_codec.proofs.Below.{each_below, both_true}
 abbrev code_is_right : ℕ → Bool
 code_is_right value = eqb (six_bit_code value % 64) value && (eqb (top_bits (six_bit_code value)) 1 || eqb (top_bits (six_bit_code value)) 3)
 
-either_true : (a b : Bool) → (a || b) ≡ true → (a ≡ true) ⊎ (b ≡ true)
+pub either_true : (a b : Bool) → (a || b) ≡ true → (a ≡ true) ⊎ (b ≡ true)
 either_true true b e = inl refl
 either_true false b e = inr e
 

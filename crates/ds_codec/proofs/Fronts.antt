@@ -145,7 +145,7 @@ order_takes mode Ra more found e = repeat_takes mode more found e
 order_takes mode Eua more found e = address_takes mode erase_unprotected_to_address (code_of Eua) (λ address first second s. (first, second, refl, s)) more found e
 order_takes mode Ge more found e = graphic_escape_takes mode more found e
 
-find_passes : {A : Type 0} (test : A → Bool) (xs : List A) (x : A) → find test xs ≡ Some x → test x ≡ true
+pub find_passes : {A : Type 0} (test : A → Bool) (xs : List A) (x : A) → find test xs ≡ Some x → test x ≡ true
 find_passes test [] x e = absurd cc
 find_passes test (y ∷ ys) x e =
     elim (chosen (test y) _ _ _ e) [

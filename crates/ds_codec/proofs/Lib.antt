@@ -6,3 +6,5 @@ pub mod Addresses
 pub mod Fronts
 pub mod Again
 pub mod Faults
+pub mod Walk
+pub mod Records
