@@ -1,17 +1,14 @@
 -- What is spelled at the front is read there.
-use Rattle.std.proofs.Common.{◌≡◌, ℕ, suc, ◌+◌, ◌*◌, ◌%◌, ◌<◌, ◌≤◌, Bool, true, false, cond, eqb, ltb, ◌&&◌, List, [], ◌∷◌, ◌++◌, length, take, Option, Some, None, Result, Ok, Err, refl, sym, ap, subst, ◌∙◌, arith, length-append, ◌⊎◌, inl, inr}
+use Rattle.std.proofs.Common.{◌≡◌, ℕ, suc, ◌+◌, ◌*◌, ◌<◌, Bool, true, false, eqb, ltb, List, [], ◌∷◌, ◌++◌, length, take, Ok, refl, subst, arith, length-append}
 use Rattle.std.specs.List.{list_all, prefix_len}
 use Rattle.std.proofs.lemmas.Bool.{eqb-true, le-ltb}
 use Rattle.std.proofs.lemmas.List.{take_at}
 use Rattle.ds_codec.specs.declared.size.Mode.{Mode}
-use Rattle.ds_codec.specs.declared.order.OrderCode.TheVariants.{Sf, Sfe, Sba, Sa, Mf, Ic, Pt, Ra, Eua, Ge}
-use Rattle.ds_codec.specs.declared.refused.Why.{Why}
-use Rattle.ds_codec.specs.declared.refused.Why.TheVariants.{Truncated, BadType, BadCharacter}
-use Rattle.ds_codec.specs.Address.{SpellsAddress, address_at}
-use Rattle.ds_codec.specs.Character.{Glyph, glyph, is_text, is_graphic, is_glyph}
-use Rattle.ds_codec.specs.Order.{Item, text, start_field, start_field_extended, set_buffer_address, set_attribute, modify_field, insert_cursor, program_tab, repeat_to_address, erase_unprotected_to_address, graphic_escape, code_of, order_code_at, is_set_type, have_types, SpellsPairs, SpellsCharacter, SpellsOrder}
+use Rattle.ds_codec.specs.Address.{SpellsAddress}
+use Rattle.ds_codec.specs.Character.{glyph, is_text}
+use Rattle.ds_codec.specs.Order.{Item, text, start_field, start_field_extended, set_buffer_address, set_attribute, modify_field, insert_cursor, program_tab, repeat_to_address, erase_unprotected_to_address, graphic_escape, order_code_at, SpellsPairs, SpellsCharacter, SpellsOrder}
 use Rattle.ds_codec.specs.Record.{is_text_order}
-use Rattle.ds_codec.specs.Reading.{Front, with_address, start_field_at, pairs_at, address_order_at, set_attribute_at, repeat_of, repeat_escaped, repeat_at, graphic_escape_at, order_after, text_at, front}
+use Rattle.ds_codec.specs.Reading.{start_field_at, pairs_at, address_order_at, set_attribute_at, repeat_at, graphic_escape_at, text_at, front}
 use Rattle.ds_codec.proofs.Below.{both_true}
 use Rattle.ds_codec.proofs.TextRuns.{begins, prefix-append}
 use Rattle.ds_codec.proofs.Addresses.{address_again}

@@ -1,7 +1,7 @@
 -- What is refused at the front is at fault there, and the other way round.
-use Rattle.std.proofs.Common.{◌≡◌, ℕ, suc, ◌+◌, ◌*◌, ◌%◌, ◌<◌, ◌≤◌, Bool, true, false, cond, eqb, ltb, List, [], ◌∷◌, length, take, Option, Some, None, Result, Ok, Err, refl, sym, ap, subst, ◌∙◌, arith, ◌⊎◌, inl, inr}
+use Rattle.std.proofs.Common.{◌≡◌, ℕ, ◌*◌, ◌<◌, ◌≤◌, true, false, cond, eqb, ltb, List, [], ◌∷◌, length, take, Option, Some, None, Ok, Err, refl, subst, arith, ◌⊎◌, inl, inr}
 use Rattle.std.specs.Prelude.{slice_index}
-use Rattle.std.proofs.lemmas.Bool.{eqb-true, ltb-false, ltb-true, le-ltb, lt-ltb}
+use Rattle.std.proofs.lemmas.Bool.{ltb-false, ltb-true, le-ltb, lt-ltb}
 use Rattle.ds_codec.specs.declared.size.Mode.{Mode}
 use Rattle.ds_codec.specs.declared.order.OrderCode.{OrderCode}
 use Rattle.ds_codec.specs.declared.order.OrderCode.TheVariants.{Sf, Sfe, Sba, Sa, Mf, Ic, Pt, Ra, Eua, Ge}
@@ -10,10 +10,9 @@ use Rattle.ds_codec.specs.declared.refused.Why.TheVariants.{Empty, UnknownComman
 use Rattle.ds_codec.specs.Address.{IsReserved, address_at}
 use Rattle.ds_codec.specs.Character.{Glyph, glyph, is_text, is_graphic, is_glyph}
 use Rattle.ds_codec.specs.Order.{Item, start_field_extended, modify_field, set_buffer_address, erase_unprotected_to_address, repeat_to_address, code_of, order_code_at, is_set_type, have_types, bytes_after, IsWhole, has_address, HasBadType, HasBadCharacter, HasBadAddress, character_at, FaultsAfter, HasFault}
-use Rattle.ds_codec.specs.Reading.{Front, with_address, start_field_at, pairs_at, address_order_at, set_attribute_at, repeat_of, repeat_escaped, repeat_at, graphic_escape_at, order_after, text_at, front}
-use Rattle.ds_codec.proofs.Steps.{chosen, ok_is, err_is}
-use Rattle.ds_codec.proofs.Addresses.{address_again, reserved_again, is_reserved}
-
+use Rattle.ds_codec.specs.Reading.{Front, with_address, start_field_at, pairs_at, address_order_at, set_attribute_at, repeat_of, repeat_escaped, repeat_at, graphic_escape_at, order_after, front}
+use Rattle.ds_codec.proofs.Steps.{chosen, err_is}
+use Rattle.ds_codec.proofs.Addresses.{reserved_again, is_reserved}
 
 -- ---- what is refused is at fault
 

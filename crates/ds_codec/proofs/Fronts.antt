@@ -1,16 +1,16 @@
 -- What is read at the front is spelled there.
-use Rattle.std.proofs.Common.{◌≡◌, ℕ, suc, ◌+◌, ◌*◌, ◌%◌, ◌<◌, ◌≤◌, Bool, true, false, cond, eqb, ltb, List, [], ◌∷◌, ◌++◌, length, take, Option, Some, None, Result, Ok, Err, refl, sym, ap, subst, ◌∙◌, arith, length-take, ◌⊎◌, inl, inr}
-use Rattle.std.specs.List.{find, list_all, prefix_len}
-use Rattle.std.proofs.lemmas.Bool.{eqb-true, ltb-false, ltb-true}
+use Rattle.std.proofs.Common.{◌≡◌, ℕ, suc, ◌+◌, ◌*◌, ◌<◌, ◌≤◌, Bool, true, false, cond, eqb, ltb, List, [], ◌∷◌, length, take, Option, Some, None, Result, Ok, Err, refl, subst, arith, length-take, inl, inr}
+use Rattle.std.specs.List.{find, prefix_len}
+use Rattle.std.proofs.lemmas.Bool.{eqb-true, ltb-false}
 use Rattle.std.proofs.lemmas.List.Sums.{prefix_len-le-length}
 use Rattle.ds_codec.specs.declared.size.Mode.{Mode}
 use Rattle.ds_codec.specs.declared.order.OrderCode.{OrderCode}
 use Rattle.ds_codec.specs.declared.order.OrderCode.TheVariants.{Sf, Sfe, Sba, Sa, Mf, Ic, Pt, Ra, Eua, Ge}
 use Rattle.ds_codec.specs.declared.refused.Why.{Why}
-use Rattle.ds_codec.specs.declared.refused.Why.TheVariants.{UnknownOrder, Truncated, ReservedAddress, BadType, BadCharacter}
+use Rattle.ds_codec.specs.declared.refused.Why.TheVariants.{BadCharacter}
 use Rattle.ds_codec.specs.Address.{SpellsAddress, address_at}
 use Rattle.ds_codec.specs.Character.{Glyph, glyph, is_text, is_graphic, is_glyph}
-use Rattle.ds_codec.specs.Order.{Item, text, start_field, start_field_extended, set_buffer_address, set_attribute, modify_field, insert_cursor, program_tab, repeat_to_address, erase_unprotected_to_address, graphic_escape, code_of, all_order_codes, order_code_at, is_set_type, have_types, SpellsPairs, SpellsOrder}
+use Rattle.ds_codec.specs.Order.{Item, start_field_extended, set_buffer_address, modify_field, repeat_to_address, erase_unprotected_to_address, code_of, all_order_codes, order_code_at, is_set_type, have_types, SpellsPairs, SpellsOrder}
 use Rattle.ds_codec.specs.declared.order.Order.{Order}
 use Rattle.std.specs.Prelude.{IfOk}
 use Rattle.ds_codec.specs.Reading.{Front, Reads, with_address, start_field_at, pairs_at, address_order_at, set_attribute_at, repeat_of, repeat_escaped, repeat_at, graphic_escape_at, order_after, text_at, front}
@@ -23,7 +23,6 @@ pub record Takes (mode : Mode) (bytes : List ℕ) (found : Item × ℕ) : Type 0
   pub some : 0 < found.1
   pub inside : found.1 ≤ length bytes
   pub spelled : SpellsOrder mode found.0 (take found.1 bytes)
-
 
 -- one step of a Takes along an equation of what was found
 takes_along : (mode : Mode) (bytes : List ℕ) (x y : Item × ℕ) → x ≡ y → Takes mode bytes x → Takes mode bytes y

@@ -1,7 +1,7 @@
 -- Reading a whole record: the laws of the outbound grammar.
-use Rattle.std.proofs.Common.{◌≡◌, ℕ, zero, suc, ◌+◌, ◌<◌, ◌≤◌, Bool, true, false, eqb, ◌||◌, List, [], ◌∷◌, ◌++◌, length, Option, Some, None, Result, Ok, Err, refl, sym, ap, subst, ◌∙◌, arith, ◌⊎◌, inl, inr}
-use Rattle.std.specs.Prelude.{MatchResult}
-use Rattle.std.specs.List.{list_any, find}
+use Rattle.std.proofs.Common.{◌≡◌, ℕ, ◌+◌, true, false, eqb, ◌||◌, List, [], ◌∷◌, ◌++◌, length, Option, Some, None, Result, Ok, Err, refl, sym, ap, subst, ◌∙◌, inl, inr}
+use Rattle.std.specs.Prelude.{IfOk, IfErr}
+use Rattle.std.specs.List.{list_any}
 use Rattle.std.proofs.lemmas.Bool.{eqb-true}
 use Rattle.std.proofs.lemmas.List.{append-nil}
 use Rattle.ds_codec.specs.declared.size.Mode.{Mode}
@@ -15,12 +15,12 @@ use Rattle.ds_codec.specs.declared.refused.Why.{Why}
 use Rattle.ds_codec.specs.declared.refused.Why.TheVariants.{Empty, UnknownCommand, StructuredField, NoWcc, UnknownOrder, Truncated, ReservedAddress, BadType, BadCharacter, Trailing}
 use Rattle.ds_codec.specs.Command.{is_code_of, all_command_codes, command_code_at, command_code_of, wcc_of}
 use Rattle.ds_codec.specs.Order.{Site, order_code_at, FaultsAfter, HasFault}
-use Rattle.ds_codec.specs.Record.{Message, AreSpelled, SpellsRest, SpellsRecord, is_write, is_alone, IsCode, FaultsAt, IsRefusedAt, HasOneReading}
+use Rattle.ds_codec.specs.Record.{Message, AreSpelled, SpellsRest, SpellsRecord, is_write, is_alone, FaultsAt, IsRefusedAt, HasOneReading}
 use Rattle.ds_codec.specs.Reading.{◌>>=◌, orders_from, write_body, alone_body, body_of, read_of}
 use Rattle.ds_codec.proofs.Codes.{either_true}
-use Rattle.ds_codec.proofs.Steps.{chosen, ok_is}
+use Rattle.ds_codec.proofs.Steps.{ok_is}
 use Rattle.ds_codec.proofs.Fronts.{find_passes}
-use Rattle.ds_codec.proofs.Walk.{FaultsFrom, WalkSays, walk, walk_again, walk_refused}
+use Rattle.ds_codec.proofs.Walk.{WalkSays, walk, walk_again, walk_refused}
 
 -- ---- the code of a command
 
@@ -211,3 +211,13 @@ read_refused mode bytes at Truncated f = order_refused mode bytes at Truncated f
 read_refused mode bytes at ReservedAddress f = order_refused mode bytes at ReservedAddress f
 read_refused mode bytes at BadType f = order_refused mode bytes at BadType f
 read_refused mode bytes at BadCharacter f = order_refused mode bytes at BadCharacter f
+
+-- ---- of what a call returned
+
+pub is_spelled : (mode : Mode) (bytes : List ℕ) (result : Result Message Refused) → result ≡ read_of mode bytes → IfOk result (λ message. SpellsRecord mode message bytes)
+is_spelled mode bytes (Ok message) e = subst (ReadSays mode bytes) (sym e) (read_says mode bytes)
+is_spelled mode bytes (Err refused) e = tt
+
+pub is_refused : (mode : Mode) (bytes : List ℕ) (result : Result Message Refused) → result ≡ read_of mode bytes → IfErr result (λ e. IsRefusedAt mode bytes e.at e.why)
+is_refused mode bytes (Ok message) e = tt
+is_refused mode bytes (Err refused) e = subst (ReadSays mode bytes) (sym e) (read_says mode bytes)

@@ -1,5 +1,5 @@
 -- Steps that may fail, and choices.
-use Rattle.std.proofs.Common.{◌≡◌, ℕ, Bool, true, false, cond, Option, Some, None, Result, Ok, Err, refl, ◌⊎◌, inl, inr}
+use Rattle.std.proofs.Common.{◌≡◌, Bool, true, false, cond, Some, Result, Ok, Err, refl, ◌⊎◌, inl, inr}
 use Rattle.ds_codec.specs.Reading.{◌>>=◌}
 
 -- which way a test went

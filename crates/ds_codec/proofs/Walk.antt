@@ -1,19 +1,19 @@
 -- Going over the orders of a record.
-use Rattle.std.proofs.Common.{◌≡◌, ℕ, zero, suc, ◌+◌, ◌-◌, ◌<◌, ◌≤◌, Bool, true, false, ◌&&◌, List, [], ◌∷◌, ◌++◌, length, take, drop, Option, Some, None, Result, Ok, Err, refl, sym, ap, subst, ◌∙◌, arith, append_assoc, length-append, length-take, length-drop, ◌⊎◌, inl, inr}
+use Rattle.std.proofs.Common.{◌≡◌, ℕ, zero, suc, ◌+◌, ◌-◌, ◌<◌, ◌≤◌, Bool, true, false, eqb, ◌&&◌, List, [], ◌∷◌, ◌++◌, length, take, drop, Option, Some, Result, Ok, Err, refl, sym, ap, subst, ◌∙◌, arith, append_assoc, length-append, length-take, length-drop, inl, inr}
 use Rattle.std.specs.List.{list_all, prefix_len}
 use Rattle.std.proofs.lemmas.List.{drop_at, take-append-drop, append-nil}
 use Rattle.ds_codec.specs.declared.size.Mode.{Mode}
-use Rattle.ds_codec.specs.declared.order.OrderCode.{OrderCode}
 use Rattle.ds_codec.specs.declared.refused.Refused.{Refused}
 use Rattle.ds_codec.specs.declared.refused.Why.{Why}
 use Rattle.ds_codec.specs.Character.{is_text}
-use Rattle.ds_codec.specs.Order.{Item, text, start_field, start_field_extended, set_buffer_address, set_attribute, modify_field, insert_cursor, program_tab, repeat_to_address, erase_unprotected_to_address, graphic_escape, order_code_at, Site, SpellsOrder, HasFault}
+use Rattle.ds_codec.specs.Order.{Item, text, start_field, start_field_extended, set_buffer_address, set_attribute, modify_field, insert_cursor, program_tab, repeat_to_address, erase_unprotected_to_address, graphic_escape, Site, SpellsOrder, HasFault}
 use Rattle.ds_codec.specs.Record.{is_text_order, MayFollow, AreSpelled}
-use Rattle.ds_codec.specs.Reading.{◌>>=◌, order_after, text_at, front, placed, orders_from}
+use Rattle.ds_codec.specs.Reading.{◌>>=◌, front, orders_from, sites_in, refusal_in}
 use Rattle.ds_codec.proofs.Below.{both_true}
-use Rattle.ds_codec.proofs.Steps.{chosen, ok_is}
+use Rattle.std.specs.Prelude.{IsOk}
+use Rattle.ds_codec.proofs.Steps.{chosen, ok_is, failed}
 use Rattle.ds_codec.proofs.TextRuns.{begins, begins-drop-prefix}
-use Rattle.ds_codec.proofs.Fronts.{Takes, front_takes}
+use Rattle.ds_codec.proofs.Fronts.{front_takes}
 use Rattle.ds_codec.proofs.Again.{front_again}
 use Rattle.ds_codec.proofs.Faults.{front_fails, front_refused}
 
@@ -116,7 +116,7 @@ text_ends mode (byte ∷ rest) found e is-text =
     elim (chosen (is_text byte) _ _ _ e) [
       | inl (passes, read) ↦
           subst (λ f. begins is_text (drop f.1 (byte ∷ rest)) ≡ false) (ok_is Why (text (take (prefix_len is_text (byte ∷ rest)) (byte ∷ rest)), prefix_len is_text (byte ∷ rest)) found read)
-            (begins-drop-prefix is_text (byte ∷ rest))
+          (begins-drop-prefix is_text (byte ∷ rest))
       | inr (fails, read) ↦
           let taken = front_takes mode (byte ∷ rest) found e in
           let passes : is_text byte ≡ true = sym (front_text byte rest found.1 taken.some) ∙ spelled_text mode found.0 (take found.1 (byte ∷ rest)) [] taken.spelled is-text in
@@ -167,11 +167,11 @@ may_follow : (mode : Mode) (at : ℕ) (bytes : List ℕ) (found : Item × ℕ) (
 may_follow mode at bytes found [] part rest read behind spelled = tt
 may_follow mode at bytes found (site ∷ sites) part rest read behind (one, more, is, at-is, spelled, follows, others) =
     no_text_twice (is_text_order found.0) (is_text_order site.order) (λ is-text next-text.
-      let ends : begins is_text (part ++ rest) ≡ false = rw behind at (text_ends mode bytes found read is-text) in
-      let starts : begins is_text (one ++ (more ++ rest)) ≡ true = spelled_text mode site.order one (more ++ rest) spelled next-text in
-      let same : part ++ rest ≡ one ++ (more ++ rest) = rw is (append_assoc one more rest) in
-      let both : begins is_text (part ++ rest) ≡ true = ap (begins is_text) same ∙ starts in
-      absurd cc)
+    let ends : begins is_text (part ++ rest) ≡ false = rw behind at (text_ends mode bytes found read is-text) in
+    let starts : begins is_text (one ++ (more ++ rest)) ≡ true = spelled_text mode site.order one (more ++ rest) spelled next-text in
+    let same : part ++ rest ≡ one ++ (more ++ rest) = rw is (append_assoc one more rest) in
+    let both : begins is_text (part ++ rest) ≡ true = ap (begins is_text) same ∙ starts in
+    absurd cc)
 
 -- an order before what the walk says of the rest
 extend : (mode : Mode) (at : ℕ) (bytes : List ℕ) (found : Item × ℕ) (sites : List Site) (part rest : List ℕ) → front mode bytes ≡ Ok found → drop found.1 bytes ≡ part ++ rest → AreSpelled mode (at + found.1) sites part
@@ -217,3 +217,48 @@ pub walk_refused : (mode : Mode) (at : ℕ) (early : List Site) (part rest : Lis
 walk_refused mode at early part [] why spelled fault = absurd fault
 walk_refused mode at early part (byte ∷ rest) why spelled fault =
     walk_again mode at early part (byte ∷ rest) spelled fault.0 ∙ rw (stop mode (at + length part) byte rest why (front_refused mode why (byte ∷ rest) fault)) refl
+
+-- ---- one step of a loop over the orders
+
+refusal_after : (at : ℕ) (order : Item) (r : Result (List Site) Refused) → refusal_in (then_orders at order r) ≡ refusal_in r
+refusal_after at order (Ok sites) = refl
+refusal_after at order (Err e) = refl
+
+pub goes_on : (mode : Mode) (at : ℕ) (rest : List ℕ) (order : Item) (n : ℕ) (total : Option Refused) → front mode rest ≡ Ok (order, n) → 0 < n → refusal_in (orders_from mode 0 at rest) ≡ total
+    → refusal_in (orders_from mode 0 (at + n) (drop n rest)) ≡ total
+goes_on mode at rest order n total read some so_far =
+    sym (ap refusal_in (step mode at rest (order, n) read some) ∙ refusal_after at order (orders_from mode 0 (at + n) (drop n rest))) ∙ so_far
+
+pub ends : (mode : Mode) (at : ℕ) (rest : List ℕ) (why : Why) (total : Option Refused) → 0 < length rest → front mode rest ≡ Err why → refusal_in (orders_from mode 0 at rest) ≡ total
+    → Some (record { at = at; why = why }) ≡ total
+ends mode at [] why total some read so_far = absurd (omega arith)
+ends mode at (byte ∷ rest) why total some read so_far = sym (ap refusal_in (stop mode at byte rest why read)) ∙ so_far
+
+pub some_left : (n : ℕ) → eqb n 0 ≡ false → 0 < n
+some_left zero e = absurd cc
+some_left (suc n) e = omega arith
+
+then_ok : (at : ℕ) (order : Item) (r : Result (List Site) Refused) → IsOk (then_orders at order r) → IsOk r
+then_ok at order (Ok sites) ok = refl
+then_ok at order (Err e) ok = absurd cc
+
+then_sites : (at : ℕ) (order : Item) (r : Result (List Site) Refused) → IsOk r → sites_in (then_orders at order r) ≡ record { at = at; order = order } ∷ sites_in r
+then_sites at order (Ok sites) ok = refl
+then_sites at order (Err e) ok = absurd cc
+
+-- where the walk ends well, so does the rest of it
+pub ok_after : (mode : Mode) (at : ℕ) (rest : List ℕ) (order : Item) (n : ℕ) → front mode rest ≡ Ok (order, n) → 0 < n → IsOk (orders_from mode 0 at rest) → IsOk (orders_from mode 0 (at + n) (drop n rest))
+ok_after mode at rest order n read some ok = then_ok at order _ (rw (step mode at rest (order, n) read some) at ok)
+
+-- and the order at the front is the first
+pub first_is : (mode : Mode) (at : ℕ) (rest : List ℕ) (order : Item) (n : ℕ) → front mode rest ≡ Ok (order, n) → 0 < n → IsOk (orders_from mode 0 at rest)
+    → sites_in (orders_from mode 0 at rest) ≡ record { at = at; order = order } ∷ sites_in (orders_from mode 0 (at + n) (drop n rest))
+first_is mode at rest order n read some ok =
+    ap sites_in (step mode at rest (order, n) read some) ∙ then_sites at order (orders_from mode 0 (at + n) (drop n rest)) (ok_after mode at rest order n read some ok)
+
+fails_is_ok : (e : Refused) → IsOk (failed {A = List Site} e) → ⊥
+fails_is_ok e ok = absurd cc
+
+pub no_stop : (mode : Mode) (at : ℕ) (rest : List ℕ) (why : Why) → 0 < length rest → front mode rest ≡ Err why → IsOk (orders_from mode 0 at rest) → ⊥
+no_stop mode at [] why some read ok = absurd (omega arith)
+no_stop mode at (byte ∷ rest) why some read ok = let stops = stop mode at byte rest why read in fails_is_ok (record { at = at; why = why }) (rw stops at ok)

@@ -120,6 +120,19 @@ orders_from mode zero at (byte ∷ rest) = do
   others ← orders_from mode (first.1 - 1) (at + 1) rest
   Ok (record { at = at; order = first.0 } ∷ others)
 
+-- the orders, where there are any
+abbrev pub sites_in : Result (List Site) Refused → List Site
+sites_in (Ok sites) = sites
+sites_in (Err e) = []
+
+abbrev pub refusal_in : {A : Type 0} → Result A Refused → Option Refused
+refusal_in (Ok found) = None
+refusal_in (Err e) = Some e
+
+-- a command, and the orders of these bytes
+abbrev pub message_of : Mode → Command → List ℕ → Message
+message_of mode command bytes = record { command = command; orders = sites_in (orders_from mode 0 2 bytes) }
+
 -- a write control character, and orders
 abbrev pub write_body : Mode → (ℕ → Command) → List ℕ → Result Message Refused
 write_body mode make [] = Err (record { at = 1; why = NoWcc })

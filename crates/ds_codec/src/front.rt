@@ -137,7 +137,12 @@ fn set_attribute(more: &[u8]) -> Result<(Order<'_>, usize), Why>
 }
 
 /// Repeat to Address, of so many bytes in all.
-fn repeat<'a>(address: Option<u32>, code: u8, alt: bool, taken: usize) -> Result<(Order<'a>, usize), Why>
+fn repeat<'a>(
+    address: Option<u32>,
+    code: u8,
+    alt: bool,
+    taken: usize,
+) -> Result<(Order<'a>, usize), Why>
     ensures { Reads result (repeat_of address (glyph code alt) taken) }
 {
     let Some(stop) = address else {
@@ -155,7 +160,12 @@ fn repeat_to_address(mode: Mode, more: &[u8]) -> Result<(Order<'_>, usize), Why>
 {
     match more {
         [_, _, 0x08] => Err(Why::Truncated),
-        [first, second, 0x08, code, ..] => repeat(decode_address(mode, *first, *second), *code, true, 5),
+        [first, second, 0x08, code, ..] => repeat(
+            decode_address(mode, *first, *second),
+            *code,
+            true,
+            5,
+        ),
         [first, second, byte, ..] => repeat(decode_address(mode, *first, *second), *byte, false, 4),
         _ => Err(Why::Truncated),
     }

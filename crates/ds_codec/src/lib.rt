@@ -10,6 +10,7 @@ mod command;
 mod front;
 mod geometry;
 mod order;
+mod record;
 mod refused;
 mod size;
 
@@ -22,5 +23,6 @@ pub use command::{Command, CommandCode};
 pub use front::last_attr;
 pub use geometry::{BadSize, Geometry};
 pub use order::{Order, OrderCode, Placed};
+pub use record::{Orders, Record, one_reading};
 pub use refused::{Refused, Why};
 pub use size::{Mode, Size};

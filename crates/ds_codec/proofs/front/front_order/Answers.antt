@@ -1,5 +1,4 @@
 use Rattle.std.proofs.Common.{ℕ, arith, length-take, length-drop}
-use Rattle.std.specs.Prelude.{IfOk}
 use Rattle.std.proofs.lemmas.List.Sums.{prefix_len-le-length}
 use Rattle.ds_codec.specs.Character.{is_text}
 use Rattle.ds_codec.proofs.Fronts.{order_some, order_inside}

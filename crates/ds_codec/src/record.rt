@@ -1,0 +1,238 @@
+//! Outbound records (GA23-0059, "Commands" and "Orders").
+
+use crate::command::{Command, CommandCode};
+use crate::front::front_order;
+use crate::order::Placed;
+use crate::refused::{Refused, Why};
+use crate::size::Mode;
+use std::marker::Model;
+
+/// A record that was read: a command, and orders that are lent from its bytes. They were all looked
+/// at by `read`, so walking them cannot fail.
+#[derive(Debug, Drop)]
+pub struct Record<'a> {
+    mode: Mode,
+    command: Command,
+    orders: &'a [u8],
+}
+
+impl<'a> Model for Record<'a> {
+    ghost use Rattle.std.specs.Prelude.{IsOk};
+    ghost use Rattle.ds_codec.specs.Record.{Message};
+    ghost use Rattle.ds_codec.specs.Reading.{orders_from, sites_in};
+
+    ghost Value = { Message };
+
+    ghost view = { λ r. record { command = r.command; orders = sites_in (orders_from r.mode 0 2 r.orders.now) } };
+
+    ghost invariant = { λ r. IsOk (orders_from r.mode 0 2 r.orders.now) };
+}
+
+impl<'a> Record<'a> {
+    ghost use Rattle.std.specs.Prelude.{◌≡◌, ℕ, IfOk, IfErr, Ok, Err};
+    ghost use Rattle.ds_codec.specs.declared.refused.Why.{Why};
+    ghost use Rattle.ds_codec.specs.Record.{Message, SpellsRecord, IsRefusedAt};
+    ghost use Rattle.ds_codec.specs.Reading.{read_of};
+
+    /// Reads a record: the one command and orders that its bytes spell, or its leftmost fault. Within
+    /// an order a missing byte comes before a bad one.
+    pub fn read(mode: Mode, bytes: &'a [u8]) -> Result<Record<'a>, Refused>
+        ensures spelled { IfOk result (λ message. SpellsRecord mode message bytes.now) }
+        ensures only { (message : Message) → SpellsRecord mode message bytes.now → result ≡ Ok message }
+        ensures refused { IfErr result (λ e. IsRefusedAt mode bytes.now e.at e.why) }
+        ensures refused_only { (at : ℕ) (why : Why) → IsRefusedAt mode bytes.now at why
+            → result ≡ Err (record { at = at; why = why }) }
+        ensures exact { result ≡ read_of mode bytes.now }
+    {
+        read_all(mode, bytes)
+    }
+
+    /// What the record tells the terminal to do.
+    pub fn command(&self) -> Command
+        ensures { result ≡ self.now.command }
+    {
+        self.command
+    }
+
+    /// The orders with their places, from first to last. Takes no memory.
+    pub fn orders(&self) -> Orders<'a>
+        ensures { result ≡ self.now.orders }
+    {
+        Orders {
+            mode: self.mode,
+            at: 2,
+            rest: self.orders,
+        }
+    }
+}
+
+/// The orders of a record that are still to come.
+#[derive(Debug, Drop)]
+pub struct Orders<'a> {
+    mode: Mode,
+    at: usize,
+    rest: &'a [u8],
+}
+
+impl<'a> Model for Orders<'a> {
+    ghost use Rattle.std.specs.Prelude.{◌+◌, ◌<◌, ◌^◌, List, IsOk, length};
+    ghost use Rattle.ds_codec.specs.Order.{Site};
+    ghost use Rattle.ds_codec.specs.Reading.{orders_from, sites_in};
+
+    ghost Value = { List Site };
+
+    ghost view = { λ o. sites_in (orders_from o.mode 0 o.at o.rest.now) };
+
+    ghost invariant = { λ o. IsOk (orders_from o.mode 0 o.at o.rest.now) × (o.at + length o.rest.now < 2 ^ 64) };
+}
+
+impl<'a> Iterator for Orders<'a> {
+    type Item = Placed<'a>;
+
+    ghost use Rattle.std.specs.Iterator.{YieldsFirstBy, item_count};
+    ghost use Rattle.ds_codec.specs.Order.{site_of};
+
+    ghost next_gives = { YieldsFirstBy site_of (λ rest. rest) };
+
+    ghost remaining = { item_count (λ rest. rest) };
+
+    fn next(&mut self) -> Option<Placed<'a>> {
+        let rest = self.rest;
+        if rest.is_empty() {
+            return None;
+        }
+        match front_order(self.mode, rest) {
+            Ok((order, length)) => {
+                let at = self.at;
+                self.at += length;
+                self.rest = &rest[length..];
+                Some(Placed { at, order })
+            }
+            Err(_) => unreachable!(),
+        }
+    }
+}
+
+ghost use Rattle.std.specs.Prelude.{◌≡◌, ℕ, IfOk, IsOk, Some};
+ghost use Rattle.ds_codec.specs.declared.command.Command.{Command};
+ghost use Rattle.ds_codec.specs.Record.{HasOneReading};
+ghost use Rattle.ds_codec.specs.Reading.{Gives, message_of, read_of, orders_from, refusal_in, write_body, alone_body, body_of};
+
+/// No bytes spell two records.
+pub fn one_reading()
+    ensures { HasOneReading }
+{}
+
+/// Looks at every order.
+fn check_orders(mode: Mode, bytes: &[u8]) -> Result<(), Refused>
+    ensures { refusal_in result ≡ refusal_in (orders_from mode 0 2 bytes.now) }
+{
+    let mut at = 2;
+    let mut rest = bytes;
+    while !rest.is_empty() {
+        match front_order(mode, rest) {
+            Ok((_, length)) => {
+                at += length;
+                rest = &rest[length..];
+            }
+            Err(why) => return Err(Refused { at, why }),
+        }
+    }
+    Ok(())
+}
+
+/// The write control character and the orders of a write.
+fn write_parts(mode: Mode, rest: &[u8]) -> Result<(u8, &[u8]), Refused>
+    ensures parts { (make : ℕ → Command) → Gives (λ x. message_of mode (make x.0) x.1.now) result (write_body mode make rest.now) }
+    ensures good { IfOk result (λ x. IsOk (orders_from mode 0 2 x.1.now)) }
+{
+    let [wcc, orders @ ..] = rest else {
+        return Err(Refused {
+            at: 1,
+            why: Why::NoWcc,
+        });
+    };
+    check_orders(mode, orders)?;
+    Ok((*wcc, orders))
+}
+
+/// A command that nothing follows.
+fn alone<'a>(mode: Mode, command: Command, rest: &'a [u8]) -> Result<Record<'a>, Refused>
+    ensures { result ≡ alone_body command rest.now }
+{
+    if rest.is_empty() {
+        Ok(Record {
+            mode,
+            command,
+            orders: rest,
+        })
+    } else {
+        Err(Refused {
+            at: 1,
+            why: Why::Trailing,
+        })
+    }
+}
+
+/// What follows the code of a command.
+fn read_body<'a>(mode: Mode, code: CommandCode, rest: &'a [u8]) -> Result<Record<'a>, Refused>
+    ensures { result ≡ body_of mode (Some code) rest.now }
+{
+    match code {
+        CommandCode::Write => {
+            let (wcc, orders) = write_parts(mode, rest)?;
+            let command = Command::Write(wcc);
+            Ok(Record {
+                mode,
+                command,
+                orders,
+            })
+        }
+        CommandCode::EraseWrite => {
+            let (wcc, orders) = write_parts(mode, rest)?;
+            let command = Command::EraseWrite(wcc);
+            Ok(Record {
+                mode,
+                command,
+                orders,
+            })
+        }
+        CommandCode::EraseWriteAlternate => {
+            let (wcc, orders) = write_parts(mode, rest)?;
+            let command = Command::EraseWriteAlternate(wcc);
+            Ok(Record {
+                mode,
+                command,
+                orders,
+            })
+        }
+        CommandCode::EraseAllUnprotected => alone(mode, Command::EraseAllUnprotected, rest),
+        CommandCode::ReadBuffer => alone(mode, Command::ReadBuffer, rest),
+        CommandCode::ReadModified => alone(mode, Command::ReadModified, rest),
+        CommandCode::ReadModifiedAll => alone(mode, Command::ReadModifiedAll, rest),
+        CommandCode::NoOperation => alone(mode, Command::NoOperation, rest),
+        CommandCode::WriteStructuredField => Err(Refused {
+            at: 0,
+            why: Why::StructuredField,
+        }),
+    }
+}
+
+#[tactic(auto, unfolding(crate::specs::Reading::read_of))]
+fn read_all<'a>(mode: Mode, bytes: &'a [u8]) -> Result<Record<'a>, Refused>
+    ensures { result ≡ read_of mode bytes.now }
+{
+    let [first, rest @ ..] = bytes else {
+        return Err(Refused {
+            at: 0,
+            why: Why::Empty,
+        });
+    };
+    match CommandCode::from_byte(*first) {
+        Some(code) => read_body(mode, code, rest),
+        None => Err(Refused {
+            at: 0,
+            why: Why::UnknownCommand,
+        }),
+    }
+}
