@@ -8,3 +8,4 @@ pub mod Again
 pub mod Faults
 pub mod Walk
 pub mod Records
+pub mod Written

@@ -8,3 +8,4 @@ pub mod Command
 pub mod Order
 pub mod Record
 pub mod Reading
+pub mod Writing

@@ -13,6 +13,7 @@ mod order;
 mod record;
 mod refused;
 mod size;
+mod write;
 
 pub use address::{decode_address, encode_address};
 pub use aid::Aid;
@@ -26,3 +27,4 @@ pub use order::{Order, OrderCode, Placed};
 pub use record::{Orders, Record, one_reading};
 pub use refused::{Refused, Why};
 pub use size::{Mode, Size};
+pub use write::{Unwritable, write_record};
