@@ -1,0 +1,13 @@
+//! The 3270 character buffer: what a terminal shows, and what each outbound record does to it.
+#![tactic(auto)]
+
+mod cells;
+mod field;
+mod lock;
+mod plain;
+mod ring;
+
+pub use cells::Cells;
+pub use field::FieldAt;
+pub use lock::Lock;
+pub use plain::PlainCells;
