@@ -1,2 +1,4 @@
 pub mod RingLaws
 pub mod FieldLaws
+pub mod RuledLaws
+pub mod Rows

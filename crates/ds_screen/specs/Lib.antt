@@ -1,3 +1,6 @@
 pub mod Ring
 pub mod Picture
 pub mod Fields
+pub mod Orders
+pub mod Records
+pub mod Refused

@@ -2,12 +2,16 @@
 #![tactic(auto)]
 
 mod cells;
+mod effect;
 mod field;
 mod lock;
 mod plain;
+mod refused;
 mod ring;
 
 pub use cells::Cells;
+pub use effect::Effect;
 pub use field::FieldAt;
 pub use lock::Lock;
 pub use plain::PlainCells;
+pub use refused::{Refused, Why};
