@@ -85,3 +85,35 @@ least_none zero test misses = refl
 least_none (suc n) test misses =
     let first : test 0 ≡ false = misses 0 (omega arith) in
     cond-false (test 0) _ _ first ∙ ap (option_map suc) (least_none n (λ d. test (suc d)) (λ d below. misses (suc d) (omega arith)))
+
+-- what a search comes to
+pub record IsFound (n : ℕ) (test : ℕ → Bool) (k : ℕ) : Type 0 where
+  pub inside : k < n
+  pub misses : (d : ℕ) → d < k → test d ≡ false
+  pub hit : test k ≡ true
+
+found_later : (n : ℕ) (test : ℕ → Bool) (k : ℕ) → test 0 ≡ false → IsFound n (λ d. test (suc d)) k → IsFound (suc n) test (suc k)
+found_later n test k first found =
+    record { inside = omega (arith, found.inside); misses = λ d below. later d below; hit = found.hit }
+  where
+    later : (d : ℕ) → d < suc k → test d ≡ false
+    later zero below = first
+    later (suc d) below = found.misses d (omega arith)
+
+none_later : (n : ℕ) (test : ℕ → Bool) → test 0 ≡ false → ((d : ℕ) → d < n → test (suc d) ≡ false) → (d : ℕ) → d < suc n → test d ≡ false
+none_later n test first others zero below = first
+none_later n test first others (suc d) below = others d (omega arith)
+
+pub search_cases : (n : ℕ) (test : ℕ → Bool) → ((k : ℕ) × IsFound n test k) ⊎ ((d : ℕ) → d < n → test d ≡ false)
+search_cases zero test = inr (λ d below. absurd (omega arith))
+search_cases (suc n) test =
+    elim (cases_Bool (test 0)) [
+      | inl hit ↦ inl (0, record { inside = omega arith; misses = λ d below. absurd (omega arith); hit = hit })
+      | inr first ↦ elim (search_cases n (λ d. test (suc d))) [
+          | inl found ↦ inl (suc found.0, found_later n test found.0 first found.1)
+          | inr none ↦ inr (none_later n test first none)
+        ]
+    ]
+
+pub least_found : (n : ℕ) (test : ℕ → Bool) (k : ℕ) → IsFound n test k → least n test ≡ Some k
+least_found n test k found = least_at n k test found.inside found.misses found.hit

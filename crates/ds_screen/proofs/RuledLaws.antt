@@ -5,9 +5,9 @@ use Rattle.std.proofs.lemmas.Bool.{cond-true, cond-false, cases_lt, cases_eq, ca
 use Rattle.std.proofs.lemmas.List.{length-set}
 use Rattle.std.proofs.lemmas.List.FromFn.{length-map-range_with_len, get_or-map-range_with_len, fill_by_all}
 use Rattle.ds_codec.specs.declared.cell.Cell.{Cell}
-use Rattle.ds_screen.specs.Ring.{ring_on, ring_distance}
+use Rattle.ds_screen.specs.Ring.{ring_on, ring_back, ring_distance}
 use Rattle.ds_screen.specs.Picture.{blank, cell_at, ruled}
-use Rattle.ds_screen.proofs.RingLaws.{on_cases, distance_cases, on_lt}
+use Rattle.ds_screen.proofs.RingLaws.{on_cases, back_cases, distance_cases, on_lt, on_more}
 
 pub length-ruled : (n : ℕ) (rule : ℕ → Cell) → length (ruled n rule) ≡ n
 unfolding ruled
@@ -109,3 +109,36 @@ walk_skips cells b k f inside few right =
           ∙ sym right ∙ sym (walk_here cells b k f inside few) ∙ ap (walked_cell cells b (k + 1) f) (sym same)
       | inr apart ↦ sym (walk_elsewhere cells b k f p inside lt apart)
     ])
+
+-- one step of a walk that writes x where a test says so, and else leaves what was there
+pub walk_step : (cells : List Cell) (b k at : ℕ) (f : ℕ → Cell) (test : Bool) (x : Cell) (now after : List Cell)
+    → b < length cells → k < length cells → at ≡ ring_on (length cells) b k → now ≡ ruled (length cells) (walked_cell cells b k f)
+    → f at ≡ cond test x (cell_at cells at) → after ≡ cond test (set now at x) now → after ≡ ruled (length cells) (walked_cell cells b (k + 1) f)
+walk_step cells b k at f true x now after inside few here stored says writes =
+    writes ∙ ap (λ xs. set xs at x) stored ∙ ap (λ y. set (ruled (length cells) (walked_cell cells b k f)) at y) (sym says)
+    ∙ ap (λ q. set (ruled (length cells) (walked_cell cells b k f)) q (f q)) here ∙ walk_writes cells b k f inside few
+walk_step cells b k at f false x now after inside few here stored says writes =
+    writes ∙ stored ∙ walk_skips cells b k f inside few (ap f (sym here) ∙ says ∙ ap (cell_at cells) here)
+
+-- what the walk reads where it stands
+pub walk_sees : (cells : List Cell) (b k at : ℕ) (f : ℕ → Cell) (now : List Cell) → b < length cells → k < length cells → at ≡ ring_on (length cells) b k
+    → now ≡ ruled (length cells) (walked_cell cells b k f) → cell_at now at ≡ cell_at cells at
+walk_sees cells b k at f now inside few here stored =
+    ap (λ xs. cell_at xs at) stored ∙ ap (cell_at (ruled (length cells) (walked_cell cells b k f))) here
+    ∙ walk_reads cells b k f inside few ∙ ap (cell_at cells) (sym here)
+
+pub length_walked : (cells : List Cell) (b k : ℕ) (f : ℕ → Cell) (now : List Cell) → now ≡ ruled (length cells) (walked_cell cells b k f) → length now ≡ length cells
+length_walked cells b k f now stored = ap length stored ∙ length-ruled (length cells) (walked_cell cells b k f)
+
+-- the place after a step
+pub place_more : (n m b k at next : ℕ) → b < n → k < n → m ≡ n → at ≡ ring_on n b k → next ≡ ring_on m at 1 → next ≡ ring_on n b (k + 1)
+place_more n m b k at next inside few len here on =
+    on ∙ ap (λ z. ring_on z at 1) len ∙ ap (λ q. ring_on n q 1) here ∙ on_more n b k inside few
+
+-- the place before the next one is the one where the walk stood
+pub place_before : (n m at next : ℕ) → at < n → m ≡ n → next ≡ ring_on m at 1 → ring_back n next 1 ≡ at
+place_before n m at next inside len on =
+    ap (λ q. ring_back n q 1) (on ∙ ap (λ z. ring_on z at 1) len)
+    ∙ elim (on_cases n at 1) [
+        | inl a ↦ elim (back_cases n (ring_on n at 1) 1) [ inl c ↦ omega arith | inr c ↦ omega arith ]
+        | inr a ↦ elim (back_cases n (ring_on n at 1) 1) [ inl c ↦ omega arith | inr c ↦ omega arith ] ]

@@ -48,9 +48,18 @@ bits_at cells (Some q) = bits_of (cell_at cells q)
 abbrev pub ruling_bits : List Cell → ℕ → ℕ
 ruling_bits cells p = bits_at cells (attribute_before cells p)
 
+-- what rules a position that holds this cell, where these bits rule the position before it
+abbrev pub ruling_after : ℕ → Cell → ℕ
+ruling_after before (Field bits) = bits
+ruling_after before (Char character) = before
+
+-- a character may be typed over where the bits that rule it do not protect it
+abbrev pub is_open_under : ℕ → Cell → Bool
+is_open_under ruling cell = is_character cell && not (is_protected ruling)
+
 -- a character that may be typed over: no attribute rules it, or an unprotected one
 abbrev pub is_open : List Cell → ℕ → Bool
-is_open cells p = is_character (cell_at cells p) && not (is_protected (ruling_bits cells p))
+is_open cells p = is_open_under (ruling_bits cells p) (cell_at cells p)
 
 -- the positions that the attribute at q governs, from the one behind it on round the ring
 unfoldable pub span_of : List Cell → ℕ → List ℕ

@@ -74,27 +74,27 @@ tabbed w true None =
     record w { cells = ruled (length w.cells) (nulled_cell w.cells w.address (length w.cells)); address = 0; nulling = true }
 
 -- one cell at the buffer address, which goes on by one
-abbrev pub stored : Writing → Cell → Bool → Writing
-stored w cell nulling =
+abbrev pub after_storing : Writing → Cell → Bool → Writing
+after_storing w cell nulling =
     record w { cells = ruled (length w.cells) (single_cell w.cells w.address cell); address = ring_on (length w.cells) w.address 1; nulling = nulling }
 
 -- what an order leaves
 unfoldable pub effect_of : Item → Writing → Writing
 effect_of (text run) w =
     record w { cells = ruled (length w.cells) (text_cell w.cells w.address run); address = (w.address + length run) % length w.cells; nulling = true }
-effect_of (start_field attribute) w = stored w (Field attribute) false
-effect_of (start_field_extended pairs) w = stored w (Field (unwrap_or (last_attribute pairs) 0)) false
+effect_of (start_field attribute) w = after_storing w (Field attribute) false
+effect_of (start_field_extended pairs) w = after_storing w (Field (unwrap_or (last_attribute pairs) 0)) false
 effect_of (set_buffer_address address) w = record w { address = address; nulling = false }
 effect_of (set_attribute kind value) w = record w { nulling = false }
 effect_of (modify_field pairs) w =
-    stored w (Field (unwrap_or (last_attribute pairs) (bits_of (cell_at w.cells w.address)))) false
+    after_storing w (Field (unwrap_or (last_attribute pairs) (bits_of (cell_at w.cells w.address)))) false
 effect_of insert_cursor w = record w { cursor = w.address; nulling = false }
 effect_of program_tab w = tabbed w w.nulling (first_from is_attribute w.cells w.address)
 effect_of (repeat_to_address stop character) w =
     record w { cells = ruled (length w.cells) (repeated_cell w.cells w.address stop character); address = stop; nulling = false }
 effect_of (erase_unprotected_to_address stop) w =
     record w { cells = ruled (length w.cells) (erased_cell w.cells w.address stop); address = stop; nulling = false }
-effect_of (graphic_escape code) w = stored w (Char (glyph code true)) true
+effect_of (graphic_escape code) w = after_storing w (Char (glyph code true)) true
 
 -- an address must be that of a position
 abbrev pub outside_of : ℕ → ℕ → Option Why

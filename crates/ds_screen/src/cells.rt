@@ -1,6 +1,6 @@
 //! A buffer of cells, however it is kept.
 
-ghost use Rattle.std.specs.Prelude.{◌≡◌, ℕ, ◌<◌, ◌≤◌, ◌^◌, List, [], IfOk, length, replicate, slice_set};
+ghost use Rattle.std.specs.Prelude.{◌≡◌, ℕ, ◌<◌, ◌≤◌, ◌^◌, List, [], IfOk, IfSome, length, replicate, slice_set};
 ghost use Rattle.ds_codec.specs.declared.cell.Cell.{Cell};
 ghost use Rattle.ds_screen.specs.Picture.{blank, cell_at};
 ghost use Rattle.ds_screen.specs.Fields.{is_attribute, attribute_before, attribute_from};
@@ -49,13 +49,15 @@ pub trait Cells: Drop {
     /// first; `None` where there is no attribute.
     fn attr_before(&self, p: u32) -> Option<u32>
         requires { p < length (content self.now) }
-        ensures { result ≡ attribute_before (content self.now) p };
+        ensures nearest { result ≡ attribute_before (content self.now) p }
+        ensures inside { IfSome result (λ q. q < length (content self.now)) };
 
     /// The position of the attribute at the least distance going on round the buffer, `p` itself
     /// first; `None` where there is no attribute.
     fn attr_from(&self, p: u32) -> Option<u32>
         requires { p < length (content self.now) }
-        ensures { result ≡ attribute_from (content self.now) p };
+        ensures nearest { result ≡ attribute_from (content self.now) p }
+        ensures inside { IfSome result (λ q. q < length (content self.now)) };
 
     /// Makes the cells those of another buffer.
     fn copy_from(&mut self, other: &Self)

@@ -5,9 +5,13 @@ mod cells;
 mod effect;
 mod field;
 mod lock;
+mod orders;
 mod plain;
+mod ranges;
 mod refused;
 mod ring;
+mod state;
+mod tab;
 
 pub use cells::Cells;
 pub use effect::Effect;

@@ -9,8 +9,8 @@ use Rattle.ds_screen.proofs.plain.PlainCellsCells.attr_before.Goals as goal
 pub steps-init : goal.steps-init
 steps-init c = record { at_steps = sym (back-zero _ _); inside = omega arith; misses = λ d below. absurd (omega arith) }
 
-pub returns-then-is_field : goal.returns-then-is_field
-returns-then-is_field c =
+pub returns-then-is_field-clause-nearest : goal.returns-then-is_field-clause-nearest
+returns-then-is_field-clause-nearest c =
     before_found c.args.self.now.cells.items c.len-n.result c.args.p c.steps.steps c.steps.at (c.len-n.ensures) (omega arith)
     c.steps.invariant.at_steps c.steps.invariant.misses
     (ap is_attribute (sym c.cell.ensures) ∙ sym c.is_field.ensures ∙ c.if-is_field.true)
@@ -26,8 +26,8 @@ steps-preserved c =
       misses = below_more _ _ c.steps.invariant.misses (ap (λ q. is_attribute (cell_at c.args.self.now.cells.items q)) (sym c.steps.invariant.at_steps) ∙ missed);
     }
 
-pub returns : goal.returns
-returns c =
+pub returns-clause-nearest : goal.returns-clause-nearest
+returns-clause-nearest c =
     let done : c.steps.steps ≡ c.len-n.result = omega arith in
     before_none c.args.self.now.cells.items c.len-n.result c.args.p (c.len-n.ensures)
     (λ d below. c.steps.invariant.misses d (omega arith))
