@@ -30,6 +30,10 @@ AreSpelled mode at (site ∷ sites) bytes =
     (part : List ℕ) × (rest : List ℕ) × (bytes ≡ part ++ rest) × (site.at ≡ at) × SpellsOrder mode site.order part
     × MayFollow site.order sites × AreSpelled mode (at + length part) sites rest
 
+-- some bytes spell the orders
+abbrev pub AreOrders : List Site → Type 0
+AreOrders sites = (mode : Mode) × (at : ℕ) × (bytes : List ℕ) × AreSpelled mode at sites bytes
+
 -- a write control character and orders for a write, nothing for another command
 abbrev pub SpellsRest : Mode → Option ℕ → List Site → List ℕ → Type 0
 SpellsRest mode None orders rest = (orders ≡ []) × (rest ≡ [])

@@ -31,7 +31,7 @@ impl<'a> Model for Record<'a> {
 impl<'a> Record<'a> {
     ghost use Rattle.std.specs.Prelude.{◌≡◌, ℕ, IfOk, IfErr, Ok, Err};
     ghost use Rattle.ds_codec.specs.declared.refused.Why.{Why};
-    ghost use Rattle.ds_codec.specs.Record.{Message, SpellsRecord, IsRefusedAt};
+    ghost use Rattle.ds_codec.specs.Record.{Message, SpellsRecord, IsRefusedAt, AreOrders};
     ghost use Rattle.ds_codec.specs.Reading.{read_of};
 
     /// Reads a record: the one command and orders that its bytes spell, or its leftmost fault. Within
@@ -56,7 +56,8 @@ impl<'a> Record<'a> {
 
     /// The orders with their places, from first to last. Takes no memory.
     pub fn orders(&self) -> Orders<'a>
-        ensures { result ≡ self.now.orders }
+        ensures all { result ≡ self.now.orders }
+        ensures spelled { AreOrders self.now.orders }
     {
         Orders {
             mode: self.mode,

@@ -1,0 +1,22 @@
+-- The state that orders work on, as the code keeps it.
+use Rattle.std.specs.Prelude.{◌≡◌, ℕ, ◌<◌, true, List, length}
+use Rattle.std.specs.List.{list_all}
+use Rattle.ds_codec.specs.declared.cell.Cell.{Cell}
+use Rattle.ds_codec.specs.Character.{is_text, is_graphic}
+use Rattle.ds_codec.specs.Order.{Item, text, graphic_escape}
+use Rattle.ds_screen.specs.declared.state.State.{State}
+use Rattle.ds_screen.specs.Orders.{Writing}
+
+abbrev pub writing : List Cell → State → Writing
+writing cells state = record { cells = cells; cursor = state.cursor; address = state.address; nulling = state.nulling }
+
+-- the codes of an order are those of characters
+abbrev pub HasCharacters : Item → Type 0
+HasCharacters (text run) = list_all is_text run ≡ true
+HasCharacters (graphic_escape code) = is_graphic code ≡ true
+HasCharacters order = Unit {0}
+
+-- the cursor and the buffer address are positions
+pub record IsInside (cells : List Cell) (state : State) : Type 0 where
+  pub cursor : state.cursor < length cells
+  pub address : state.address < length cells

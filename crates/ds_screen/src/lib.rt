@@ -1,0 +1,21 @@
+//! The 3270 character buffer: what a terminal shows, and what each outbound record does to it.
+#![tactic(auto)]
+
+mod cells;
+mod effect;
+mod field;
+mod lock;
+mod orders;
+mod plain;
+mod ranges;
+mod refused;
+mod ring;
+mod state;
+mod tab;
+
+pub use cells::Cells;
+pub use effect::Effect;
+pub use field::FieldAt;
+pub use lock::Lock;
+pub use plain::PlainCells;
+pub use refused::{Refused, Why};

@@ -1,0 +1,124 @@
+//! Orders, one after the other (GA23-0059, "Orders").
+
+ghost use Rattle.std.specs.Prelude.{◌≡◌, ◌<◌, ◌≤◌, true, false, length, IfOk, IfErr, OnOk, IfSome, Some, None};
+ghost use Rattle.ds_codec.specs.Order.{item_of, last_attribute};
+ghost use Rattle.ds_screen.specs.Fields.{is_attribute, bits_of};
+ghost use Rattle.ds_screen.specs.Picture.{cell_at};
+ghost use Rattle.ds_screen.specs.Orders.{OrderActs, fault_of, outside_of, after_storing};
+ghost use Rattle.ds_screen.specs.State.{writing, HasCharacters, IsInside};
+
+use crate::cells::Cells;
+use crate::ranges::{erase, put_run, repeat, store};
+use crate::refused::Why;
+use crate::state::State;
+use crate::tab::program_tab;
+use ds_codec::{Attr, Cell, Char, Order};
+
+/// The type of the pair that carries a field attribute.
+const FIELD_ATTRIBUTE: u8 = 0xC0;
+
+/// The field attribute of the last pair that has one.
+fn last_attr(pairs: &[u8]) -> Option<Attr>
+    ensures { result ≡ last_attribute pairs.now }
+{
+    match pairs {
+        [kind, value, others @ ..] => match last_attr(others) {
+            Some(attribute) => Some(attribute),
+            None => {
+                if *kind == FIELD_ATTRIBUTE {
+                    Some(Attr::new(*value))
+                } else {
+                    None
+                }
+            }
+        },
+        _ => None,
+    }
+}
+
+/// An address, if it is that of a position.
+fn position(n: u32, address: u32) -> Result<u32, Why>
+    ensures inside { IfOk result (λ p. (p ≡ address) × (p < n) × (outside_of n address ≡ None)) }
+    ensures outside { IfErr result (λ why. outside_of n address ≡ Some why) }
+{
+    if address < n {
+        Ok(address)
+    } else {
+        Err(Why::AddressOutside)
+    }
+}
+
+/// The attribute that stands at a position.
+fn attribute_at<C: Cells>(cells: &C, p: u32) -> Result<Attr, Why>
+    requires { p < length (C.content cells.now) }
+    ensures there { IfOk result (λ bits. (bits ≡ bits_of (cell_at (C.content cells.now) p)) × (is_attribute (cell_at (C.content cells.now) p) ≡ true)) }
+    ensures missing { IfErr result (λ why. (why ≡ Why.NoFieldHere) × (is_attribute (cell_at (C.content cells.now) p) ≡ false)) }
+{
+    match cells.cell(p) {
+        Cell::Field(attribute) => Ok(attribute),
+        Cell::Char(_) => Err(Why::NoFieldHere),
+    }
+}
+
+/// Stores a cell at the buffer address, and goes on by one.
+fn stored<C: Cells>(cells: &mut C, state: State, cell: Cell, nulling: bool) -> State
+    requires { state.address < length (C.content cells.old) }
+    ensures stores { writing (C.content cells.new) result ≡ after_storing (writing (C.content cells.old) state) cell nulling }
+    ensures inside { result.address < length (C.content cells.old) }
+    ensures whole { length (C.content cells.new) ≡ length (C.content cells.old) }
+    ensures room { C.capacity cells.new ≡ C.capacity cells.old }
+{
+    let address = store(cells, state.address, cell);
+    State { cursor: state.cursor, address, nulling }
+}
+
+/// Does one order.
+#[tactic(auto, unfolding(crate::specs::Orders::effect_of, crate::specs::Orders::fault_of))]
+pub(crate) fn act<C: Cells>(cells: &mut C, state: State, order: &Order<'_>) -> Result<State, Why>
+    requires inside { IsInside (C.content cells.old) state }
+    requires characters { HasCharacters (item_of order.now) }
+    ensures acts { IfOk result (λ after. OrderActs (item_of order.now) (writing (C.content cells.old) state) (writing (C.content cells.new) after)) }
+    ensures inside { IfOk result (λ after. IsInside (C.content cells.new) after) }
+    ensures refused { IfErr result (λ why. fault_of (item_of order.now) (writing (C.content cells.old) state) ≡ Some why) }
+    ensures whole { OnOk result (length (C.content cells.new) ≡ length (C.content cells.old)) }
+    ensures room { C.capacity cells.new ≡ C.capacity cells.old }
+{
+    let State { cursor, address: b, nulling: _ } = state;
+    match order {
+        Order::Text(run) => {
+            let address = put_run(cells, b, run);
+            Ok(State { cursor, address, nulling: true })
+        }
+        Order::Sf(attribute) => Ok(stored(cells, state, Cell::Field(*attribute), false)),
+        Order::Sfe(pairs) => {
+            let attribute = last_attr(pairs).unwrap_or(Attr::new(0));
+            Ok(stored(cells, state, Cell::Field(attribute), false))
+        }
+        Order::Sba(address) => {
+            let address = position(cells.len(), *address)?;
+            Ok(State { cursor, address, nulling: false })
+        }
+        Order::Sa(_, _) => Ok(State { cursor, address: b, nulling: false }),
+        Order::Mf(pairs) => {
+            let before = attribute_at(cells, b)?;
+            let attribute = last_attr(pairs).unwrap_or(before);
+            Ok(stored(cells, state, Cell::Field(attribute), false))
+        }
+        Order::Ic => Ok(State { cursor: b, address: b, nulling: false }),
+        Order::Pt => Ok(program_tab(cells, state)),
+        Order::Ra(stop, character) => {
+            let address = position(cells.len(), *stop)?;
+            repeat(cells, b, address, *character);
+            Ok(State { cursor, address, nulling: false })
+        }
+        Order::Eua(stop) => {
+            let address = position(cells.len(), *stop)?;
+            erase(cells, b, address);
+            Ok(State { cursor, address, nulling: false })
+        }
+        Order::Ge(code) => {
+            let character = Char::new(*code, true).unwrap();
+            Ok(stored(cells, state, Cell::Char(character), true))
+        }
+    }
+}
