@@ -28,3 +28,6 @@ pub use record::{Orders, Record, one_reading};
 pub use refused::{Refused, Why};
 pub use size::{Mode, Size};
 pub use write::{Unwritable, write_record};
+
+#[cfg(test)]
+mod tests;

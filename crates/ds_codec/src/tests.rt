@@ -1,0 +1,5 @@
+//! Worked values, taken from the protocol by hand.
+
+mod reading;
+mod values;
+mod writing;
