@@ -1,5 +1,5 @@
 -- The sizes that a terminal can have.
-use Rattle.std.specs.Prelude.{ℕ, ◌*◌, ◌≤◌}
+use Rattle.std.specs.Prelude.{ℕ, ◌*◌, ◌≤◌, Bool, ◌&&◌, nat_le, Option, Some, None, if◌then◌else◌}
 use Rattle.ds_codec.specs.declared.size.Size.{Size}
 use Rattle.ds_codec.specs.declared.size.Mode.{Mode}
 use Rattle.ds_codec.specs.declared.size.Mode.TheVariants.{Bits14}
@@ -24,3 +24,13 @@ pub record IsGood (mode : Mode) (size : Size) : Type 0 where
   pub two_cols : 2 ≤ size.cols
   pub few_cols : size.cols ≤ 255
   pub few_cells : cells_of size ≤ limit_of mode
+
+-- the same as a test
+abbrev pub is_good : Mode → Size → Bool
+is_good mode size =
+    (nat_le 1 size.rows && nat_le size.rows 255) && ((nat_le 2 size.cols && nat_le size.cols 255) && nat_le (cells_of size) (limit_of mode))
+
+-- the geometry of these sizes, where there is one
+abbrev pub geometry_of : Size → Size → Mode → Option Sizes
+geometry_of default alternate mode =
+    if is_good mode default && is_good mode alternate then Some (record { default = default; alternate = alternate; mode = mode }) else None

@@ -32,12 +32,14 @@ impl Model for Geometry {
 
 impl Geometry {
     ghost use Rattle.std.specs.Prelude.{◌≡◌, IfOk, IsOk, ◌↔◌};
-    ghost use Rattle.ds_codec.specs.Geometry.{IsGood};
+    ghost use Rattle.std.specs.Result.{result_ok};
+    ghost use Rattle.ds_codec.specs.Geometry.{IsGood, geometry_of};
 
     /// The geometry of these sizes, refused exactly where one of them is outside the limits.
     pub fn new(default: Size, alternate: Size, mode: Mode) -> Result<Geometry, BadSize>
         ensures sizes { IfOk result (λ g. g ≡ record { default = default; alternate = alternate; mode = mode }) }
         ensures good { IsOk result ↔ (IsGood mode default × IsGood mode alternate) }
+        ensures exact { result_ok result ≡ geometry_of default alternate mode }
     {
         if is_good(mode, default) && is_good(mode, alternate) {
             Ok(Geometry {
@@ -75,7 +77,7 @@ impl Geometry {
 }
 
 ghost use Rattle.std.specs.Prelude.{IsTrue, ◌↔◌, ◌≡◌};
-ghost use Rattle.ds_codec.specs.Geometry.{IsGood, limit_of};
+ghost use Rattle.ds_codec.specs.Geometry.{IsGood, is_good, limit_of};
 
 /// The most cells that a mode can address.
 pub fn most_cells(mode: Mode) -> u32
@@ -87,7 +89,8 @@ pub fn most_cells(mode: Mode) -> u32
 }
 
 fn is_good(mode: Mode, size: Size) -> bool
-    ensures { IsTrue result ↔ IsGood mode size }
+    ensures fact { IsTrue result ↔ IsGood mode size }
+    ensures exact { result ≡ is_good mode size }
 {
     1 <= size.rows
         && size.rows <= 255
