@@ -1,0 +1,4 @@
+pub mod Lines
+pub mod Sizes
+pub mod Input
+pub mod Kinds

@@ -1,0 +1,47 @@
+//! What is wrong with an input.
+
+ghost use Rattle.std.specs.Prelude.{◌≡◌};
+ghost use Rattle.term3270.specs.declared.fault.Fault.TheVariants.{OutOfMemory};
+
+use std::alloc::{AllocError, AllocFailed};
+use std::error::Error;
+use std::fmt;
+
+/// The first fault of an input, line by line.
+#[derive(Clone, Copy, Debug, PartialEq, Eq)]
+pub enum Fault {
+    /// The line of this number, counted from 1, is neither a record nor passed over.
+    BadLine(usize),
+    /// More than 16,777,216 bytes, more than 1,000 records, or a record of more than 32,768 bytes.
+    TooLong,
+    /// A request for memory was refused.
+    OutOfMemory,
+}
+
+impl fmt::Display for Fault {
+    fn fmt<W: fmt::Write>(&self, f: &mut fmt::Formatter<W>) -> fmt::Result {
+        match self {
+            Fault::BadLine(number) => write!(f, "line {number} refused"),
+            Fault::TooLong => write!(f, "input too long"),
+            Fault::OutOfMemory => write!(f, "out of memory"),
+        }
+    }
+}
+
+impl Error for Fault {}
+
+impl From<AllocError> for Fault {
+    ghost from_gives = { λ _ e. e ≡ OutOfMemory };
+
+    fn from(_e: AllocError) -> Fault {
+        Fault::OutOfMemory
+    }
+}
+
+impl<T: Drop> From<AllocFailed<T>> for Fault {
+    ghost from_gives = { λ _ e. e ≡ OutOfMemory };
+
+    fn from(_e: AllocFailed<T>) -> Fault {
+        Fault::OutOfMemory
+    }
+}

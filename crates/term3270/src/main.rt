@@ -1,0 +1,9 @@
+//! The program `term3270`: shows outbound records as a terminal does.
+#![tactic(auto)]
+
+mod fault;
+mod input;
+mod lines;
+mod sizes;
+
+fn main() {}
