@@ -4,4 +4,5 @@ pub mod RuledLaws
 pub mod RunLaws
 pub mod EraseLaws
 pub mod TabLaws
+pub mod ActLaws
 pub mod Rows

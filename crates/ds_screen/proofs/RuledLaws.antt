@@ -142,3 +142,23 @@ place_before n m at next inside len on =
     ∙ elim (on_cases n at 1) [
         | inl a ↦ elim (back_cases n (ring_on n at 1) 1) [ inl c ↦ omega arith | inr c ↦ omega arith ]
         | inr a ↦ elim (back_cases n (ring_on n at 1) 1) [ inl c ↦ omega arith | inr c ↦ omega arith ] ]
+
+pub distance_lt : (n b p : ℕ) → b < n → p < n → ring_distance n b p < n
+distance_lt n b p inside lt = elim (distance_cases n b p) [ inl c ↦ omega arith | inr c ↦ omega arith ]
+
+-- a walk over the whole ring
+pub walk_all : (cells : List Cell) (b : ℕ) (f : ℕ → Cell) → ((p : ℕ) → p < length cells → b < length cells)
+    → ruled (length cells) (walked_cell cells b (length cells) f) ≡ ruled (length cells) f
+walk_all cells b f inside =
+    ruled_same (length cells) (walked_cell cells b (length cells) f) f
+    (λ p lt. cond-true (ltb (ring_distance (length cells) b p) (length cells)) _ _ (lt-ltb _ _ (distance_lt (length cells) b p (inside p lt) lt)))
+
+-- from 0 on the walk stands where it has counted to
+pub on_from_zero : (n p : ℕ) → p < n → p ≡ ring_on n 0 p
+on_from_zero n p lt = elim (on_cases n 0 p) [ inl a ↦ omega arith | inr a ↦ omega arith ]
+
+pub back_to_last : (n m p : ℕ) → 0 < n → m ≡ n → p ≡ m - 1 → ring_back n 0 1 ≡ p
+back_to_last n m p some len is = elim (back_cases n 0 1) [ inl c ↦ omega arith | inr c ↦ omega arith ]
+
+pub back_to_here : (n p : ℕ) → ring_back n (p + 1) 1 ≡ p
+back_to_here n p = elim (back_cases n (p + 1) 1) [ inl c ↦ omega arith | inr c ↦ omega arith ]

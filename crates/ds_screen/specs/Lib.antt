@@ -4,4 +4,6 @@ pub mod Fields
 pub mod Orders
 pub mod State
 pub mod Records
+pub mod Reset
+pub mod Kept
 pub mod Refused

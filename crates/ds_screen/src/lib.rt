@@ -8,6 +8,7 @@ mod lock;
 mod orders;
 mod plain;
 mod ranges;
+mod records;
 mod refused;
 mod ring;
 mod state;

@@ -1,7 +1,7 @@
 //! Orders, one after the other (GA23-0059, "Orders").
 
 ghost use Rattle.std.specs.Prelude.{◌≡◌, ◌<◌, ◌≤◌, true, false, length, IfOk, IfErr, OnOk, IfSome, Some, None};
-ghost use Rattle.ds_codec.specs.Order.{item_of, last_attribute};
+ghost use Rattle.ds_codec.specs.Order.{item_of};
 ghost use Rattle.ds_screen.specs.Fields.{is_attribute, bits_of};
 ghost use Rattle.ds_screen.specs.Picture.{cell_at};
 ghost use Rattle.ds_screen.specs.Orders.{OrderActs, fault_of, outside_of, after_storing};
@@ -12,29 +12,7 @@ use crate::ranges::{erase, put_run, repeat, store};
 use crate::refused::Why;
 use crate::state::State;
 use crate::tab::program_tab;
-use ds_codec::{Attr, Cell, Char, Order};
-
-/// The type of the pair that carries a field attribute.
-const FIELD_ATTRIBUTE: u8 = 0xC0;
-
-/// The field attribute of the last pair that has one.
-fn last_attr(pairs: &[u8]) -> Option<Attr>
-    ensures { result ≡ last_attribute pairs.now }
-{
-    match pairs {
-        [kind, value, others @ ..] => match last_attr(others) {
-            Some(attribute) => Some(attribute),
-            None => {
-                if *kind == FIELD_ATTRIBUTE {
-                    Some(Attr::new(*value))
-                } else {
-                    None
-                }
-            }
-        },
-        _ => None,
-    }
-}
+use ds_codec::{Attr, Cell, Char, Order, last_attr};
 
 /// An address, if it is that of a position.
 fn position(n: u32, address: u32) -> Result<u32, Why>
