@@ -5,4 +5,5 @@ pub mod RunLaws
 pub mod EraseLaws
 pub mod TabLaws
 pub mod ActLaws
+pub mod ShowLaws
 pub mod Rows

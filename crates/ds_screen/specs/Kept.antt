@@ -5,7 +5,12 @@ use Rattle.ds_codec.specs.declared.size.Size.{Size}
 use Rattle.ds_codec.specs.declared.command.Command.{Command}
 use Rattle.ds_codec.specs.declared.command.Command.TheVariants.{Write, EraseWrite, EraseWriteAlternate}
 use Rattle.ds_codec.specs.Geometry.{Sizes, cells_of}
-use Rattle.ds_screen.specs.Picture.{blank}
+use Rattle.ds_screen.specs.Picture.{Picture, blank}
+use Rattle.ds_screen.specs.declared.lock.Lock.{Lock}
+
+abbrev pub picture : Sizes → Size → List Cell → ℕ → Lock → ℕ → Picture
+picture geometry size cells cursor lock aid =
+    record { geometry = geometry; size = size; cells = cells; cursor = cursor; lock = lock; aid = aid }
 
 -- a buffer has room for either size
 pub record HasRoom (geometry : Sizes) (room : ℕ) : Type 0 where

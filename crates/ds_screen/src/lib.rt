@@ -11,8 +11,10 @@ mod ranges;
 mod records;
 mod refused;
 mod ring;
+mod screen;
 mod state;
 mod tab;
+mod wcc;
 
 pub use cells::Cells;
 pub use effect::Effect;
@@ -20,3 +22,4 @@ pub use field::FieldAt;
 pub use lock::Lock;
 pub use plain::PlainCells;
 pub use refused::{Refused, Why};
+pub use screen::Screen;

@@ -13,6 +13,7 @@ use crate::orders::act;
 use crate::ranges::{erase, is_open_cell, ruled_on, ruling};
 use crate::refused::Refused;
 use crate::state::State;
+use crate::wcc::resets_modified;
 use ds_codec::{Cell, Command, Geometry, Record, Size};
 
 /// Does the orders in turn, up to the first that is at fault.
@@ -162,7 +163,7 @@ pub(crate) fn write_orders<C: Cells>(cells: &mut C, wcc: u8, cursor: u32, record
     ensures whole { OnOk result (length (C.content cells.new) ≡ length (C.content cells.old)) }
     ensures room { C.capacity cells.new ≡ C.capacity cells.old }
 {
-    if wcc % 2 == 1 {
+    if resets_modified(wcc) {
         reset_modified(cells, Reset::Every);
     }
     let start = State { cursor, address: cursor, nulling: false };
