@@ -6,4 +6,5 @@ pub mod EraseLaws
 pub mod TabLaws
 pub mod ActLaws
 pub mod ShowLaws
+pub mod SpanLaws
 pub mod Rows

@@ -4,6 +4,7 @@
 mod cells;
 mod effect;
 mod field;
+mod fields;
 mod lock;
 mod orders;
 mod plain;
@@ -19,6 +20,7 @@ mod wcc;
 pub use cells::Cells;
 pub use effect::Effect;
 pub use field::FieldAt;
+pub use fields::Fields;
 pub use lock::Lock;
 pub use plain::PlainCells;
 pub use refused::{Refused, Why};

@@ -2,6 +2,7 @@
 
 use crate::cells::Cells;
 use crate::effect::Effect;
+use crate::fields::Fields;
 use crate::lock::Lock;
 use crate::records::{Base, clear_unprotected, prepare, write_orders};
 use crate::wcc::{aid_after, lock_after, told};
@@ -42,7 +43,7 @@ impl<C: Cells> Screen<C> {
     ghost use Rattle.ds_codec.specs.declared.cell.Cell.{Cell};
     ghost use Rattle.ds_codec.specs.Geometry.{cells_of};
     ghost use Rattle.ds_screen.specs.Picture.{Picture, IsSound, cell_at};
-    ghost use Rattle.ds_screen.specs.Fields.{is_attribute};
+    ghost use Rattle.ds_screen.specs.Fields.{is_attribute, fields_of};
     ghost use Rattle.ds_screen.specs.Records.{new_picture, erased, told_of, RecordShows, IsRefusedBy};
 
     /// A new terminal of this geometry: nulls of the default size, the cursor at 0, the keyboard waiting
@@ -110,6 +111,13 @@ impl<C: Cells> Screen<C> {
         ensures { result ≡ self.now.aid }
     {
         self.aid
+    }
+
+    /// The fields in rising order of their attributes, each with the number of cells that it governs.
+    pub fn fields(&self) -> Fields<'_, C>
+        ensures { result ≡ fields_of self.now.cells }
+    {
+        Fields::new(&self.cells)
     }
 
     /// Stores a character.
