@@ -1,10 +1,9 @@
 -- Orders in turn.
-use Rattle.std.proofs.Common.{◌≡◌, ℕ, ◌+◌, Bool, true, false, List, [], ◌∷◌, length, Option, Some, None, Result, Ok, Err, refl, sym, ◌∙◌, ap, subst}
+use Rattle.std.proofs.Common.{◌≡◌, ℕ, ◌+◌, List, [], ◌∷◌, length, Some, Ok, Err, refl, sym, ◌∙◌, ap}
 use Rattle.ds_codec.specs.declared.size.Mode.{Mode}
 use Rattle.ds_codec.specs.Order.{Item, Site, text, start_field, start_field_extended, set_buffer_address, set_attribute, modify_field, insert_cursor, program_tab, repeat_to_address, erase_unprotected_to_address, graphic_escape, SpellsOrder}
 use Rattle.ds_codec.specs.Record.{AreSpelled, AreOrders}
 use Rattle.ds_screen.specs.declared.refused.Why.{Why}
-use Rattle.ds_screen.specs.declared.refused.Refused.{Refused}
 use Rattle.ds_screen.specs.Orders.{Writing, effect_of, fault_of, OrderActs}
 use Rattle.ds_screen.specs.Records.{acts, unless}
 use Rattle.ds_screen.specs.State.{HasCharacters, HaveCharacters}

@@ -7,4 +7,5 @@ pub mod TabLaws
 pub mod ActLaws
 pub mod ShowLaws
 pub mod SpanLaws
+pub mod PrintLaws
 pub mod Rows

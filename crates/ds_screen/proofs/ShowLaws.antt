@@ -1,6 +1,5 @@
 -- What a record makes of a picture, by its parts.
-use Rattle.std.proofs.Common.{◌≡◌, ℕ, ◌/◌, ◌%◌, Bool, true, false, cond, eqb, List, length, replicate, Option, Some, None, Result, Ok, Err, refl, sym, ◌∙◌, ap, subst}
-use Rattle.std.proofs.lemmas.Bool.{cond-true, cond-false}
+use Rattle.std.proofs.Common.{◌≡◌, ℕ, cond, List, length, replicate, Some, None, Ok, Err, refl, sym, ◌∙◌, ap, subst}
 use Rattle.ds_codec.specs.declared.cell.Cell.{Cell}
 use Rattle.ds_codec.specs.declared.size.Size.{Size}
 use Rattle.ds_codec.specs.declared.command.Command.{Command}
@@ -27,9 +26,9 @@ clear_shows geometry size cells cursor lock aid v message command after place no
     let P : Picture → Type 0 = λ u. RecordShows u message (picture geometry size after place Free none) in
     subst P is
     (ap (λ c. shown_of (picture geometry size cells cursor lock aid) c message.orders) (sym told ∙ all)
-     ∙ sym (ap (λ xs. Ok (picture geometry size xs place Free none)) stored
-            ∙ ap (λ p. Ok (picture geometry size (ruled (length cells) (cleared_cell cells)) p Free none)) first
-            ∙ ap (λ a. Ok (picture geometry size (ruled (length cells) (cleared_cell cells)) (first_open cells) Free a)) free))
+    ∙ sym (ap (λ xs. Ok (picture geometry size xs place Free none)) stored
+    ∙ ap (λ p. Ok (picture geometry size (ruled (length cells) (cleared_cell cells)) p Free none)) first
+    ∙ ap (λ a. Ok (picture geometry size (ruled (length cells) (cleared_cell cells)) (first_open cells) Free a)) free))
 
 no_start : (v : Picture) (command : Command) (orders : List Site) → start_of v.geometry v.size v.cells v.cursor command ≡ None → (command ≡ EraseAllUnprotected → ⊥)
     → shown_of v command orders ≡ Err (record { at = 0; why = NotAWrite })
@@ -51,7 +50,7 @@ read_refused geometry size cells cursor lock aid v message command is told other
     let P : Picture → Type 0 = λ u. IsRefusedBy u message (record { at = 0; why = NotAWrite }) in
     subst P is
     (ap (λ c. shown_of (picture geometry size cells cursor lock aid) c message.orders) (sym told)
-     ∙ no_start (picture geometry size cells cursor lock aid) command message.orders none other)
+    ∙ no_start (picture geometry size cells cursor lock aid) command message.orders none other)
 
 -- the picture that a write begins with
 abbrev pub based : Picture → Start → Picture
@@ -84,8 +83,8 @@ order_refused geometry size cells cursor lock aid v message command start refuse
     let P : Picture → Type 0 = λ u. IsRefusedBy u message refused in
     subst P is
     (ap (λ c. shown_of (picture geometry size cells cursor lock aid) c message.orders) (sym told)
-     ∙ starts (picture geometry size cells cursor lock aid) command message.orders start started
-     ∙ ap (finishes start.wcc (based (picture geometry size cells cursor lock aid) start)) bad)
+    ∙ starts (picture geometry size cells cursor lock aid) command message.orders start started
+    ∙ ap (finishes start.wcc (based (picture geometry size cells cursor lock aid) start)) bad)
 
 -- all orders done, whether or not the keyboard is restored
 pub write_shows : (geometry : Sizes) (size : Size) (cells : List Cell) (cursor : ℕ) (lock : Lock) (aid : ℕ) (v : Picture) (message : Message) (command : Command) (start : Start) (w : Writing)
@@ -97,8 +96,8 @@ write_shows geometry size cells cursor lock aid v message command start w after 
     let P : Picture → Type 0 = λ u. RecordShows u message after in
     subst P is
     (ap (λ c. shown_of (picture geometry size cells cursor lock aid) c message.orders) (sym told)
-     ∙ starts (picture geometry size cells cursor lock aid) command message.orders start started
-     ∙ ap (finishes start.wcc (based (picture geometry size cells cursor lock aid) start)) done ∙ ap (λ u. Ok u) (sym ends))
+    ∙ starts (picture geometry size cells cursor lock aid) command message.orders start started
+    ∙ ap (finishes start.wcc (based (picture geometry size cells cursor lock aid) start)) done ∙ ap (λ u. Ok u) (sym ends))
 
 pub write_ends : (wcc : ℕ) (v : Picture) (w : Writing) (lock : Lock) (aid : ℕ) → lock ≡ cond (restores wcc) Free v.lock → aid ≡ cond (restores wcc) 0x60 v.aid
     → picture v.geometry v.size w.cells w.cursor lock aid ≡ finished wcc v w

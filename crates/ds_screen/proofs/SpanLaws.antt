@@ -1,14 +1,14 @@
 -- A field is the run of cells up to the next attribute.
-use Rattle.std.proofs.Common.{◌≡◌, ◌≢◌, ℕ, zero, suc, ◌+◌, ◌-◌, ◌<◌, ◌≤◌, ◌⊎◌, ◌&&◌, Bool, true, false, not, cond, eqb, List, [], ◌∷◌, length, map, Option, Some, None, refl, sym, ◌∙◌, ap, subst, arith, inl, inr, add-one}
+use Rattle.std.proofs.Common.{◌≡◌, ◌≢◌, ℕ, zero, suc, ◌+◌, ◌-◌, ◌<◌, ◌≤◌, ◌&&◌, Bool, true, false, not, List, [], ◌∷◌, length, map, Some, None, refl, sym, ◌∙◌, ap, arith, inl, inr}
 use Rattle.std.specs.List.{range_with_len, filter}
-use Rattle.std.proofs.lemmas.Bool.{cond-true, cond-false, cases_Bool, cases_lt, cases_eq, false≢true, eq-eqb, ne_eqb}
+use Rattle.std.proofs.lemmas.Bool.{cond-true, cond-false, cases_lt, false≢true, eq-eqb, ne_eqb}
 use Rattle.ds_codec.specs.declared.cell.Cell.{Cell}
-use Rattle.ds_screen.specs.Ring.{ring_on, ring_back, ring_distance, least}
+use Rattle.ds_screen.specs.Ring.{ring_on, ring_back, ring_distance}
 use Rattle.ds_screen.specs.Picture.{cell_at}
 use Rattle.ds_screen.specs.Fields.{is_attribute, is_character, attribute_before, attribute_from, is_at, governs, span_of, attributes_from}
 use Rattle.ds_screen.proofs.RingLaws.{on_cases, back_cases, on_lt, IsFound, search_cases}
 use Rattle.ds_screen.proofs.RuledLaws.{distance_on}
-use Rattle.ds_screen.proofs.FieldLaws.{before_found, from_found, from_none}
+use Rattle.ds_screen.proofs.FieldLaws.{before_found, from_found}
 
 -- ---- the places of attributes
 pub attributes_here : (cells : List Cell) (p : ℕ) → p < length cells → is_attribute (cell_at cells p) ≡ true → attributes_from cells p ≡ p ∷ attributes_from cells (p + 1)
@@ -31,21 +31,27 @@ back_on : (n q i e : ℕ) → q < n → i < n → e ≤ i → ring_back n (ring_
 back_on n q i e inside few less =
     elim (on_cases n q i) [
       | inl a ↦ elim (back_cases n (ring_on n q i) e) [
-          | inl b ↦ elim (on_cases n q (i - e)) [ inl c ↦ omega arith | inr c ↦ omega arith ]
-          | inr b ↦ elim (on_cases n q (i - e)) [ inl c ↦ omega arith | inr c ↦ omega arith ] ]
+        | inl b ↦ elim (on_cases n q (i - e)) [ inl c ↦ omega arith | inr c ↦ omega arith ]
+        | inr b ↦ elim (on_cases n q (i - e)) [ inl c ↦ omega arith | inr c ↦ omega arith ]
+      ]
       | inr a ↦ elim (back_cases n (ring_on n q i) e) [
-          | inl b ↦ elim (on_cases n q (i - e)) [ inl c ↦ omega arith | inr c ↦ omega arith ]
-          | inr b ↦ elim (on_cases n q (i - e)) [ inl c ↦ omega arith | inr c ↦ omega arith ] ] ]
+        | inl b ↦ elim (on_cases n q (i - e)) [ inl c ↦ omega arith | inr c ↦ omega arith ]
+        | inr b ↦ elim (on_cases n q (i - e)) [ inl c ↦ omega arith | inr c ↦ omega arith ]
+      ]
+    ]
 
 on_on : (n q k : ℕ) → q < n → k < n → ring_on n (ring_on n q 1) k ≡ ring_on n q (k + 1)
 on_on n q k inside few =
     elim (on_cases n q 1) [
       | inl a ↦ elim (on_cases n (ring_on n q 1) k) [
-          | inl b ↦ elim (on_cases n q (k + 1)) [ inl c ↦ omega arith | inr c ↦ omega arith ]
-          | inr b ↦ elim (on_cases n q (k + 1)) [ inl c ↦ omega arith | inr c ↦ omega arith ] ]
+        | inl b ↦ elim (on_cases n q (k + 1)) [ inl c ↦ omega arith | inr c ↦ omega arith ]
+        | inr b ↦ elim (on_cases n q (k + 1)) [ inl c ↦ omega arith | inr c ↦ omega arith ]
+      ]
       | inr a ↦ elim (on_cases n (ring_on n q 1) k) [
-          | inl b ↦ elim (on_cases n q (k + 1)) [ inl c ↦ omega arith | inr c ↦ omega arith ]
-          | inr b ↦ elim (on_cases n q (k + 1)) [ inl c ↦ omega arith | inr c ↦ omega arith ] ] ]
+        | inl b ↦ elim (on_cases n q (k + 1)) [ inl c ↦ omega arith | inr c ↦ omega arith ]
+        | inr b ↦ elim (on_cases n q (k + 1)) [ inl c ↦ omega arith | inr c ↦ omega arith ]
+      ]
+    ]
 
 on_whole : (n q : ℕ) → q < n → ring_on n q n ≡ q
 on_whole n q inside = elim (on_cases n q n) [ inl c ↦ omega arith | inr c ↦ omega arith ]
@@ -71,8 +77,8 @@ ruled_by cells q k i inside there next some few =
     let lt : i < n = omega (arith, next.inside) in
     let home : q ≡ ring_back n p i = sym (back_on n q i i inside lt (omega arith) ∙ ap (ring_on n q) (omega arith) ∙ on_none n q inside) in
     let found : Some q ≡ attribute_before cells p =
-          before_found cells n p i q refl lt home
-          (λ e below. ap (λ z. is_attribute (cell_at cells z)) (back_on n q i e inside lt (omega arith)) ∙ next.characters (i - e) (omega arith) (omega arith)) there in
+    before_found cells n p i q refl lt home
+    (λ e below. ap (λ z. is_attribute (cell_at cells z)) (back_on n q i e inside lt (omega arith)) ∙ next.characters (i - e) (omega arith) (omega arith)) there in
     ap (λ t. not t && is_at (attribute_before cells p) q) (next.characters i some few)
     ∙ ap (λ o. is_at o q) (sym found) ∙ eq-eqb q q refl
 
@@ -86,7 +92,7 @@ not_ruled_by cells q k i inside next far lt =
     let n : ℕ = length cells in
     let p : ℕ = ring_on n q i in
     let there : is_attribute (cell_at cells (ring_back n p (i - (k + 1)))) ≡ true =
-          ap (λ z. is_attribute (cell_at cells z)) (back_on n q i (i - (k + 1)) inside lt (omega arith) ∙ ap (ring_on n q) (omega arith)) ∙ next.stop in
+    ap (λ z. is_attribute (cell_at cells z)) (back_on n q i (i - (k + 1)) inside lt (omega arith) ∙ ap (ring_on n q) (omega arith)) ∙ next.stop in
     elim (search_cases n (λ e. is_attribute (cell_at cells (ring_back n p e)))) [
       | inl found ↦
           elim (cases_lt (i - (k + 1)) found.0) [
@@ -126,8 +132,8 @@ next_from cells q k inside found =
     record {
       inside = found.inside;
       characters = λ i some few.
-        let back : i - 1 + 1 ≡ i = omega arith in
-        ap (λ z. is_attribute (cell_at cells z)) (ap (ring_on n q) (sym back) ∙ sym (on_on n q (i - 1) inside (omega (arith, found.inside)))) ∙ found.misses (i - 1) (omega arith);
+          let back : i - 1 + 1 ≡ i = omega arith in
+          ap (λ z. is_attribute (cell_at cells z)) (ap (ring_on n q) (sym back) ∙ sym (on_on n q (i - 1) inside (omega (arith, found.inside)))) ∙ found.misses (i - 1) (omega arith);
       stop = ap (λ z. is_attribute (cell_at cells z)) (sym (on_on n q k inside found.inside)) ∙ found.hit;
     }
 
@@ -144,7 +150,7 @@ span_to cells q m place stop steps inside there len on nearest counts =
     elim (search_cases n (λ d. is_attribute (cell_at cells (ring_on n (ring_on n q 1) d)))) [
       | inl found ↦
           let is : stop ≡ ring_on n (ring_on n q 1) found.0 =
-                same_stop _ _ (near ∙ sym (from_found cells n (ring_on n q 1) found.0 (ring_on n (ring_on n q 1) found.0) refl found.1.inside refl found.1.misses found.1.hit)) in
+          same_stop _ _ (near ∙ sym (from_found cells n (ring_on n q 1) found.0 (ring_on n (ring_on n q 1) found.0) refl found.1.inside refl found.1.misses found.1.hit)) in
           count ∙ ap (ring_distance n (ring_on n q 1)) is
           ∙ distance_on n (ring_on n q 1) found.0 (on_lt n q 1 inside (omega arith)) found.1.inside
           ∙ sym (length-span_of cells q found.0 inside there (next_from cells q found.0 inside found.1))
@@ -167,5 +173,5 @@ never_none cells q m place inside there len on nearest =
           cc
       | inr none ↦
           absurd (false≢true (sym (none (n - 1) (omega arith))
-            ∙ ap (λ z. is_attribute (cell_at cells z)) (on_on n q (n - 1) inside (omega arith) ∙ ap (ring_on n q) (omega arith) ∙ on_whole n q inside) ∙ there))
+          ∙ ap (λ z. is_attribute (cell_at cells z)) (on_on n q (n - 1) inside (omega arith) ∙ ap (ring_on n q) (omega arith) ∙ on_whole n q inside) ∙ there))
     ]

@@ -1,5 +1,5 @@
 -- What a screen keeps beside its picture, and what a write begins with.
-use Rattle.std.specs.Prelude.{◌≡◌, ℕ, ◌≤◌, List, replicate, Option, Some, None}
+use Rattle.std.specs.Prelude.{ℕ, ◌≤◌, List, replicate, Option, Some, None}
 use Rattle.ds_codec.specs.declared.cell.Cell.{Cell}
 use Rattle.ds_codec.specs.declared.size.Size.{Size}
 use Rattle.ds_codec.specs.declared.command.Command.{Command}

@@ -1,6 +1,7 @@
 pub mod Ring
 pub mod Picture
 pub mod Fields
+pub mod Shown
 pub mod Orders
 pub mod State
 pub mod Records

@@ -1,5 +1,5 @@
 -- What a record does: erasing or not, its write control character, and its orders in turn.
-use Rattle.std.specs.Prelude.{◌≡◌, ℕ, ◌/◌, ◌%◌, Bool, true, false, not, ◌==◌, List, [], ◌∷◌, length, replicate, Option, Some, None, Result, Ok, Err, unwrap_or, if◌then◌else◌}
+use Rattle.std.specs.Prelude.{◌≡◌, ℕ, ◌/◌, ◌%◌, Bool, true, false, ◌==◌, List, [], ◌∷◌, length, replicate, Option, Some, None, Result, Ok, Err, unwrap_or, if◌then◌else◌}
 use Rattle.ds_codec.specs.declared.cell.Cell.{Cell}
 use Rattle.ds_codec.specs.declared.cell.Cell.TheVariants.{Field, Char}
 use Rattle.ds_codec.specs.declared.size.Size.{Size}
@@ -9,7 +9,6 @@ use Rattle.ds_codec.specs.Attribute.{is_protected, with_modified}
 use Rattle.ds_codec.specs.Geometry.{Sizes, cells_of}
 use Rattle.ds_codec.specs.Order.{Site}
 use Rattle.ds_codec.specs.Record.{Message}
-use Rattle.ds_screen.specs.declared.lock.Lock.{Lock}
 use Rattle.ds_screen.specs.declared.lock.Lock.TheVariants.{Free, Waiting}
 use Rattle.ds_screen.specs.declared.effect.Effect.{Effect}
 use Rattle.ds_screen.specs.declared.refused.Why.{Why}
@@ -47,7 +46,7 @@ new_picture geometry =
       cells = replicate (cells_of geometry.default) blank;
       cursor = 0;
       lock = Waiting;
-      aid = 0x60
+      aid = 0x60;
     }
 
 -- nulls of a size, with the cursor at 0
@@ -61,7 +60,7 @@ begun wcc cells cursor =
       cells = if resets wcc then ruled (length cells) (λ p. unmodified (cell_at cells p)) else cells;
       cursor = cursor;
       address = cursor;
-      nulling = false
+      nulling = false;
     }
 
 -- what the orders leave, with the keyboard freed and no attention key where the keyboard is restored
@@ -71,7 +70,7 @@ finished wcc v w =
       cells = w.cells;
       cursor = w.cursor;
       lock = if restores wcc then Free else v.lock;
-      aid = if restores wcc then 0x60 else v.aid
+      aid = if restores wcc then 0x60 else v.aid;
     }
 
 -- the rest of the orders, unless the first is at fault

@@ -92,7 +92,7 @@ fn next_field<C: Cells>(cells: &C, from: u32) -> Option<FieldAt>
     ensures first { MatchOption result
         (attributes_from (C.content cells.now) from ≡ [])
         (λ field. (attributes_from (C.content cells.now) from ≡ field.at ∷ attributes_from (C.content cells.now) (field.at + 1))
-            × (field ≡ field_at (C.content cells.now) field.at)) }
+        × (field ≡ field_at (C.content cells.now) field.at)) }
     ensures small { IfSome result (λ field. field.at + 1 < 2 ^ 32) }
 {
     'places: for at in from..cells.len() {

@@ -13,6 +13,7 @@ mod records;
 mod refused;
 mod ring;
 mod screen;
+mod shown;
 mod state;
 mod tab;
 mod wcc;

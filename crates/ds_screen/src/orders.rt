@@ -47,7 +47,11 @@ fn stored<C: Cells>(cells: &mut C, state: State, cell: Cell, nulling: bool) -> S
     ensures room { C.capacity cells.new ≡ C.capacity cells.old }
 {
     let address = store(cells, state.address, cell);
-    State { cursor: state.cursor, address, nulling }
+    State {
+        cursor: state.cursor,
+        address,
+        nulling,
+    }
 }
 
 /// Does one order.
@@ -61,11 +65,19 @@ pub(crate) fn act<C: Cells>(cells: &mut C, state: State, order: &Order<'_>) -> R
     ensures whole { OnOk result (length (C.content cells.new) ≡ length (C.content cells.old)) }
     ensures room { C.capacity cells.new ≡ C.capacity cells.old }
 {
-    let State { cursor, address: b, nulling: _ } = state;
+    let State {
+        cursor,
+        address: b,
+        nulling: _,
+    } = state;
     match order {
         Order::Text(run) => {
             let address = put_run(cells, b, run);
-            Ok(State { cursor, address, nulling: true })
+            Ok(State {
+                cursor,
+                address,
+                nulling: true,
+            })
         }
         Order::Sf(attribute) => Ok(stored(cells, state, Cell::Field(*attribute), false)),
         Order::Sfe(pairs) => {
@@ -74,25 +86,45 @@ pub(crate) fn act<C: Cells>(cells: &mut C, state: State, order: &Order<'_>) -> R
         }
         Order::Sba(address) => {
             let address = position(cells.len(), *address)?;
-            Ok(State { cursor, address, nulling: false })
+            Ok(State {
+                cursor,
+                address,
+                nulling: false,
+            })
         }
-        Order::Sa(_, _) => Ok(State { cursor, address: b, nulling: false }),
+        Order::Sa(_, _) => Ok(State {
+            cursor,
+            address: b,
+            nulling: false,
+        }),
         Order::Mf(pairs) => {
             let before = attribute_at(cells, b)?;
             let attribute = last_attr(pairs).unwrap_or(before);
             Ok(stored(cells, state, Cell::Field(attribute), false))
         }
-        Order::Ic => Ok(State { cursor: b, address: b, nulling: false }),
+        Order::Ic => Ok(State {
+            cursor: b,
+            address: b,
+            nulling: false,
+        }),
         Order::Pt => Ok(program_tab(cells, state)),
         Order::Ra(stop, character) => {
             let address = position(cells.len(), *stop)?;
             repeat(cells, b, address, *character);
-            Ok(State { cursor, address, nulling: false })
+            Ok(State {
+                cursor,
+                address,
+                nulling: false,
+            })
         }
         Order::Eua(stop) => {
             let address = position(cells.len(), *stop)?;
             erase(cells, b, address);
-            Ok(State { cursor, address, nulling: false })
+            Ok(State {
+                cursor,
+                address,
+                nulling: false,
+            })
         }
         Order::Ge(code) => {
             let character = Char::new(*code, true).unwrap();

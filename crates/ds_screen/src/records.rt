@@ -17,7 +17,11 @@ use crate::wcc::resets_modified;
 use ds_codec::{Cell, Command, Geometry, Record, Size};
 
 /// Does the orders in turn, up to the first that is at fault.
-pub(crate) fn run_orders<C: Cells>(cells: &mut C, start: State, record: &Record<'_>) -> Result<State, Refused>
+pub(crate) fn run_orders<C: Cells>(
+    cells: &mut C,
+    start: State,
+    record: &Record<'_>,
+) -> Result<State, Refused>
     requires { IsInside (C.content cells.old) start }
     ensures done { IfOk result (λ end. acts record.now.orders (writing (C.content cells.old) start) ≡ Ok (writing (C.content cells.new) end)) }
     ensures inside { IfOk result (IsInside (C.content cells.new)) }
@@ -118,7 +122,13 @@ pub(crate) struct Base {
 
 /// Puts into the spare buffer what a write begins with: the cells as they are, or nulls of a size. `None`
 /// for a command that is no write.
-pub(crate) fn prepare<C: Cells>(spare: &mut C, cells: &C, geometry: &Geometry, now: Base, command: Command) -> Option<Base>
+pub(crate) fn prepare<C: Cells>(
+    spare: &mut C,
+    cells: &C,
+    geometry: &Geometry,
+    now: Base,
+    command: Command,
+) -> Option<Base>
     requires whole { length (C.content cells.now) ≡ cells_of now.size }
     requires inside { now.cursor < cells_of now.size }
     requires fits { cells_of now.size ≤ C.capacity spare.old }
@@ -126,7 +136,7 @@ pub(crate) fn prepare<C: Cells>(spare: &mut C, cells: &C, geometry: &Geometry, n
     ensures start { MatchOption result
         (start_of geometry.now now.size (C.content cells.now) now.cursor command ≡ None)
         (λ base. start_of geometry.now now.size (C.content cells.now) now.cursor command
-            ≡ Some (record { wcc = base.wcc; size = base.size; cells = C.content spare.new; cursor = base.cursor })) }
+        ≡ Some (record { wcc = base.wcc; size = base.size; cells = C.content spare.new; cursor = base.cursor })) }
     ensures whole { IfSome result (λ base. length (C.content spare.new) ≡ cells_of base.size) }
     ensures inside { IfSome result (λ base. base.cursor < cells_of base.size) }
     ensures room { C.capacity spare.new ≡ C.capacity spare.old }
@@ -134,17 +144,29 @@ pub(crate) fn prepare<C: Cells>(spare: &mut C, cells: &C, geometry: &Geometry, n
     match command {
         Command::Write(wcc) => {
             spare.copy_from(cells);
-            Some(Base { wcc, size: now.size, cursor: now.cursor })
+            Some(Base {
+                wcc,
+                size: now.size,
+                cursor: now.cursor,
+            })
         }
         Command::EraseWrite(wcc) => {
             let size = geometry.default_size();
             spare.clear(size.cells());
-            Some(Base { wcc, size, cursor: 0 })
+            Some(Base {
+                wcc,
+                size,
+                cursor: 0,
+            })
         }
         Command::EraseWriteAlternate(wcc) => {
             let size = geometry.alternate_size();
             spare.clear(size.cells());
-            Some(Base { wcc, size, cursor: 0 })
+            Some(Base {
+                wcc,
+                size,
+                cursor: 0,
+            })
         }
         Command::EraseAllUnprotected
         | Command::ReadBuffer
@@ -155,7 +177,12 @@ pub(crate) fn prepare<C: Cells>(spare: &mut C, cells: &C, geometry: &Geometry, n
 }
 
 /// Resets modified data tags where the write control character asks for it, and does the orders.
-pub(crate) fn write_orders<C: Cells>(cells: &mut C, wcc: u8, cursor: u32, record: &Record<'_>) -> Result<State, Refused>
+pub(crate) fn write_orders<C: Cells>(
+    cells: &mut C,
+    wcc: u8,
+    cursor: u32,
+    record: &Record<'_>,
+) -> Result<State, Refused>
     requires { cursor < length (C.content cells.old) }
     ensures done { IfOk result (λ end. acts record.now.orders (begun wcc (C.content cells.old) cursor) ≡ Ok (writing (C.content cells.new) end)) }
     ensures inside { IfOk result (IsInside (C.content cells.new)) }
@@ -166,6 +193,10 @@ pub(crate) fn write_orders<C: Cells>(cells: &mut C, wcc: u8, cursor: u32, record
     if resets_modified(wcc) {
         reset_modified(cells, Reset::Every);
     }
-    let start = State { cursor, address: cursor, nulling: false };
+    let start = State {
+        cursor,
+        address: cursor,
+        nulling: false,
+    };
     run_orders(cells, start, record)
 }

@@ -5,8 +5,9 @@ use crate::effect::Effect;
 use crate::fields::Fields;
 use crate::lock::Lock;
 use crate::records::{Base, clear_unprotected, prepare, write_orders};
-use crate::wcc::{aid_after, lock_after, told};
 use crate::refused::{Refused, Why};
+use crate::shown::row_text;
+use crate::wcc::{aid_after, lock_after, told};
 use ds_codec::{Aid, Attr, Cell, Char, Command, Geometry, Record, Size};
 use std::alloc::{AllocError, Global};
 use std::marker::Model;
@@ -39,11 +40,12 @@ impl<C: Cells> Model for Screen<C> {
 }
 
 impl<C: Cells> Screen<C> {
-    ghost use Rattle.std.specs.Prelude.{◌≡◌, ◌<◌, true, length, slice_set, IfOk, IfErr, OnOk, OnErr};
+    ghost use Rattle.std.specs.Prelude.{◌≡◌, ◌<◌, true, length, slice_set, string_bytes, IfOk, IfErr, OnOk, OnErr};
     ghost use Rattle.ds_codec.specs.declared.cell.Cell.{Cell};
     ghost use Rattle.ds_codec.specs.Geometry.{cells_of};
     ghost use Rattle.ds_screen.specs.Picture.{Picture, IsSound, cell_at};
     ghost use Rattle.ds_screen.specs.Fields.{is_attribute, fields_of};
+    ghost use Rattle.ds_screen.specs.Shown.{printed_row};
     ghost use Rattle.ds_screen.specs.Records.{new_picture, erased, told_of, RecordShows, IsRefusedBy};
 
     /// A new terminal of this geometry: nulls of the default size, the cursor at 0, the keyboard waiting
@@ -120,6 +122,16 @@ impl<C: Cells> Screen<C> {
         Fields::new(&self.cells)
     }
 
+    /// The text of a row, counted from 0: `@` for an attribute, `.` for a null, `*` for another character of
+    /// a hidden field, else the character of its code, `?` where it has none.
+    pub fn shown_row(&self, alloc: Global, row: u16) -> Result<String, AllocError>
+        requires { row < self.now.size.rows }
+        ensures { IfOk result (λ text. string_bytes text ≡ printed_row self.now row) }
+    {
+        let columns = u32::from(self.size.cols);
+        row_text(alloc, &self.cells, u32::from(row) * columns, columns)
+    }
+
     /// Stores a character.
     pub fn put_char(&mut self, p: u32, character: Char)
         requires { p < length self.old.cells }
@@ -184,11 +196,21 @@ impl<C: Cells> Screen<C> {
             self.cursor = clear_unprotected(&mut self.cells);
             self.lock = Lock::Free;
             self.aid = Aid::none();
-            return Ok(Effect { alarm: false, restored: true });
+            return Ok(Effect {
+                alarm: false,
+                restored: true,
+            });
         }
-        let now = Base { wcc: 0, size: self.size, cursor: self.cursor };
+        let now = Base {
+            wcc: 0,
+            size: self.size,
+            cursor: self.cursor,
+        };
         let Some(base) = prepare(&mut self.spare, &self.cells, &self.geometry, now, command) else {
-            return Err(Refused { at: 0, why: Why::NotAWrite });
+            return Err(Refused {
+                at: 0,
+                why: Why::NotAWrite,
+            });
         };
         let end = write_orders(&mut self.spare, base.wcc, base.cursor, record)?;
         swap(&mut self.cells, &mut self.spare);

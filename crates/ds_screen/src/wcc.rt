@@ -37,12 +37,20 @@ pub(crate) fn told(wcc: u8) -> Effect
 pub(crate) fn lock_after(wcc: u8, lock: Lock) -> Lock
     ensures { result ≡ (if restores wcc then Free else lock) }
 {
-    if restores_keyboard(wcc) { Lock::Free } else { lock }
+    if restores_keyboard(wcc) {
+        Lock::Free
+    } else {
+        lock
+    }
 }
 
 /// The attention identifier after a write.
 pub(crate) fn aid_after(wcc: u8, aid: Aid) -> Aid
     ensures { result ≡ (if restores wcc then 0x60 else aid) }
 {
-    if restores_keyboard(wcc) { Aid::none() } else { aid }
+    if restores_keyboard(wcc) {
+        Aid::none()
+    } else {
+        aid
+    }
 }

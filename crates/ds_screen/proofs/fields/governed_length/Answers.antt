@@ -9,4 +9,4 @@ returns-in-Some g c =
 pub returns-in-None : goal.returns-in-None
 returns-in-None g c =
     absurd (never_none (g.C.Cells.content c.args.cells.now) c.args.at c.len-n.result c.next-place.result
-      c.requires.inside c.requires.there c.len-n.ensures c.next-place.ensures.on c.in-None.ensures.nearest)
+    c.requires.inside c.requires.there c.len-n.ensures c.next-place.ensures.on c.in-None.ensures.nearest)

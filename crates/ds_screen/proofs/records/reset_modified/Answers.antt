@@ -27,8 +27,8 @@ places-preserved g c =
     let reads : c.cell.result ≡ cell_at old p = c.cell.ensures ∙ walk_sees old 0 p p (λ q. after_reset c.args.which (cell_at old q)) now some lt (on_from_zero (length old) p lt) c.places.invariant.stored in
     let says : after_reset c.args.which (cell_at old p) ≡ c.reset_cell-cell.result = ap (after_reset c.args.which) (sym reads) ∙ sym c.reset_cell-cell.ensures in
     let stored : after ≡ ruled (length old) (walked_cell old 0 (p + 1) (λ q. after_reset c.args.which (cell_at old q))) =
-          walk_step old 0 p p (λ q. after_reset c.args.which (cell_at old q)) true c.reset_cell-cell.result now after some lt
-          (on_from_zero (length old) p lt) c.places.invariant.stored says c.put.ensures.stored in
+    walk_step old 0 p p (λ q. after_reset c.args.which (cell_at old q)) true c.reset_cell-cell.result now after some lt
+    (on_from_zero (length old) p lt) c.places.invariant.stored says c.put.ensures.stored in
     record {
       stored = stored;
       whole = length_walked old 0 (p + 1) (λ q. after_reset c.args.which (cell_at old q)) after stored;

@@ -1,4 +1,4 @@
-use Rattle.std.proofs.Common.{◌≡◌, List, [], ◌∷◌, length, refl, sym, ◌∙◌, ap, subst}
+use Rattle.std.proofs.Common.{◌≡◌, [], ◌∷◌, refl, sym, ◌∙◌, ap, subst}
 use Rattle.ds_codec.specs.Order.{Site, site_of}
 use Rattle.ds_screen.specs.Orders.{Writing}
 use Rattle.ds_screen.specs.Records.{acts}

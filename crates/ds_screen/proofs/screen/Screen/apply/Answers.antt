@@ -1,5 +1,4 @@
-use Rattle.std.proofs.Common.{◌≡◌, ◌∙◌, sym, ap, List}
-use Rattle.ds_codec.specs.declared.cell.Cell.{Cell}
+use Rattle.std.proofs.Common.{◌∙◌, ap}
 use Rattle.std.proofs.lemmas.Result.{err_from_is_err_and}
 use Rattle.ds_screen.specs.Picture.{Picture}
 use Rattle.ds_screen.specs.Orders.{Writing}
@@ -25,7 +24,7 @@ returns-in_err-end-clause-refused g c =
     let start : Start = record { wcc = c.in-Some.base.wcc; size = c.in-Some.base.size; cells = g.C.Cells.content c.prepare.new.spare; cursor = c.in-Some.base.cursor } in
     let p = err_from_is_err_and c.from_residual.result c.from_residual.ensures.1 in
     let refused = order_refused c.self.inside.geometry c.self.inside.size (g.C.Cells.content c.self.inside.cells) c.self.inside.cursor c.self.inside.lock c.self.inside.aid
-          c.args.self.now c.args.record.now c.command-command.result start c.in_err-end.field-0.0 c.self.view_is c.command-command.ensures c.in-Some.ensures.start c.in_err-end.ensures.refused in
+    c.args.self.now c.args.record.now c.command-command.result start c.in_err-end.field-0.0 c.self.view_is c.command-command.ensures c.in-Some.ensures.start c.in_err-end.ensures.refused in
     rw (p.1, p.2) refused
 
 pub returns-clause-shows : goal.returns-clause-shows
@@ -37,4 +36,4 @@ returns-clause-shows g c =
     write_shows c.self.inside.geometry c.self.inside.size (g.C.Cells.content c.self.inside.cells) c.self.inside.cursor c.self.inside.lock c.self.inside.aid
     c.args.self.now c.args.record.now c.command-command.result start w after c.self.view_is c.command-command.ensures c.in-Some.ensures.start c.in_ok-end.ensures.done
     (ap (λ x. picture c.self.inside.geometry c.in-Some.base.size (g.C.Cells.content x) c.in_ok-end.end.cursor c.lock_after-self-inside.result c.aid_after-self-inside.result) c.swap.ensures.x_after
-     ∙ write_ends start.wcc (based before start) w c.lock_after-self-inside.result c.aid_after-self-inside.result c.lock_after-self-inside.ensures c.aid_after-self-inside.ensures)
+    ∙ write_ends start.wcc (based before start) w c.lock_after-self-inside.result c.aid_after-self-inside.result c.lock_after-self-inside.ensures c.aid_after-self-inside.ensures)
