@@ -1,13 +1,13 @@
 -- Which attribute is nearest.
-use Rattle.std.proofs.Common.{◌≡◌, ◌≢◌, ℕ, zero, suc, ◌+◌, ◌-◌, ◌<◌, ◌≤◌, ◌⊎◌, Bool, true, false, cond, List, length, Option, Some, None, refl, sym, ◌∙◌, ap, subst, arith, inl, inr, add-one}
+use Rattle.std.proofs.Common.{◌≡◌, ℕ, zero, suc, ◌+◌, ◌<◌, ◌≤◌, true, false, List, length, Some, None, refl, sym, ◌∙◌, ap, subst, arith, inl, inr, add-one}
 use Rattle.std.specs.Option.{option_map}
-use Rattle.std.proofs.lemmas.Bool.{cond-true, cond-false, cases_lt, cases_eq, cases_Bool, false≢true}
+use Rattle.std.proofs.lemmas.Bool.{cases_lt, cases_Bool, false≢true}
 use Rattle.ds_codec.specs.declared.cell.Cell.{Cell}
 use Rattle.ds_codec.specs.declared.cell.Cell.TheVariants.{Field, Char}
 use Rattle.ds_screen.specs.Ring.{ring_on, ring_back, least}
 use Rattle.ds_screen.specs.Picture.{cell_at}
 use Rattle.ds_screen.specs.Fields.{is_attribute, bits_of, bits_at, attribute_before, attribute_from, ruling_bits, ruling_after}
-use Rattle.ds_screen.proofs.RingLaws.{least_at, least_none, back_cases, back-zero, IsFound, search_cases}
+use Rattle.ds_screen.proofs.RingLaws.{least_at, least_none, back_cases, back-zero, search_cases}
 
 pub before_found : (cells : List Cell) (n p d at : ℕ) → n ≡ length cells → d < n → at ≡ ring_back n p d
     → ((e : ℕ) → e < d → is_attribute (cell_at cells (ring_back n p e)) ≡ false) → is_attribute (cell_at cells at) ≡ true
@@ -15,7 +15,7 @@ pub before_found : (cells : List Cell) (n p d at : ℕ) → n ≡ length cells �
 unfolding attribute_before
 before_found cells n p d at len lt here misses hit =
     let found : least n (λ e. is_attribute (cell_at cells (ring_back n p e))) ≡ Some d =
-          least_at n d (λ e. is_attribute (cell_at cells (ring_back n p e))) lt misses (ap (λ q. is_attribute (cell_at cells q)) (sym here) ∙ hit) in
+    least_at n d (λ e. is_attribute (cell_at cells (ring_back n p e))) lt misses (ap (λ q. is_attribute (cell_at cells q)) (sym here) ∙ hit) in
     let P : ℕ → Type 0 = λ m. Some at ≡ option_map (ring_back m p) (least m (λ e. is_attribute (cell_at cells (ring_back m p e)))) in
     subst P len (ap (λ q. Some q) here ∙ sym (ap (option_map (ring_back n p)) found))
 
@@ -32,7 +32,7 @@ pub from_found : (cells : List Cell) (n p d at : ℕ) → n ≡ length cells →
 unfolding attribute_from
 from_found cells n p d at len lt here misses hit =
     let found : least n (λ e. is_attribute (cell_at cells (ring_on n p e))) ≡ Some d =
-          least_at n d (λ e. is_attribute (cell_at cells (ring_on n p e))) lt misses (ap (λ q. is_attribute (cell_at cells q)) (sym here) ∙ hit) in
+    least_at n d (λ e. is_attribute (cell_at cells (ring_on n p e))) lt misses (ap (λ q. is_attribute (cell_at cells q)) (sym here) ∙ hit) in
     let P : ℕ → Type 0 = λ m. Some at ≡ option_map (ring_on m p) (least m (λ e. is_attribute (cell_at cells (ring_on m p e)))) in
     subst P len (ap (λ q. Some q) here ∙ sym (ap (option_map (ring_on n p)) found))
 
@@ -48,11 +48,14 @@ back_steps : (n at d : ℕ) → at < n → d < n → ring_back n (ring_back n at
 back_steps n at d inside few =
     elim (back_cases n at 1) [
       | inl a ↦ elim (back_cases n (ring_back n at 1) d) [
-          | inl b ↦ elim (back_cases n at (d + 1)) [ inl c ↦ omega arith | inr c ↦ omega arith ]
-          | inr b ↦ elim (back_cases n at (d + 1)) [ inl c ↦ omega arith | inr c ↦ omega arith ] ]
+        | inl b ↦ elim (back_cases n at (d + 1)) [ inl c ↦ omega arith | inr c ↦ omega arith ]
+        | inr b ↦ elim (back_cases n at (d + 1)) [ inl c ↦ omega arith | inr c ↦ omega arith ]
+      ]
       | inr a ↦ elim (back_cases n (ring_back n at 1) d) [
-          | inl b ↦ elim (back_cases n at (d + 1)) [ inl c ↦ omega arith | inr c ↦ omega arith ]
-          | inr b ↦ elim (back_cases n at (d + 1)) [ inl c ↦ omega arith | inr c ↦ omega arith ] ] ]
+        | inl b ↦ elim (back_cases n at (d + 1)) [ inl c ↦ omega arith | inr c ↦ omega arith ]
+        | inr b ↦ elim (back_cases n at (d + 1)) [ inl c ↦ omega arith | inr c ↦ omega arith ]
+      ]
+    ]
 
 round_back : (n at d : ℕ) → at < n → d + 1 ≡ n → ring_back n (ring_back n at 1) d ≡ at
 round_back n at d inside all =
@@ -76,7 +79,7 @@ before_back cells at inside here =
           elim (cases_lt (found.0 + 1) n) [
             | inl lt ↦
                 sym (before_found cells n at (found.0 + 1) (ring_back n back found.0) refl lt (back_steps n at found.0 inside found.1.inside)
-                      (λ d below. not_here cells at found.0 inside here found.1.misses (omega (arith, found.1.inside)) d below (omega (arith, found.1.inside))) found.1.hit)
+                (λ d below. not_here cells at found.0 inside here found.1.misses (omega (arith, found.1.inside)) d below (omega (arith, found.1.inside))) found.1.hit)
                 ∙ before_found cells n back found.0 (ring_back n back found.0) refl found.1.inside refl found.1.misses found.1.hit
             | inr round ↦
                 let last : found.0 + 1 ≡ n = omega (arith, found.1.inside) in

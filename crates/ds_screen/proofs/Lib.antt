@@ -4,4 +4,8 @@ pub mod RuledLaws
 pub mod RunLaws
 pub mod EraseLaws
 pub mod TabLaws
+pub mod ActLaws
+pub mod ShowLaws
+pub mod SpanLaws
+pub mod PrintLaws
 pub mod Rows

@@ -1,8 +1,8 @@
 -- Steps and distances on the ring, and what a search finds.
-use Rattle.std.proofs.Common.{◌≡◌, ◌≢◌, ℕ, zero, suc, ◌+◌, ◌-◌, ◌<◌, ◌≤◌, ◌⊎◌, Bool, true, false, cond, leb, ltb, eqb, Option, Some, None, refl, sym, ◌∙◌, ap, arith, inl, inr}
+use Rattle.std.proofs.Common.{◌≡◌, ℕ, zero, suc, ◌+◌, ◌-◌, ◌<◌, ◌≤◌, ◌⊎◌, Bool, true, false, leb, ltb, Some, None, refl, ◌∙◌, ap, arith, inl, inr}
 use Rattle.std.specs.Option.{option_map}
-use Rattle.std.proofs.lemmas.Bool.{le-leb, lt-leb, lt-ltb, le-ltb, cond-true, cond-false, cases_lt, cases_eq, cases_Bool, ltb-true, ltb-false}
-use Rattle.ds_screen.specs.Ring.{ring_on, ring_back, ring_distance, least, greatest}
+use Rattle.std.proofs.lemmas.Bool.{le-leb, lt-leb, lt-ltb, le-ltb, cond-true, cond-false, cases_lt, cases_Bool}
+use Rattle.ds_screen.specs.Ring.{ring_on, ring_back, ring_distance, least}
 
 pub on_inside : (n p d : ℕ) → p + d < n → ring_on n p d ≡ p + d
 unfolding ring_on
@@ -54,21 +54,27 @@ pub on_more : (n p d : ℕ) → p < n → d < n → ring_on n (ring_on n p d) 1 
 on_more n p d inside few =
     elim (on_cases n p d) [
       | inl a ↦ elim (on_cases n (ring_on n p d) 1) [
-          | inl b ↦ elim (on_cases n p (d + 1)) [ inl c ↦ omega arith | inr c ↦ omega arith ]
-          | inr b ↦ elim (on_cases n p (d + 1)) [ inl c ↦ omega arith | inr c ↦ omega arith ] ]
+        | inl b ↦ elim (on_cases n p (d + 1)) [ inl c ↦ omega arith | inr c ↦ omega arith ]
+        | inr b ↦ elim (on_cases n p (d + 1)) [ inl c ↦ omega arith | inr c ↦ omega arith ]
+      ]
       | inr a ↦ elim (on_cases n (ring_on n p d) 1) [
-          | inl b ↦ elim (on_cases n p (d + 1)) [ inl c ↦ omega arith | inr c ↦ omega arith ]
-          | inr b ↦ elim (on_cases n p (d + 1)) [ inl c ↦ omega arith | inr c ↦ omega arith ] ] ]
+        | inl b ↦ elim (on_cases n p (d + 1)) [ inl c ↦ omega arith | inr c ↦ omega arith ]
+        | inr b ↦ elim (on_cases n p (d + 1)) [ inl c ↦ omega arith | inr c ↦ omega arith ]
+      ]
+    ]
 
 pub back_more : (n p d : ℕ) → p < n → d < n → ring_back n (ring_back n p d) 1 ≡ ring_back n p (d + 1)
 back_more n p d inside few =
     elim (back_cases n p d) [
       | inl a ↦ elim (back_cases n (ring_back n p d) 1) [
-          | inl b ↦ elim (back_cases n p (d + 1)) [ inl c ↦ omega arith | inr c ↦ omega arith ]
-          | inr b ↦ elim (back_cases n p (d + 1)) [ inl c ↦ omega arith | inr c ↦ omega arith ] ]
+        | inl b ↦ elim (back_cases n p (d + 1)) [ inl c ↦ omega arith | inr c ↦ omega arith ]
+        | inr b ↦ elim (back_cases n p (d + 1)) [ inl c ↦ omega arith | inr c ↦ omega arith ]
+      ]
       | inr a ↦ elim (back_cases n (ring_back n p d) 1) [
-          | inl b ↦ elim (back_cases n p (d + 1)) [ inl c ↦ omega arith | inr c ↦ omega arith ]
-          | inr b ↦ elim (back_cases n p (d + 1)) [ inl c ↦ omega arith | inr c ↦ omega arith ] ] ]
+        | inl b ↦ elim (back_cases n p (d + 1)) [ inl c ↦ omega arith | inr c ↦ omega arith ]
+        | inr b ↦ elim (back_cases n p (d + 1)) [ inl c ↦ omega arith | inr c ↦ omega arith ]
+      ]
+    ]
 
 -- the first hit of a search
 pub least_at : (n k : ℕ) (test : ℕ → Bool) → k < n → ((d : ℕ) → d < k → test d ≡ false) → test k ≡ true → least n test ≡ Some k
@@ -110,9 +116,9 @@ search_cases (suc n) test =
     elim (cases_Bool (test 0)) [
       | inl hit ↦ inl (0, record { inside = omega arith; misses = λ d below. absurd (omega arith); hit = hit })
       | inr first ↦ elim (search_cases n (λ d. test (suc d))) [
-          | inl found ↦ inl (suc found.0, found_later n test found.0 first found.1)
-          | inr none ↦ inr (none_later n test first none)
-        ]
+        | inl found ↦ inl (suc found.0, found_later n test found.0 first found.1)
+        | inr none ↦ inr (none_later n test first none)
+      ]
     ]
 
 pub least_found : (n : ℕ) (test : ℕ → Bool) (k : ℕ) → IsFound n test k → least n test ≡ Some k

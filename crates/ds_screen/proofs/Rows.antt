@@ -1,18 +1,16 @@
 -- Worked rows, computed: the definitions say what the data stream's book says.
-use Rattle.std.proofs.Common.{◌≡◌, ℕ, ◌+◌, List, [], ◌∷◌, ◌++◌, Bool, true, false, Result, Ok, Err, replicate, map, refl}
+use Rattle.std.proofs.Common.{◌≡◌, ℕ, List, [], ◌∷◌, false, Ok, Err, replicate, refl}
 use Rattle.ds_codec.specs.declared.cell.Cell.{Cell}
 use Rattle.ds_codec.specs.declared.cell.Cell.TheVariants.{Field, Char}
-use Rattle.ds_codec.specs.declared.size.Size.{Size}
 use Rattle.ds_codec.specs.declared.size.Mode.TheVariants.{Bits14}
 use Rattle.ds_codec.specs.declared.command.Command.TheVariants.{Write, EraseWrite, EraseAllUnprotected, ReadModified}
 use Rattle.ds_codec.specs.Character.{glyph}
-use Rattle.ds_codec.specs.Order.{Item, Site, text, start_field, start_field_extended, set_buffer_address, modify_field, insert_cursor, program_tab, repeat_to_address, erase_unprotected_to_address, graphic_escape, last_attribute}
+use Rattle.ds_codec.specs.Order.{Item, Site, text, start_field, start_field_extended, set_buffer_address, modify_field, insert_cursor, program_tab, repeat_to_address, erase_unprotected_to_address}
 use Rattle.ds_screen.specs.declared.lock.Lock.TheVariants.{Waiting, Free}
 use Rattle.ds_screen.specs.declared.refused.Why.TheVariants.{AddressOutside, NoFieldHere, NotAWrite}
-use Rattle.ds_screen.specs.declared.refused.Refused.{Refused}
 use Rattle.ds_screen.specs.Ring.{ring_on, ring_back, ring_distance, least, greatest}
-use Rattle.ds_screen.specs.Picture.{Picture, blank, cell_at, ruled}
-use Rattle.ds_screen.specs.Fields.{attribute_before, attribute_from, span_of, fields_of}
+use Rattle.ds_screen.specs.Picture.{Picture, blank, ruled}
+use Rattle.ds_screen.specs.Fields.{attribute_before, span_of, fields_of}
 use Rattle.ds_screen.specs.Orders.{text_cell, single_cell, repeated_cell, erased_cell, nulled_cell, first_from, effect_of, fault_of}
 use Rattle.ds_screen.specs.Records.{acts, cleared_cell, shown_of}
 
@@ -27,7 +25,7 @@ new rows cols =
       cells = [];
       cursor = 0;
       lock = Waiting;
-      aid = 0x60
+      aid = 0x60;
     }
 
 abbrev plain : ℕ → Cell
@@ -44,7 +42,7 @@ shown_form =
     record (new 2 10) {
       cells = Field 0x20 ∷ plain 0xC1 ∷ Field 0 ∷ blank ∷ blank ∷ blank ∷ Field 0x30 ∷ replicate 13 blank;
       cursor = 3;
-      lock = Free
+      lock = Free;
     }
 
 form_shows : shown_of (new 2 10) (EraseWrite 0xC2) form ≡ Ok shown_form
@@ -70,8 +68,8 @@ modifies = refl
 
 -- text, and a tab that nulls up to the next attribute; then nothing unprotected is ahead
 tabs : shown_of shown_form (Write 0xC2)
-      (site 2 (set_buffer_address 3) ∷ site 5 (text (0xC5 ∷ 0xC6 ∷ 0xC7 ∷ [])) ∷ site 8 (set_buffer_address 3) ∷ site 11 (text (0xC5 ∷ []))
-       ∷ site 12 program_tab ∷ site 13 insert_cursor ∷ [])
+    (site 2 (set_buffer_address 3) ∷ site 5 (text (0xC5 ∷ 0xC6 ∷ 0xC7 ∷ [])) ∷ site 8 (set_buffer_address 3) ∷ site 11 (text (0xC5 ∷ []))
+    ∷ site 12 program_tab ∷ site 13 insert_cursor ∷ [])
     ≡ Ok (record shown_form { cells = Field 0x20 ∷ plain 0xC1 ∷ Field 0 ∷ plain 0xC5 ∷ blank ∷ blank ∷ Field 0x30 ∷ replicate 13 blank; cursor = 0 })
 unfolding shown_of acts effect_of fault_of ruled single_cell text_cell nulled_cell first_from least greatest ring_on
 tabs = refl
@@ -84,7 +82,7 @@ repeats = refl
 
 -- erasing goes round and spares what is protected
 erases : shown_of shown_form (Write 0xC2)
-      (site 2 (set_buffer_address 3) ∷ site 5 (text (0xC5 ∷ 0xC6 ∷ [])) ∷ site 7 (erase_unprotected_to_address 4) ∷ [])
+    (site 2 (set_buffer_address 3) ∷ site 5 (text (0xC5 ∷ 0xC6 ∷ [])) ∷ site 7 (erase_unprotected_to_address 4) ∷ [])
     ≡ Ok (record shown_form { cells = Field 0x20 ∷ plain 0xC1 ∷ Field 0 ∷ blank ∷ plain 0xC6 ∷ blank ∷ Field 0x30 ∷ replicate 13 blank })
 unfolding shown_of acts effect_of fault_of ruled text_cell erased_cell attribute_before least greatest ring_on ring_back ring_distance
 erases = refl

@@ -1,7 +1,6 @@
 -- Buffers that a rule says.
-use Rattle.std.proofs.Common.{◌≡◌, ◌≢◌, ℕ, zero, suc, ◌+◌, ◌-◌, ◌<◌, ◌≤◌, ◌⊎◌, Bool, true, false, cond, ltb, List, length, map, get_or, set, refl, sym, ◌∙◌, ap, subst, arith, inl, inr, get_or-set_same, get_or-set_other}
-use Rattle.std.specs.List.{range_with_len}
-use Rattle.std.proofs.lemmas.Bool.{cond-true, cond-false, cases_lt, cases_eq, cases_Bool, lt-ltb, le-ltb}
+use Rattle.std.proofs.Common.{◌≡◌, ◌≢◌, ℕ, ◌+◌, ◌-◌, ◌<◌, Bool, true, false, cond, ltb, List, length, get_or, set, refl, sym, ◌∙◌, ap, arith, inl, inr, get_or-set_same, get_or-set_other}
+use Rattle.std.proofs.lemmas.Bool.{cond-true, cond-false, cases_lt, cases_eq, lt-ltb, le-ltb}
 use Rattle.std.proofs.lemmas.List.{length-set}
 use Rattle.std.proofs.lemmas.List.FromFn.{length-map-range_with_len, get_or-map-range_with_len, fill_by_all}
 use Rattle.ds_codec.specs.declared.cell.Cell.{Cell}
@@ -48,13 +47,15 @@ pub distance_on : (n b k : ℕ) → b < n → k < n → ring_distance n b (ring_
 distance_on n b k inside few =
     elim (on_cases n b k) [
       | inl a ↦ elim (distance_cases n b (ring_on n b k)) [ inl d ↦ omega arith | inr d ↦ omega arith ]
-      | inr a ↦ elim (distance_cases n b (ring_on n b k)) [ inl d ↦ omega arith | inr d ↦ omega arith ] ]
+      | inr a ↦ elim (distance_cases n b (ring_on n b k)) [ inl d ↦ omega arith | inr d ↦ omega arith ]
+    ]
 
 pub on_distance : (n b p : ℕ) → b < n → p < n → ring_on n b (ring_distance n b p) ≡ p
 on_distance n b p inside lt =
     elim (distance_cases n b p) [
       | inl d ↦ elim (on_cases n b (ring_distance n b p)) [ inl a ↦ omega arith | inr a ↦ omega arith ]
-      | inr d ↦ elim (on_cases n b (ring_distance n b p)) [ inl a ↦ omega arith | inr a ↦ omega arith ] ]
+      | inr d ↦ elim (on_cases n b (ring_distance n b p)) [ inl a ↦ omega arith | inr a ↦ omega arith ]
+    ]
 
 apart_distance : (n b k p : ℕ) → b < n → p < n → p ≢ ring_on n b k → ring_distance n b p ≢ k
 apart_distance n b k p inside lt apart same = apart (sym (on_distance n b p inside lt) ∙ ap (ring_on n b) same)
@@ -89,7 +90,7 @@ walk_elsewhere cells b k f p inside lt apart =
 -- the walk writes at its place, or leaves what is right already
 pub walk_writes : (cells : List Cell) (b k : ℕ) (f : ℕ → Cell) → b < length cells → k < length cells
     → set (ruled (length cells) (walked_cell cells b k f)) (ring_on (length cells) b k) (f (ring_on (length cells) b k))
-      ≡ ruled (length cells) (walked_cell cells b (k + 1) f)
+    ≡ ruled (length cells) (walked_cell cells b (k + 1) f)
 walk_writes cells b k f inside few =
     set-ruled (length cells) (walked_cell cells b k f) (walked_cell cells b (k + 1) f) (ring_on (length cells) b k) (f (ring_on (length cells) b k))
     (on_lt (length cells) b k inside (omega arith)) (walk_here cells b k f inside few)
@@ -140,5 +141,26 @@ pub place_before : (n m at next : ℕ) → at < n → m ≡ n → next ≡ ring_
 place_before n m at next inside len on =
     ap (λ q. ring_back n q 1) (on ∙ ap (λ z. ring_on z at 1) len)
     ∙ elim (on_cases n at 1) [
-        | inl a ↦ elim (back_cases n (ring_on n at 1) 1) [ inl c ↦ omega arith | inr c ↦ omega arith ]
-        | inr a ↦ elim (back_cases n (ring_on n at 1) 1) [ inl c ↦ omega arith | inr c ↦ omega arith ] ]
+      | inl a ↦ elim (back_cases n (ring_on n at 1) 1) [ inl c ↦ omega arith | inr c ↦ omega arith ]
+      | inr a ↦ elim (back_cases n (ring_on n at 1) 1) [ inl c ↦ omega arith | inr c ↦ omega arith ]
+    ]
+
+pub distance_lt : (n b p : ℕ) → b < n → p < n → ring_distance n b p < n
+distance_lt n b p inside lt = elim (distance_cases n b p) [ inl c ↦ omega arith | inr c ↦ omega arith ]
+
+-- a walk over the whole ring
+pub walk_all : (cells : List Cell) (b : ℕ) (f : ℕ → Cell) → ((p : ℕ) → p < length cells → b < length cells)
+    → ruled (length cells) (walked_cell cells b (length cells) f) ≡ ruled (length cells) f
+walk_all cells b f inside =
+    ruled_same (length cells) (walked_cell cells b (length cells) f) f
+    (λ p lt. cond-true (ltb (ring_distance (length cells) b p) (length cells)) _ _ (lt-ltb _ _ (distance_lt (length cells) b p (inside p lt) lt)))
+
+-- from 0 on the walk stands where it has counted to
+pub on_from_zero : (n p : ℕ) → p < n → p ≡ ring_on n 0 p
+on_from_zero n p lt = elim (on_cases n 0 p) [ inl a ↦ omega arith | inr a ↦ omega arith ]
+
+pub back_to_last : (n m p : ℕ) → 0 < n → m ≡ n → p ≡ m - 1 → ring_back n 0 1 ≡ p
+back_to_last n m p some len is = elim (back_cases n 0 1) [ inl c ↦ omega arith | inr c ↦ omega arith ]
+
+pub back_to_here : (n p : ℕ) → ring_back n (p + 1) 1 ≡ p
+back_to_here n p = elim (back_cases n (p + 1) 1) [ inl c ↦ omega arith | inr c ↦ omega arith ]

@@ -1,8 +1,8 @@
 -- A run of text, byte by byte.
-use Rattle.std.proofs.Common.{◌≡◌, ◌≢◌, ℕ, zero, suc, ◌+◌, ◌-◌, ◌%◌, ◌<◌, ◌≤◌, ◌⊎◌, ◌&&◌, Bool, true, false, cond, eqb, List, [], ◌∷◌, length, set, get_or, Option, Some, None, refl, sym, ◌∙◌, ap, subst, arith, inl, inr, add-one}
+use Rattle.std.proofs.Common.{◌≡◌, ℕ, zero, suc, ◌+◌, ◌%◌, ◌<◌, Bool, true, false, eqb, List, [], ◌∷◌, length, set, get_or, Some, refl, sym, ◌∙◌, ap, arith, inl, inr, add-one}
 use Rattle.std.proofs.Math.Nat.{mod-add-mod, mod-eq_of_lt, mod_self}
 use Rattle.std.specs.List.{list_all}
-use Rattle.std.proofs.lemmas.Bool.{cond-true, cond-false, cases_lt, cases_eq, eq-eqb, ne_eqb, and_parts}
+use Rattle.std.proofs.lemmas.Bool.{cond-true, cond-false, eq-eqb, ne_eqb, and_parts}
 use Rattle.std.proofs.lemmas.Nat.{mod_below}
 use Rattle.ds_codec.specs.declared.cell.Cell.{Cell}
 use Rattle.ds_codec.specs.declared.cell.Cell.TheVariants.{Char}
@@ -11,7 +11,7 @@ use Rattle.ds_screen.specs.Ring.{ring_on, greatest}
 use Rattle.ds_screen.specs.Picture.{cell_at, ruled}
 use Rattle.ds_screen.specs.Orders.{byte_cell, text_cell, single_cell}
 use Rattle.ds_screen.proofs.RingLaws.{on_cases}
-use Rattle.ds_screen.proofs.RuledLaws.{set-ruled, as_ruled, cell_at-ruled}
+use Rattle.ds_screen.proofs.RuledLaws.{set-ruled, as_ruled}
 
 pub mod_next : (n x : ℕ) → 0 < n → ring_on n (x % n) 1 ≡ (x + 1) % n
 mod_next n x some =
@@ -41,7 +41,7 @@ run_none cells b run = as_ruled cells (length cells) (run_cell cells b run 0) re
 
 pub run_more : (cells : List Cell) (b : ℕ) (run : List ℕ) (k : ℕ) → 0 < length cells
     → set (ruled (length cells) (run_cell cells b run k)) ((b + k) % length cells) (Char (glyph (get_or run k 0) false))
-      ≡ ruled (length cells) (run_cell cells b run (k + 1))
+    ≡ ruled (length cells) (run_cell cells b run (k + 1))
 run_more cells b run k some =
     let n : ℕ = length cells in
     let at : ℕ = (b + k) % n in
@@ -72,4 +72,4 @@ single_set cells b c lt =
     let base : cells ≡ ruled (length cells) (cell_at cells) = as_ruled cells (length cells) (cell_at cells) refl (λ p below. refl) in
     ap (λ xs. set xs b c) base
     ∙ set-ruled (length cells) (cell_at cells) (single_cell cells b c) b c lt (cond-true (eqb b b) _ _ (eq-eqb b b refl))
-      (λ p below apart. cond-false (eqb p b) _ _ (ne_eqb p b apart))
+    (λ p below apart. cond-false (eqb p b) _ _ (ne_eqb p b apart))

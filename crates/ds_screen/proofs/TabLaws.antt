@@ -1,17 +1,15 @@
 -- Program Tab: the first attribute ahead, and what is nulled on the way.
-use Rattle.std.proofs.Common.{◌≡◌, ◌≢◌, ℕ, zero, suc, ◌+◌, ◌-◌, ◌<◌, ◌≤◌, ◌⊎◌, ◌&&◌, Bool, true, false, not, cond, ltb, leb, List, length, set, Option, Some, None, refl, sym, ◌∙◌, ap, subst, arith, inl, inr}
+use Rattle.std.proofs.Common.{◌≡◌, ◌≢◌, ℕ, ◌+◌, ◌-◌, ◌<◌, ◌≤◌, ◌⊎◌, ◌&&◌, Bool, true, false, not, cond, ltb, leb, List, length, set, Option, Some, None, refl, sym, ◌∙◌, ap, subst, arith, inl, inr}
 use Rattle.std.specs.Option.{option_map, unwrap_or}
-use Rattle.std.proofs.lemmas.Bool.{cond-true, cond-false, cases_Bool, cases_lt, cases_eq, false≢true, not-false, lt-ltb, le-ltb, le-leb, lt-leb}
+use Rattle.std.proofs.lemmas.Bool.{cond-true, cases_lt, not-false, lt-ltb, le-ltb, le-leb, lt-leb}
 use Rattle.ds_codec.specs.declared.cell.Cell.{Cell}
 use Rattle.ds_codec.specs.declared.cell.Cell.TheVariants.{Field, Char}
-use Rattle.ds_codec.specs.Attribute.{is_protected}
 use Rattle.ds_screen.specs.declared.state.State.{State}
-use Rattle.ds_screen.specs.Ring.{ring_on, least}
 use Rattle.ds_screen.specs.Picture.{blank, cell_at, ruled}
 use Rattle.ds_screen.specs.Fields.{is_attribute}
 use Rattle.ds_screen.specs.Orders.{Writing, nulled_cell, first_from, is_unprotected_attribute, behind, tab_stop, tabbed}
 use Rattle.ds_screen.specs.State.{writing}
-use Rattle.ds_screen.proofs.RingLaws.{least_at, least_none, on_lt, IsFound, search_cases}
+use Rattle.ds_screen.proofs.RingLaws.{least_at, least_none, on_lt, search_cases}
 use Rattle.ds_screen.proofs.RuledLaws.{as_ruled, length-ruled, cell_at-ruled, set-ruled}
 
 -- the first place that passes, from b on
@@ -26,7 +24,7 @@ unfolding first_from
 first_hit test cells b p first =
     let there : b + (p - b) ≡ p = omega (arith, first.ahead) in
     ap (option_map (λ d. b + d)) (least_at (length cells - b) (p - b) (λ d. test (cell_at cells (b + d))) (omega (arith, first.ahead, first.inside))
-      (λ d below. first.misses (b + d) (omega arith) (omega (arith, first.ahead))) (ap (λ q. test (cell_at cells q)) there ∙ first.hit))
+    (λ d below. first.misses (b + d) (omega arith) (omega (arith, first.ahead))) (ap (λ q. test (cell_at cells q)) there ∙ first.hit))
     ∙ ap (λ q. Some q) there
 
 pub first_miss : (test : Cell → Bool) (cells : List Cell) (b : ℕ) → ((q : ℕ) → b ≤ q → q < length cells → test (cell_at cells q) ≡ false) → first_from test cells b ≡ None
@@ -38,17 +36,20 @@ pub first_cases : (test : Cell → Bool) (cells : List Cell) (b : ℕ)
     → ((p : ℕ) × IsFirst test cells b p) ⊎ ((q : ℕ) → b ≤ q → q < length cells → test (cell_at cells q) ≡ false)
 first_cases test cells b =
     elim (search_cases (length cells - b) (λ d. test (cell_at cells (b + d)))) [
-      | inl found ↦ inl (b + found.0, record {
+      | inl found ↦ inl (
+        b + found.0,
+        record {
           ahead = omega arith;
           inside = omega (arith, found.1.inside);
           misses = λ q from below.
-            let there : b + (q - b) ≡ q = omega arith in
-            ap (λ z. test (cell_at cells z)) (sym there) ∙ found.1.misses (q - b) (omega arith);
-          hit = found.1.hit
-        })
+              let there : b + (q - b) ≡ q = omega arith in
+              ap (λ z. test (cell_at cells z)) (sym there) ∙ found.1.misses (q - b) (omega arith);
+          hit = found.1.hit;
+        },
+      )
       | inr none ↦ inr (λ q from below.
-            let there : b + (q - b) ≡ q = omega arith in
-            ap (λ z. test (cell_at cells z)) (sym there) ∙ none (q - b) (omega arith))
+          let there : b + (q - b) ≡ q = omega arith in
+          ap (λ z. test (cell_at cells z)) (sym there) ∙ none (q - b) (omega arith))
     ]
 
 pub behind_lt : (test : Cell → Bool) (cells : List Cell) (b : ℕ) → 0 < length cells → behind (length cells) (first_from test cells b) < length cells
@@ -90,9 +91,9 @@ same_nulled cells b stop p apart =
     elim (cases_lt p b) [
       | inl before ↦ before_nulled cells b (stop + 1) p before ∙ sym (before_nulled cells b stop p before)
       | inr from ↦ elim (cases_lt p stop) [
-          | inl below ↦ inside_nulled cells b (stop + 1) p from (omega arith) ∙ sym (inside_nulled cells b stop p from below)
-          | inr far ↦ outside_nulled cells b (stop + 1) p (omega arith) ∙ sym (outside_nulled cells b stop p far)
-        ]
+        | inl below ↦ inside_nulled cells b (stop + 1) p from (omega arith) ∙ sym (inside_nulled cells b stop p from below)
+        | inr far ↦ outside_nulled cells b (stop + 1) p (omega arith) ∙ sym (outside_nulled cells b stop p far)
+      ]
     ]
 
 pub null_more : (cells : List Cell) (b stop : ℕ) (now after : List Cell) (c : Cell) → b ≤ stop → stop < length cells
@@ -100,7 +101,7 @@ pub null_more : (cells : List Cell) (b stop : ℕ) (now after : List Cell) (c : 
 null_more cells b stop now after c from lt stored is writes =
     writes ∙ ap (λ xs. set xs stop c) stored
     ∙ set-ruled (length cells) (nulled_cell cells b stop) (nulled_cell cells b (stop + 1)) stop c lt
-      (inside_nulled cells b (stop + 1) stop from (omega arith) ∙ sym is) (λ p below apart. same_nulled cells b stop p apart)
+    (inside_nulled cells b (stop + 1) stop from (omega arith) ∙ sym is) (λ p below apart. same_nulled cells b stop p apart)
 
 pub null_sees : (cells : List Cell) (b stop p : ℕ) (now : List Cell) → p < length cells → stop ≤ p → now ≡ ruled (length cells) (nulled_cell cells b stop)
     → cell_at now p ≡ cell_at cells p
@@ -131,20 +132,20 @@ stop_kept cells now b e first stored =
     found_same cells now b e first stored len (inl found) =
         first_hit is_unprotected_attribute now e found.0 found.1
         ∙ sym (first_hit is_unprotected_attribute cells b found.0 record {
-            ahead = omega (arith, first.ahead, found.1.ahead);
-            inside = omega (arith, found.1.inside);
-            misses = λ q from below. elim (cases_lt q e) [
-              | inl lt ↦ early cells b e first q from lt
-              | inr far ↦ ap is_unprotected_attribute (sym (null_sees cells b e q now (omega (arith, found.1.inside)) far stored)) ∙ found.1.misses q far below
-            ];
-            hit = ap is_unprotected_attribute (sym (null_sees cells b e found.0 now (omega (arith, found.1.inside)) found.1.ahead stored)) ∙ found.1.hit
-          })
+          ahead = omega (arith, first.ahead, found.1.ahead);
+          inside = omega (arith, found.1.inside);
+          misses = λ q from below. elim (cases_lt q e) [
+            | inl lt ↦ early cells b e first q from lt
+            | inr far ↦ ap is_unprotected_attribute (sym (null_sees cells b e q now (omega (arith, found.1.inside)) far stored)) ∙ found.1.misses q far below
+          ];
+          hit = ap is_unprotected_attribute (sym (null_sees cells b e found.0 now (omega (arith, found.1.inside)) found.1.ahead stored)) ∙ found.1.hit;
+        })
     found_same cells now b e first stored len (inr none) =
         first_miss is_unprotected_attribute now e none
         ∙ sym (first_miss is_unprotected_attribute cells b (λ q from below. elim (cases_lt q e) [
-            | inl lt ↦ early cells b e first q from lt
-            | inr far ↦ ap is_unprotected_attribute (sym (null_sees cells b e q now below far stored)) ∙ none q far (omega arith)
-          ]))
+          | inl lt ↦ early cells b e first q from lt
+          | inr far ↦ ap is_unprotected_attribute (sym (null_sees cells b e q now below far stored)) ∙ none q far (omega arith)
+        ]))
 
 -- what the place says of the first attribute
 pub first_below : (test : Cell → Bool) (cells : List Cell) (b place : ℕ) → place ≡ unwrap_or (first_from test cells b) (length cells) → place < length cells
@@ -184,23 +185,23 @@ pub tab_found : (cells now : List Cell) (state : State) (place address : ℕ) �
     → place ≡ unwrap_or (first_from is_attribute cells state.address) (length cells) → place < length cells
     → now ≡ ruled (length cells) (nulled_cell cells state.address place) → address ≡ tab_stop now place
     → writing now (record { cursor = state.cursor; address = address; nulling = false })
-      ≡ tabbed (writing cells state) state.nulling (first_from is_attribute cells state.address)
+    ≡ tabbed (writing cells state) state.nulling (first_from is_attribute cells state.address)
 tab_found cells now state place address nulls is lt stored stop =
     let first = first_below is_attribute cells state.address place is lt in
     let b : ℕ = state.address in
     ap (λ xs. to_writing xs state.cursor address false) stored
     ∙ ap (λ a. to_writing (ruled (length cells) (nulled_cell cells b place)) state.cursor a false) (stop ∙ stop_kept cells now b place first stored)
     ∙ sym (ap (λ t. tabbed (writing cells state) t (first_from is_attribute cells b)) (not-false state.nulling nulls)
-           ∙ ap (tabbed (writing cells state) true) (first_hit is_attribute cells b place first))
+    ∙ ap (tabbed (writing cells state) true) (first_hit is_attribute cells b place first))
 
 pub tab_ran : (cells now : List Cell) (state : State) (place : ℕ) → not state.nulling ≡ false
     → place ≡ unwrap_or (first_from is_attribute cells state.address) (length cells) → length cells ≤ place
     → now ≡ ruled (length cells) (nulled_cell cells state.address place)
     → writing now (record { cursor = state.cursor; address = 0; nulling = true })
-      ≡ tabbed (writing cells state) state.nulling (first_from is_attribute cells state.address)
+    ≡ tabbed (writing cells state) state.nulling (first_from is_attribute cells state.address)
 tab_ran cells now state place nulls is far stored =
     let past = first_past is_attribute cells state.address place is far in
     let b : ℕ = state.address in
     ap (λ xs. to_writing xs state.cursor 0 true) (stored ∙ ap (λ e. ruled (length cells) (nulled_cell cells b e)) past.0)
     ∙ sym (ap (λ t. tabbed (writing cells state) t (first_from is_attribute cells b)) (not-false state.nulling nulls)
-           ∙ ap (tabbed (writing cells state) true) past.1)
+    ∙ ap (tabbed (writing cells state) true) past.1)

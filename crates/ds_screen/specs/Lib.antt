@@ -1,7 +1,10 @@
 pub mod Ring
 pub mod Picture
 pub mod Fields
+pub mod Shown
 pub mod Orders
 pub mod State
 pub mod Records
+pub mod Reset
+pub mod Kept
 pub mod Refused

@@ -1,8 +1,8 @@
 -- What a terminal shows and keeps.
-use Rattle.std.specs.Prelude.{◌≡◌, ℕ, ◌*◌, ◌<◌, ◌⊎◌, List, map, length, slice_index_or}
+use Rattle.std.specs.Prelude.{◌≡◌, ℕ, ◌<◌, ◌⊎◌, List, map, length, slice_index_or}
 use Rattle.std.specs.List.{range_with_len}
 use Rattle.ds_codec.specs.declared.cell.Cell.{Cell}
-use Rattle.ds_codec.specs.declared.cell.Cell.TheVariants.{Field, Char}
+use Rattle.ds_codec.specs.declared.cell.Cell.TheVariants.{Char}
 use Rattle.ds_codec.specs.declared.size.Size.{Size}
 use Rattle.ds_codec.specs.Character.{null}
 use Rattle.ds_codec.specs.Geometry.{Sizes, IsGood, cells_of}

@@ -1,16 +1,15 @@
 -- What a record does: erasing or not, its write control character, and its orders in turn.
-use Rattle.std.specs.Prelude.{◌≡◌, ℕ, ◌/◌, ◌%◌, Bool, true, false, not, ◌==◌, List, [], ◌∷◌, length, replicate, Option, Some, None, Result, Ok, Err, unwrap_or, if◌then◌else◌}
+use Rattle.std.specs.Prelude.{◌≡◌, ℕ, ◌/◌, ◌%◌, Bool, true, false, ◌==◌, List, [], ◌∷◌, length, replicate, Option, Some, None, Result, Ok, Err, unwrap_or, if◌then◌else◌}
 use Rattle.ds_codec.specs.declared.cell.Cell.{Cell}
 use Rattle.ds_codec.specs.declared.cell.Cell.TheVariants.{Field, Char}
 use Rattle.ds_codec.specs.declared.size.Size.{Size}
 use Rattle.ds_codec.specs.declared.command.Command.{Command}
 use Rattle.ds_codec.specs.declared.command.Command.TheVariants.{Write, EraseWrite, EraseWriteAlternate, EraseAllUnprotected}
 use Rattle.ds_codec.specs.Attribute.{is_protected, with_modified}
-use Rattle.ds_codec.specs.Geometry.{cells_of}
+use Rattle.ds_codec.specs.Geometry.{Sizes, cells_of}
 use Rattle.ds_codec.specs.Order.{Site}
 use Rattle.ds_codec.specs.Record.{Message}
-use Rattle.ds_screen.specs.declared.lock.Lock.{Lock}
-use Rattle.ds_screen.specs.declared.lock.Lock.TheVariants.{Free}
+use Rattle.ds_screen.specs.declared.lock.Lock.TheVariants.{Free, Waiting}
 use Rattle.ds_screen.specs.declared.effect.Effect.{Effect}
 use Rattle.ds_screen.specs.declared.refused.Why.{Why}
 use Rattle.ds_screen.specs.declared.refused.Why.TheVariants.{NotAWrite}
@@ -38,18 +37,30 @@ abbrev pub unprotected_unmodified : Cell → Cell
 unprotected_unmodified (Field bits) = Field (if is_protected bits then bits else with_modified bits false)
 unprotected_unmodified (Char character) = Char character
 
+-- a new terminal: nulls of the default size, the keyboard waiting, no attention key
+abbrev pub new_picture : Sizes → Picture
+new_picture geometry =
+    record {
+      geometry = geometry;
+      size = geometry.default;
+      cells = replicate (cells_of geometry.default) blank;
+      cursor = 0;
+      lock = Waiting;
+      aid = 0x60;
+    }
+
 -- nulls of a size, with the cursor at 0
 abbrev pub erased : Size → Picture → Picture
 erased size v = record v { size = size; cells = replicate (cells_of size) blank; cursor = 0 }
 
 -- what the orders begin with: the buffer address is the cursor's, and the modified data tags may be reset
-abbrev pub begun : ℕ → Picture → Writing
-begun wcc v =
+abbrev pub begun : ℕ → List Cell → ℕ → Writing
+begun wcc cells cursor =
     record {
-      cells = if resets wcc then ruled (length v.cells) (λ p. unmodified (cell_at v.cells p)) else v.cells;
-      cursor = v.cursor;
-      address = v.cursor;
-      nulling = false
+      cells = if resets wcc then ruled (length cells) (λ p. unmodified (cell_at cells p)) else cells;
+      cursor = cursor;
+      address = cursor;
+      nulling = false;
     }
 
 -- what the orders leave, with the keyboard freed and no attention key where the keyboard is restored
@@ -59,7 +70,7 @@ finished wcc v w =
       cells = w.cells;
       cursor = w.cursor;
       lock = if restores wcc then Free else v.lock;
-      aid = if restores wcc then 0x60 else v.aid
+      aid = if restores wcc then 0x60 else v.aid;
     }
 
 -- the rest of the orders, unless the first is at fault
@@ -77,7 +88,7 @@ finishes wcc v (Ok w) = Ok (finished wcc v w)
 finishes wcc v (Err refused) = Err refused
 
 abbrev pub written : ℕ → List Site → Picture → Result Picture Refused
-written wcc orders v = finishes wcc v (acts orders (begun wcc v))
+written wcc orders v = finishes wcc v (acts orders (begun wcc v.cells v.cursor))
 
 -- the least position that may be typed over, 0 where there is none
 abbrev pub first_open : List Cell → ℕ

@@ -1,5 +1,5 @@
 -- Positions form a ring: after the last of n comes 0. A search goes by least distance.
-use Rattle.std.specs.Prelude.{ℕ, zero, suc, ◌+◌, ◌-◌, ◌%◌, Bool, Option, Some, None, option_map, nat_lt, nat_le, if◌then◌else◌}
+use Rattle.std.specs.Prelude.{ℕ, zero, suc, ◌+◌, ◌-◌, Bool, Option, Some, None, option_map, nat_lt, nat_le, if◌then◌else◌}
 
 -- the position that stands d steps on from p
 unfoldable pub ring_on : ℕ → ℕ → ℕ → ℕ

@@ -1,9 +1,9 @@
 -- The state that orders work on, as the code keeps it.
-use Rattle.std.specs.Prelude.{◌≡◌, ℕ, ◌<◌, true, List, length}
+use Rattle.std.specs.Prelude.{◌≡◌, ◌<◌, true, List, [], ◌∷◌, length}
 use Rattle.std.specs.List.{list_all}
 use Rattle.ds_codec.specs.declared.cell.Cell.{Cell}
 use Rattle.ds_codec.specs.Character.{is_text, is_graphic}
-use Rattle.ds_codec.specs.Order.{Item, text, graphic_escape}
+use Rattle.ds_codec.specs.Order.{Item, text, graphic_escape, Site}
 use Rattle.ds_screen.specs.declared.state.State.{State}
 use Rattle.ds_screen.specs.Orders.{Writing}
 
@@ -15,6 +15,10 @@ abbrev pub HasCharacters : Item → Type 0
 HasCharacters (text run) = list_all is_text run ≡ true
 HasCharacters (graphic_escape code) = is_graphic code ≡ true
 HasCharacters order = Unit {0}
+
+abbrev pub HaveCharacters : List Site → Type 0
+HaveCharacters [] = Unit {0}
+HaveCharacters (site ∷ sites) = HasCharacters site.order × HaveCharacters sites
 
 -- the cursor and the buffer address are positions
 pub record IsInside (cells : List Cell) (state : State) : Type 0 where

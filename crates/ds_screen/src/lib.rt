@@ -4,18 +4,25 @@
 mod cells;
 mod effect;
 mod field;
+mod fields;
 mod lock;
 mod orders;
 mod plain;
 mod ranges;
+mod records;
 mod refused;
 mod ring;
+mod screen;
+mod shown;
 mod state;
 mod tab;
+mod wcc;
 
 pub use cells::Cells;
 pub use effect::Effect;
 pub use field::FieldAt;
+pub use fields::Fields;
 pub use lock::Lock;
 pub use plain::PlainCells;
 pub use refused::{Refused, Why};
+pub use screen::Screen;

@@ -1,7 +1,7 @@
 //! Orders, one after the other (GA23-0059, "Orders").
 
 ghost use Rattle.std.specs.Prelude.{◌≡◌, ◌<◌, ◌≤◌, true, false, length, IfOk, IfErr, OnOk, IfSome, Some, None};
-ghost use Rattle.ds_codec.specs.Order.{item_of, last_attribute};
+ghost use Rattle.ds_codec.specs.Order.{item_of};
 ghost use Rattle.ds_screen.specs.Fields.{is_attribute, bits_of};
 ghost use Rattle.ds_screen.specs.Picture.{cell_at};
 ghost use Rattle.ds_screen.specs.Orders.{OrderActs, fault_of, outside_of, after_storing};
@@ -12,29 +12,7 @@ use crate::ranges::{erase, put_run, repeat, store};
 use crate::refused::Why;
 use crate::state::State;
 use crate::tab::program_tab;
-use ds_codec::{Attr, Cell, Char, Order};
-
-/// The type of the pair that carries a field attribute.
-const FIELD_ATTRIBUTE: u8 = 0xC0;
-
-/// The field attribute of the last pair that has one.
-fn last_attr(pairs: &[u8]) -> Option<Attr>
-    ensures { result ≡ last_attribute pairs.now }
-{
-    match pairs {
-        [kind, value, others @ ..] => match last_attr(others) {
-            Some(attribute) => Some(attribute),
-            None => {
-                if *kind == FIELD_ATTRIBUTE {
-                    Some(Attr::new(*value))
-                } else {
-                    None
-                }
-            }
-        },
-        _ => None,
-    }
-}
+use ds_codec::{Attr, Cell, Char, Order, last_attr};
 
 /// An address, if it is that of a position.
 fn position(n: u32, address: u32) -> Result<u32, Why>
@@ -69,7 +47,11 @@ fn stored<C: Cells>(cells: &mut C, state: State, cell: Cell, nulling: bool) -> S
     ensures room { C.capacity cells.new ≡ C.capacity cells.old }
 {
     let address = store(cells, state.address, cell);
-    State { cursor: state.cursor, address, nulling }
+    State {
+        cursor: state.cursor,
+        address,
+        nulling,
+    }
 }
 
 /// Does one order.
@@ -83,11 +65,19 @@ pub(crate) fn act<C: Cells>(cells: &mut C, state: State, order: &Order<'_>) -> R
     ensures whole { OnOk result (length (C.content cells.new) ≡ length (C.content cells.old)) }
     ensures room { C.capacity cells.new ≡ C.capacity cells.old }
 {
-    let State { cursor, address: b, nulling: _ } = state;
+    let State {
+        cursor,
+        address: b,
+        nulling: _,
+    } = state;
     match order {
         Order::Text(run) => {
             let address = put_run(cells, b, run);
-            Ok(State { cursor, address, nulling: true })
+            Ok(State {
+                cursor,
+                address,
+                nulling: true,
+            })
         }
         Order::Sf(attribute) => Ok(stored(cells, state, Cell::Field(*attribute), false)),
         Order::Sfe(pairs) => {
@@ -96,25 +86,45 @@ pub(crate) fn act<C: Cells>(cells: &mut C, state: State, order: &Order<'_>) -> R
         }
         Order::Sba(address) => {
             let address = position(cells.len(), *address)?;
-            Ok(State { cursor, address, nulling: false })
+            Ok(State {
+                cursor,
+                address,
+                nulling: false,
+            })
         }
-        Order::Sa(_, _) => Ok(State { cursor, address: b, nulling: false }),
+        Order::Sa(_, _) => Ok(State {
+            cursor,
+            address: b,
+            nulling: false,
+        }),
         Order::Mf(pairs) => {
             let before = attribute_at(cells, b)?;
             let attribute = last_attr(pairs).unwrap_or(before);
             Ok(stored(cells, state, Cell::Field(attribute), false))
         }
-        Order::Ic => Ok(State { cursor: b, address: b, nulling: false }),
+        Order::Ic => Ok(State {
+            cursor: b,
+            address: b,
+            nulling: false,
+        }),
         Order::Pt => Ok(program_tab(cells, state)),
         Order::Ra(stop, character) => {
             let address = position(cells.len(), *stop)?;
             repeat(cells, b, address, *character);
-            Ok(State { cursor, address, nulling: false })
+            Ok(State {
+                cursor,
+                address,
+                nulling: false,
+            })
         }
         Order::Eua(stop) => {
             let address = position(cells.len(), *stop)?;
             erase(cells, b, address);
-            Ok(State { cursor, address, nulling: false })
+            Ok(State {
+                cursor,
+                address,
+                nulling: false,
+            })
         }
         Order::Ge(code) => {
             let character = Char::new(*code, true).unwrap();

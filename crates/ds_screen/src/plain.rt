@@ -33,7 +33,9 @@ impl Cells for PlainCells {
 
     fn clear(&mut self, n: u32) {
         self.cells.clear();
-        self.cells.resize(n as usize, Cell::Char(Char::null())).unwrap();
+        self.cells
+            .resize(n as usize, Cell::Char(Char::null()))
+            .unwrap();
     }
 
     fn cell(&self, p: u32) -> Cell {
@@ -70,6 +72,8 @@ impl Cells for PlainCells {
 
     fn copy_from(&mut self, other: &PlainCells) {
         self.cells.clear();
-        self.cells.extend_from_slice(other.cells.as_slice()).unwrap();
+        self.cells
+            .extend_from_slice(other.cells.as_slice())
+            .unwrap();
     }
 }

@@ -31,9 +31,5 @@ pub(crate) fn distance(n: u32, from: u32, to: u32) -> u32
     ensures steps { result ≡ ring_distance n from to }
     ensures short { result < n }
 {
-    if from <= to {
-        to - from
-    } else {
-        n - from + to
-    }
+    if from <= to { to - from } else { n - from + to }
 }

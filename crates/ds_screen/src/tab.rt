@@ -67,13 +67,25 @@ pub(crate) fn program_tab<C: Cells>(cells: &mut C, state: State) -> State
     let cursor = state.cursor;
     if !state.nulling {
         let address = stop_from(cells, state.address);
-        return State { cursor, address, nulling: false };
+        return State {
+            cursor,
+            address,
+            nulling: false,
+        };
     }
     let place = null_to_attribute(cells, state.address);
     if place < cells.len() {
         let address = stop_from(cells, place);
-        State { cursor, address, nulling: false }
+        State {
+            cursor,
+            address,
+            nulling: false,
+        }
     } else {
-        State { cursor, address: 0, nulling: true }
+        State {
+            cursor,
+            address: 0,
+            nulling: true,
+        }
     }
 }

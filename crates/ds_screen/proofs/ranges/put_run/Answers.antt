@@ -1,12 +1,10 @@
-use Rattle.std.proofs.Common.{◌≡◌, ◌<◌, ◌≤◌, ℕ, ◌+◌, ◌%◌, Bool, true, false, cond, List, length, set, get_or, refl, sym, ◌∙◌, ap, arith, Option, Some, None}
+use Rattle.std.proofs.Common.{◌≡◌, ◌<◌, ℕ, ◌+◌, ◌%◌, true, false, List, length, get_or, refl, sym, ◌∙◌, ap, arith, Some}
 use Rattle.std.proofs.Math.Nat.{mod-eq_of_lt}
-use Rattle.std.proofs.lemmas.Nat.{mod_below}
 use Rattle.std.proofs.lemmas.Bool.{cond-true}
 use Rattle.ds_codec.specs.declared.cell.Cell.{Cell}
-use Rattle.ds_codec.specs.declared.cell.Cell.TheVariants.{Char}
 use Rattle.ds_codec.specs.Character.{is_text, glyph}
 use Rattle.ds_screen.specs.Ring.{ring_on}
-use Rattle.ds_screen.specs.Picture.{cell_at, ruled}
+use Rattle.ds_screen.specs.Picture.{ruled}
 use Rattle.ds_screen.proofs.RuledLaws.{length-ruled}
 use Rattle.ds_screen.proofs.RunLaws.{run_cell, run_none, run_step, run_all, list_all_true, mod_next}
 use Rattle.ds_screen.proofs.ranges.put_run.Goals as goal
@@ -33,16 +31,16 @@ bytes-preserved g c =
     let some : 0 < length old = omega (arith, c.requires.inside) in
     let known : is_text (get_or run k 0) ≡ true = list_all_true is_text run k 0 c.requires.characters (omega arith) in
     let made : Some c.unwrap-character.result ≡ Some (glyph (get_or run k 0) false) =
-          sym c.unwrap-character.ensures ∙ c.new.ensures ∙ cond-true (is_text (get_or run k 0)) _ _ known in
+    sym c.unwrap-character.ensures ∙ c.new.ensures ∙ cond-true (is_text (get_or run k 0)) _ _ known in
     let character : c.unwrap-character.result ≡ glyph (get_or run k 0) false = cc in
     let stored : g.C.Cells.content c.put.new.self ≡ ruled (length old) (run_cell old c.args.b run (k + 1)) =
-          run_step old c.args.b run k c.bytes.at (g.C.Cells.content c.bytes.cells) (g.C.Cells.content c.put.new.self) c.unwrap-character.result some
-          c.bytes.invariant.at c.bytes.invariant.stored character c.put.ensures.stored in
+    run_step old c.args.b run k c.bytes.at (g.C.Cells.content c.bytes.cells) (g.C.Cells.content c.put.new.self) c.unwrap-character.result some
+    c.bytes.invariant.at c.bytes.invariant.stored character c.put.ensures.stored in
     record {
       stored = stored;
       whole = ap length stored ∙ length-ruled (length old) (run_cell old c.args.b run (k + 1));
       at = c.next-at.ensures.on ∙ ap (λ n. ring_on n c.bytes.at 1) c.len-n.ensures ∙ ap (λ q. ring_on (length old) q 1) c.bytes.invariant.at
-        ∙ mod_next (length old) (c.args.b + k) some ∙ ap (λ x. x % length old) (omega arith);
+          ∙ mod_next (length old) (c.args.b + k) some ∙ ap (λ x. x % length old) (omega arith);
       inside = omega (arith, c.next-at.ensures.inside, c.len-n.ensures);
       room = c.put.ensures.room ∙ c.bytes.invariant.room;
     }

@@ -1,8 +1,7 @@
-use Rattle.std.proofs.Common.{◌≡◌, ◌<◌, ◌≤◌, ℕ, ◌+◌, Bool, true, false, cond, eqb, List, length, set, refl, sym, ◌∙◌, ap, arith}
+use Rattle.std.proofs.Common.{◌≡◌, ◌<◌, ℕ, ◌+◌, true, cond, eqb, List, length, refl, sym, ◌∙◌, ap, arith}
 use Rattle.ds_codec.specs.declared.cell.Cell.{Cell}
 use Rattle.ds_codec.specs.declared.cell.Cell.TheVariants.{Char}
-use Rattle.ds_screen.specs.Ring.{ring_on, ring_distance}
-use Rattle.ds_screen.specs.Picture.{cell_at}
+use Rattle.ds_screen.specs.Ring.{ring_distance}
 use Rattle.ds_screen.proofs.RingLaws.{on-zero}
 use Rattle.ds_screen.proofs.RuledLaws.{walk_none, walk_step, length_walked, place_more}
 use Rattle.ds_screen.proofs.EraseLaws.{repeat_done}
@@ -30,7 +29,7 @@ steps-preserved g c =
     let at : ℕ = c.steps.at in
     let few : c.steps.steps < length old = omega (arith, c.reach-steps-end.ensures.within, c.len-n.ensures, c.steps-test.true) in
     let stored = walk_step old c.args.b c.steps.steps at (λ p. Char c.args.character) true (Char c.args.character) now after c.requires.inside few
-          c.steps.invariant.at c.steps.invariant.stored refl c.put.ensures.stored in
+    c.steps.invariant.at c.steps.invariant.stored refl c.put.ensures.stored in
     record {
       stored = stored;
       whole = length_walked old c.args.b (c.steps.steps + 1) (λ p. Char c.args.character) after stored;
@@ -45,4 +44,4 @@ returns-clause-stored g c =
     let all : c.reach-steps-end.result ≡ c.steps.steps = omega arith in
     c.steps.invariant.stored
     ∙ repeat_done old c.args.b c.args.stop c.steps.steps c.args.character c.requires.inside
-      (sym all ∙ c.reach-steps-end.ensures.steps ∙ ap (λ n. cond (eqb c.args.b c.args.stop) n (ring_distance n c.args.b c.args.stop)) c.len-n.ensures)
+    (sym all ∙ c.reach-steps-end.ensures.steps ∙ ap (λ n. cond (eqb c.args.b c.args.stop) n (ring_distance n c.args.b c.args.stop)) c.len-n.ensures)

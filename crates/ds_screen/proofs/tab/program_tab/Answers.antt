@@ -1,4 +1,4 @@
-use Rattle.std.proofs.Common.{◌≡◌, ◌<◌, ◌≤◌, ℕ, List, length, arith}
+use Rattle.std.proofs.Common.{◌≡◌, ℕ, List, length, arith}
 use Rattle.ds_codec.specs.declared.cell.Cell.{Cell}
 use Rattle.ds_screen.proofs.TabLaws.{length_nulled, tab_found, tab_ran}
 use Rattle.ds_screen.proofs.tab.program_tab.Goals as goal
@@ -15,7 +15,7 @@ returns-then-place-len-clause-tabs g c =
 pub returns-then-place-len-clause-inside : goal.returns-then-place-len-clause-inside
 returns-then-place-len-clause-inside g c =
     let len = length_nulled (g.C.Cells.content c.args.cells.now) c.args.state.address c.null_to_attribute-place.result
-          (g.C.Cells.content c.null_to_attribute-place.new.cells) c.null_to_attribute-place.ensures.nulled in
+    (g.C.Cells.content c.null_to_attribute-place.new.cells) c.null_to_attribute-place.ensures.nulled in
     omega (arith, c.stop_from-address-then-place-len.ensures.inside)
 
 pub returns-else-place-len-clause-tabs : goal.returns-else-place-len-clause-tabs

@@ -1,4 +1,4 @@
-use Rattle.std.proofs.Common.{◌≡◌, ◌<◌, ℕ, sym, ◌∙◌, ap, arith, below_more, length, false}
+use Rattle.std.proofs.Common.{◌≡◌, sym, ◌∙◌, ap, arith, below_more, false}
 use Rattle.ds_screen.specs.Ring.{ring_on}
 use Rattle.ds_screen.specs.Picture.{cell_at}
 use Rattle.ds_screen.specs.Fields.{is_attribute}
@@ -19,7 +19,7 @@ pub steps-preserved : goal.steps-preserved
 steps-preserved c =
     let further = on_more c.len-n.result c.args.p c.steps.steps (omega arith) (omega arith) in
     let missed : is_attribute (cell_at c.args.self.now.cells.items c.steps.at) ≡ false =
-          ap is_attribute (sym c.cell.ensures) ∙ sym c.is_field.ensures ∙ c.if-is_field.false in
+    ap is_attribute (sym c.cell.ensures) ∙ sym c.is_field.ensures ∙ c.if-is_field.false in
     record {
       at_steps = c.next-at.ensures.on ∙ ap (λ q. ring_on c.len-n.result q 1) c.steps.invariant.at_steps ∙ further;
       inside = omega arith;

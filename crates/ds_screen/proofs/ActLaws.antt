@@ -1,0 +1,46 @@
+-- Orders in turn.
+use Rattle.std.proofs.Common.{◌≡◌, ℕ, ◌+◌, List, [], ◌∷◌, length, Some, Ok, Err, refl, sym, ◌∙◌, ap}
+use Rattle.ds_codec.specs.declared.size.Mode.{Mode}
+use Rattle.ds_codec.specs.Order.{Item, Site, text, start_field, start_field_extended, set_buffer_address, set_attribute, modify_field, insert_cursor, program_tab, repeat_to_address, erase_unprotected_to_address, graphic_escape, SpellsOrder}
+use Rattle.ds_codec.specs.Record.{AreSpelled, AreOrders}
+use Rattle.ds_screen.specs.declared.refused.Why.{Why}
+use Rattle.ds_screen.specs.Orders.{Writing, effect_of, fault_of, OrderActs}
+use Rattle.ds_screen.specs.Records.{acts, unless}
+use Rattle.ds_screen.specs.State.{HasCharacters, HaveCharacters}
+
+has_characters : (mode : Mode) (order : Item) (part : List ℕ) → SpellsOrder mode order part → HasCharacters order
+has_characters mode (text run) part spelled = spelled.2
+has_characters mode (graphic_escape code) part spelled = spelled.1
+has_characters mode (start_field attribute) part spelled = tt
+has_characters mode (start_field_extended pairs) part spelled = tt
+has_characters mode (set_buffer_address address) part spelled = tt
+has_characters mode (set_attribute kind value) part spelled = tt
+has_characters mode (modify_field pairs) part spelled = tt
+has_characters mode insert_cursor part spelled = tt
+has_characters mode program_tab part spelled = tt
+has_characters mode (repeat_to_address stop character) part spelled = tt
+has_characters mode (erase_unprotected_to_address stop) part spelled = tt
+
+spelled_characters : (mode : Mode) (at : ℕ) (sites : List Site) (bytes : List ℕ) → AreSpelled mode at sites bytes → HaveCharacters sites
+spelled_characters mode at [] bytes spelled = tt
+spelled_characters mode at (site ∷ sites) bytes (part, rest, joined, there, order, follows, others) =
+    (has_characters mode site.order part order, spelled_characters mode (at + length part) sites rest others)
+
+pub orders_characters : (sites : List Site) → AreOrders sites → HaveCharacters sites
+orders_characters sites (mode, at, bytes, spelled) = spelled_characters mode at sites bytes spelled
+
+-- an order that acts leaves the rest to do
+pub acts_on : (site : Site) (sites : List Site) (before after : Writing) → OrderActs site.order before after → acts (site ∷ sites) before ≡ acts sites after
+unfolding acts
+acts_on site sites before after (good, is) =
+    ap (λ f. unless f site.at (acts sites (effect_of site.order before))) good ∙ ap (acts sites) (sym is)
+
+-- one that is at fault ends it
+pub acts_stop : (site : Site) (sites : List Site) (before : Writing) (why : Why) → fault_of site.order before ≡ Some why
+    → acts (site ∷ sites) before ≡ Err (record { at = site.at; why = why })
+unfolding acts
+acts_stop site sites before why bad = ap (λ f. unless f site.at (acts sites (effect_of site.order before))) bad
+
+pub acts_end : (w : Writing) → acts [] w ≡ Ok w
+unfolding acts
+acts_end w = refl

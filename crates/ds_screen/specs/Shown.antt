@@ -1,0 +1,48 @@
+-- What is printed of a screen.
+use Rattle.std.specs.Prelude.{ℕ, ◌+◌, ◌-◌, ◌*◌, ◌&&◌, ◌==◌, nat_le, nat_lt, List, [], ◌∷◌, map, length, slice_index, codes, if◌then◌else◌}
+use Rattle.std.specs.List.{range_with_len}
+use Rattle.ds_codec.specs.declared.cell.Cell.{Cell}
+use Rattle.ds_codec.specs.declared.cell.Cell.TheVariants.{Field, Char}
+use Rattle.ds_codec.specs.Attribute.{is_hidden}
+use Rattle.ds_screen.specs.Picture.{Picture, cell_at}
+use Rattle.ds_screen.specs.Fields.{ruling_bits}
+
+-- characters that stand for codes one after the other, from a first code on
+pub record Run : Type 0 where
+  pub first : ℕ
+  pub characters : List ℕ
+
+abbrev pub run : ℕ → List ℕ → Run
+run first characters = record { first = first; characters = characters }
+
+-- the 95 characters that are printed
+abbrev pub printed_runs : List Run
+printed_runs =
+    run 0x40 (codes " ") ∷ run 0x4B (codes ".<(+|&") ∷ run 0x5A (codes "!$*);") ∷ run 0x60 (codes "-/") ∷ run 0x6B (codes ",%_>?")
+    ∷ run 0x79 (codes "`:#@'=\"") ∷ run 0x81 (codes "abcdefghi") ∷ run 0x91 (codes "jklmnopqr") ∷ run 0xA1 (codes "~stuvwxyz")
+    ∷ run 0xB0 (codes "^") ∷ run 0xBA (codes "[]") ∷ run 0xC0 (codes "{ABCDEFGHI") ∷ run 0xD0 (codes "}JKLMNOPQR")
+    ∷ run 0xE0 (codes "\\") ∷ run 0xE2 (codes "STUVWXYZ") ∷ run 0xF0 (codes "0123456789") ∷ []
+
+-- the character of a code, '?' where it has none
+abbrev pub printed_in : ℕ → List Run → ℕ
+printed_in code [] = 63
+printed_in code (r ∷ others) =
+    if nat_le r.first code && nat_lt code (r.first + length r.characters) then slice_index r.characters (code - r.first)
+    else printed_in code others
+
+unfoldable pub printed_code : ℕ → ℕ
+printed_code code = printed_in code printed_runs
+
+-- what is printed of a cell, by the bits that rule it: '@' for an attribute, '.' for a null, '*' for another character
+-- of a hidden field, else the character of its code; one of the alternate set has none
+abbrev pub printed_under : ℕ → Cell → ℕ
+printed_under bits (Field attribute) = 64
+printed_under bits (Char character) =
+    if character.code == 0 then 46 else (if is_hidden bits then 42 else (if character.alt then 63 else printed_code character.code))
+
+abbrev pub printed_cell : List Cell → ℕ → ℕ
+printed_cell cells p = printed_under (ruling_bits cells p) (cell_at cells p)
+
+-- a row of the screen, counted from 0
+abbrev pub printed_row : Picture → ℕ → List ℕ
+printed_row v row = map (printed_cell v.cells) (range_with_len (row * v.size.cols) v.size.cols)

@@ -1,0 +1,223 @@
+//! The screen: two buffers, and what the terminal keeps beside them.
+
+use crate::cells::Cells;
+use crate::effect::Effect;
+use crate::fields::Fields;
+use crate::lock::Lock;
+use crate::records::{Base, clear_unprotected, prepare, write_orders};
+use crate::refused::{Refused, Why};
+use crate::shown::row_text;
+use crate::wcc::{aid_after, lock_after, told};
+use ds_codec::{Aid, Attr, Cell, Char, Command, Geometry, Record, Size};
+use std::alloc::{AllocError, Global};
+use std::marker::Model;
+use std::mem::swap;
+
+/// What a terminal shows and keeps (GA23-0059, "Character buffer"): the cells of one of its two sizes,
+/// the cursor, the keyboard's lock and the last attention identifier. Only `new` and `shown_row` take
+/// memory.
+#[derive(Drop)]
+pub struct Screen<C: Cells> {
+    geometry: Geometry,
+    size: Size,
+    cells: C,
+    spare: C,
+    cursor: u32,
+    lock: Lock,
+    aid: Aid,
+}
+
+impl<C: Cells> Model for Screen<C> {
+    ghost use Rattle.ds_screen.specs.Picture.{Picture, IsSound};
+    ghost use Rattle.ds_screen.specs.Kept.{HasRoom, picture};
+
+    ghost Value = { Picture };
+
+    ghost view = { λ s. picture s.geometry s.size (C.content s.cells) s.cursor s.lock s.aid };
+
+    ghost invariant = { λ s. IsSound (picture s.geometry s.size (C.content s.cells) s.cursor s.lock s.aid)
+        × HasRoom s.geometry (C.capacity s.cells) × HasRoom s.geometry (C.capacity s.spare) };
+}
+
+impl<C: Cells> Screen<C> {
+    ghost use Rattle.std.specs.Prelude.{◌≡◌, ◌<◌, true, length, slice_set, string_bytes, IfOk, IfErr, OnOk, OnErr};
+    ghost use Rattle.ds_codec.specs.declared.cell.Cell.{Cell};
+    ghost use Rattle.ds_codec.specs.Geometry.{cells_of};
+    ghost use Rattle.ds_screen.specs.Picture.{Picture, IsSound, cell_at};
+    ghost use Rattle.ds_screen.specs.Fields.{is_attribute, fields_of};
+    ghost use Rattle.ds_screen.specs.Shown.{printed_row};
+    ghost use Rattle.ds_screen.specs.Records.{new_picture, erased, told_of, RecordShows, IsRefusedBy};
+
+    /// A new terminal of this geometry: nulls of the default size, the cursor at 0, the keyboard waiting
+    /// for a record, no attention key. Reserves two buffers of the larger size.
+    pub fn new(alloc: Global, geometry: Geometry) -> Result<Screen<C>, AllocError>
+        ensures { IfOk result (λ screen. screen ≡ new_picture geometry) }
+    {
+        let size = geometry.default_size();
+        let most = size.cells().max(geometry.alternate_size().cells());
+        let mut cells = C::reserved(alloc, most)?;
+        let spare = C::reserved(alloc, most)?;
+        cells.clear(size.cells());
+        Ok(Screen {
+            geometry,
+            size,
+            cells,
+            spare,
+            cursor: 0,
+            lock: Lock::Waiting,
+            aid: Aid::none(),
+        })
+    }
+
+    /// The size in use.
+    pub fn size(&self) -> Size
+        ensures value { result ≡ self.now.size }
+        ensures sound { IsSound self.now }
+    {
+        self.size
+    }
+
+    /// The two sizes and the addressing mode.
+    pub fn geometry(&self) -> Geometry
+        ensures value { result ≡ self.now.geometry }
+        ensures sound { IsSound self.now }
+    {
+        self.geometry
+    }
+
+    /// The cell at a position, counted from 0 row by row.
+    pub fn cell(&self, p: u32) -> Cell
+        requires { p < length self.now.cells }
+        ensures { result ≡ cell_at self.now.cells p }
+    {
+        self.cells.cell(p)
+    }
+
+    /// The cursor's position.
+    pub fn cursor(&self) -> u32
+        ensures value { result ≡ self.now.cursor }
+        ensures sound { IsSound self.now }
+    {
+        self.cursor
+    }
+
+    /// The keyboard's lock.
+    pub fn lock(&self) -> Lock
+        ensures { result ≡ self.now.lock }
+    {
+        self.lock
+    }
+
+    /// The last attention identifier.
+    pub fn aid(&self) -> Aid
+        ensures { result ≡ self.now.aid }
+    {
+        self.aid
+    }
+
+    /// The fields in rising order of their attributes, each with the number of cells that it governs.
+    pub fn fields(&self) -> Fields<'_, C>
+        ensures { result ≡ fields_of self.now.cells }
+    {
+        Fields::new(&self.cells)
+    }
+
+    /// The text of a row, counted from 0: `@` for an attribute, `.` for a null, `*` for another character of
+    /// a hidden field, else the character of its code, `?` where it has none.
+    pub fn shown_row(&self, alloc: Global, row: u16) -> Result<String, AllocError>
+        requires { row < self.now.size.rows }
+        ensures { IfOk result (λ text. string_bytes text ≡ printed_row self.now row) }
+    {
+        let columns = u32::from(self.size.cols);
+        row_text(alloc, &self.cells, u32::from(row) * columns, columns)
+    }
+
+    /// Stores a character.
+    pub fn put_char(&mut self, p: u32, character: Char)
+        requires { p < length self.old.cells }
+        ensures { self.new ≡ record self.old { cells = slice_set self.old.cells p (Cell.Char character) } }
+    {
+        self.cells.put(p, Cell::Char(character));
+    }
+
+    /// Changes an attribute, where one stands.
+    pub fn set_attr(&mut self, p: u32, attribute: Attr)
+        requires inside { p < length self.old.cells }
+        requires there { is_attribute (cell_at self.old.cells p) ≡ true }
+        ensures { self.new ≡ record self.old { cells = slice_set self.old.cells p (Cell.Field attribute) } }
+    {
+        self.cells.put(p, Cell::Field(attribute));
+    }
+
+    /// Puts the cursor at a position.
+    pub fn move_cursor(&mut self, p: u32)
+        requires { p < length self.old.cells }
+        ensures { self.new ≡ record self.old { cursor = p } }
+    {
+        self.cursor = p;
+    }
+
+    /// Sets the keyboard's lock.
+    pub fn set_lock(&mut self, lock: Lock)
+        ensures { self.new ≡ record self.old { lock = lock } }
+    {
+        self.lock = lock;
+    }
+
+    /// Sets the attention identifier.
+    pub fn set_aid(&mut self, aid: Aid)
+        ensures { self.new ≡ record self.old { aid = aid } }
+    {
+        self.aid = aid;
+    }
+
+    /// Makes it nulls of the default size, with the cursor at 0.
+    pub fn erase_default(&mut self)
+        ensures { self.new ≡ erased self.old.geometry.default self.old }
+    {
+        let size = self.geometry.default_size();
+        self.cells.clear(size.cells());
+        self.size = size;
+        self.cursor = 0;
+    }
+
+    /// Does what a record says, or refuses it at the least order at fault and changes nothing. A1: an
+    /// address is not below the number of cells. A2: no attribute stands where one is to be changed. A3,
+    /// at 0: the command is a read or No-operation. Works on the second buffer, in time linear in the
+    /// record's bytes and the cells that it touches.
+    pub fn apply(&mut self, record: &Record<'_>) -> Result<Effect, Refused>
+        ensures shows { OnOk result (RecordShows self.old record.now self.new) }
+        ensures told { IfOk result (λ effect. effect ≡ told_of record.now.command) }
+        ensures refused { IfErr result (IsRefusedBy self.old record.now) }
+        ensures unchanged { OnErr result (self.new ≡ self.old) }
+    {
+        let command = record.command();
+        if let Command::EraseAllUnprotected = command {
+            self.cursor = clear_unprotected(&mut self.cells);
+            self.lock = Lock::Free;
+            self.aid = Aid::none();
+            return Ok(Effect {
+                alarm: false,
+                restored: true,
+            });
+        }
+        let now = Base {
+            wcc: 0,
+            size: self.size,
+            cursor: self.cursor,
+        };
+        let Some(base) = prepare(&mut self.spare, &self.cells, &self.geometry, now, command) else {
+            return Err(Refused {
+                at: 0,
+                why: Why::NotAWrite,
+            });
+        };
+        let end = write_orders(&mut self.spare, base.wcc, base.cursor, record)?;
+        swap(&mut self.cells, &mut self.spare);
+        self.size = base.size;
+        self.cursor = end.cursor;
+        self.lock = lock_after(base.wcc, self.lock);
+        self.aid = aid_after(base.wcc, self.aid);
+        Ok(told(base.wcc))
+    }
+}

@@ -1,0 +1,85 @@
+//! The text of a row.
+
+ghost use Rattle.std.specs.Prelude.{◌≡◌, ◌+◌, ◌<◌, ◌≤◌, map, length, IfOk, string_bytes};
+ghost use Rattle.std.specs.List.{range_with_len};
+ghost use Rattle.ds_screen.specs.Shown.{printed_code, printed_under, printed_cell};
+
+use crate::cells::Cells;
+use crate::ranges::{ruled_on, ruling};
+use crate::ring::previous;
+use ds_codec::{Attr, Cell};
+use std::alloc::{AllocError, Global};
+
+/// The characters that are printed for the codes from 40 to FF, `?` where a code has none.
+const PRINTED: [u8; 192] = [
+    b' ', b'?', b'?', b'?', b'?', b'?', b'?', b'?', b'?', b'?', b'?', b'.', b'<', b'(', b'+', b'|', //
+    b'&', b'?', b'?', b'?', b'?', b'?', b'?', b'?', b'?', b'?', b'!', b'$', b'*', b')', b';', b'?', //
+    b'-', b'/', b'?', b'?', b'?', b'?', b'?', b'?', b'?', b'?', b'?', b',', b'%', b'_', b'>', b'?', //
+    b'?', b'?', b'?', b'?', b'?', b'?', b'?', b'?', b'?', b'`', b':', b'#', b'@', b'\'', b'=',
+    b'"', //
+    b'?', b'a', b'b', b'c', b'd', b'e', b'f', b'g', b'h', b'i', b'?', b'?', b'?', b'?', b'?', b'?', //
+    b'?', b'j', b'k', b'l', b'm', b'n', b'o', b'p', b'q', b'r', b'?', b'?', b'?', b'?', b'?', b'?', //
+    b'?', b'~', b's', b't', b'u', b'v', b'w', b'x', b'y', b'z', b'?', b'?', b'?', b'?', b'?', b'?', //
+    b'^', b'?', b'?', b'?', b'?', b'?', b'?', b'?', b'?', b'?', b'[', b']', b'?', b'?', b'?', b'?', //
+    b'{', b'A', b'B', b'C', b'D', b'E', b'F', b'G', b'H', b'I', b'?', b'?', b'?', b'?', b'?', b'?', //
+    b'}', b'J', b'K', b'L', b'M', b'N', b'O', b'P', b'Q', b'R', b'?', b'?', b'?', b'?', b'?', b'?', //
+    b'\\', b'?', b'S', b'T', b'U', b'V', b'W', b'X', b'Y', b'Z', b'?', b'?', b'?', b'?', b'?',
+    b'?', //
+    b'0', b'1', b'2', b'3', b'4', b'5', b'6', b'7', b'8', b'9', b'?', b'?', b'?', b'?', b'?', b'?', //
+];
+
+/// The character of a code.
+fn printed(code: u8) -> u8
+    ensures value { result ≡ printed_code code }
+    ensures ascii { result < 128 }
+{
+    if code < 0x40 {
+        b'?'
+    } else {
+        PRINTED[usize::from(code) - 0x40]
+    }
+}
+
+/// What is printed of a cell, by the bits that rule it.
+fn printed_cell_under(bits: u8, cell: &Cell) -> u8
+    ensures value { result ≡ printed_under bits cell.now }
+    ensures ascii { result < 128 }
+{
+    match cell {
+        Cell::Field(_) => b'@',
+        Cell::Char(character) => {
+            let code = character.code();
+            if code == 0 {
+                b'.'
+            } else if Attr::new(bits).hidden() {
+                b'*'
+            } else if character.alt() {
+                b'?'
+            } else {
+                printed(code)
+            }
+        }
+    }
+}
+
+/// The text of the cells from a position on, of one row.
+pub(crate) fn row_text<C: Cells>(
+    alloc: Global,
+    cells: &C,
+    start: u32,
+    columns: u32,
+) -> Result<String, AllocError>
+    requires some { 0 < columns }
+    requires inside { start + columns ≤ length (C.content cells.now) }
+    ensures { IfOk result (λ text. string_bytes text ≡ map (printed_cell (C.content cells.now)) (range_with_len start columns)) }
+{
+    let n = cells.len();
+    let mut text = String::with_capacity(alloc, columns as usize)?;
+    let mut bits = ruling(cells, previous(n, start));
+    'places: for p in start..start + columns {
+        let cell = cells.cell(p);
+        bits = ruled_on(bits, &cell);
+        text.push(char::from(printed_cell_under(bits, &cell)))?;
+    }
+    Ok(text)
+}
