@@ -8,6 +8,10 @@ use Rattle.term3270.specs.declared.lines.Line.TheVariants.{Passed, Sized, Record
 use Rattle.term3270.specs.declared.input.Input.{Input}
 use Rattle.term3270.specs.Lines.{Kind, passed, sized, outbound, bad}
 use Rattle.term3270.specs.Input.{Found}
+use Rattle.term3270.specs.declared.show.Refusal as shown
+use Rattle.ds_screen.specs.Picture.{Picture}
+use Rattle.ds_codec.specs.Reading.{read_of}
+use Rattle.term3270.specs.Show.{Refusal, shown_by, shown_after}
 
 abbrev pub kind_seen : Line → Kind
 kind_seen Passed = passed
@@ -23,3 +27,17 @@ abbrev pub Gives : {A B : Type 0} → (A → B) → Result A Fault → Result B 
 Gives view (Ok found) due = due ≡ Ok (view found)
 Gives view (Err OutOfMemory) due = Unit {0}
 Gives view (Err fault) due = due ≡ Err fault
+
+-- a refusal as it is printed
+abbrev pub refusal_seen : shown.Refusal → Refusal
+refusal_seen refusal = record { index = refusal.index; at = refusal.at; words = refusal.words.now }
+
+-- the record led from one picture to the other, or was refused
+abbrev pub AppliesTo : Picture → Picture → ℕ → List ℕ → Result (Unit {0}) shown.Refusal → Type 0
+AppliesTo old new index bytes (Ok done) = shown_by index old (read_of old.geometry.mode bytes) ≡ Ok new
+AppliesTo old new index bytes (Err refusal) = shown_by index old (read_of old.geometry.mode bytes) ≡ Err (refusal_seen refusal)
+
+-- the same of all records
+abbrev pub AppliesAll : Picture → Picture → List (Vec ℕ) → Result (Unit {0}) shown.Refusal → Type 0
+AppliesAll old new records (Ok done) = shown_after 0 old (map (λ bytes. bytes.items) records) ≡ Ok new
+AppliesAll old new records (Err refusal) = shown_after 0 old (map (λ bytes. bytes.items) records) ≡ Err (refusal_seen refusal)

@@ -2,3 +2,5 @@ pub mod Lines
 pub mod Sizes
 pub mod Input
 pub mod Kinds
+pub mod Show
+pub mod Streams

@@ -4,6 +4,9 @@
 mod fault;
 mod input;
 mod lines;
+mod show;
 mod sizes;
+mod status;
+mod stream;
 
 fn main() {}

@@ -1,0 +1,26 @@
+-- What is written where a read or a write may fail.
+use Rattle.std.specs.Prelude.{◌≡◌, ℕ, List, ◌++◌, Option, ◌⊎◌}
+use Rattle.std.specs.Io.KnownBytes.{Appends}
+use Rattle.term3270.specs.declared.status.Status.{Status}
+use Rattle.term3270.specs.declared.status.Status.TheVariants.{Done, BadInput, Failed, NoMemory}
+use Rattle.term3270.specs.Show.{Printed}
+
+-- a front of the text was written
+abbrev pub AppendsFront : Option (List ℕ) → Option (List ℕ) → List ℕ → Type 0
+AppendsFront old new text = (front : List ℕ) × (rest : List ℕ) × (text ≡ front ++ rest) × Appends old new front
+
+abbrev pub IsWantOrFailure : Status → Type 0
+IsWantOrFailure Done = ⊥
+IsWantOrFailure BadInput = ⊥
+IsWantOrFailure Failed = Unit {0}
+IsWantOrFailure NoMemory = Unit {0}
+
+-- The text was written, and the status is its; or something failed, and a front of the text was written.
+abbrev pub Prints : Option (List ℕ) → Option (List ℕ) → Status → Printed → Type 0
+Prints old new Failed due = AppendsFront old new due.text
+Prints old new NoMemory due = AppendsFront old new due.text
+Prints old new status due = (status ≡ due.status) × Appends old new due.text
+
+-- a text grew by what is due, and the status is what is due
+abbrev pub PrintsAs : List ℕ → List ℕ → Status → Printed → Type 0
+PrintsAs old new status due = (new ≡ old ++ due.text) × (status ≡ due.status)
