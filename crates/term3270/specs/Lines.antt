@@ -40,6 +40,6 @@ sized_or None kind = kind
 abbrev pub kind_of : Bool → List ℕ → Kind
 kind_of first line =
     if is_utf8 line then
-      (if is_passed_over (without_spaces line) then passed
-       else sized_or (if first then geometry_told line else None) (record_kind (decode_of (without_spaces line))))
+    (if is_passed_over (without_spaces line) then passed
+    else sized_or (if first then geometry_told line else None) (record_kind (decode_of (without_spaces line))))
     else bad

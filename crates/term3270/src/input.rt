@@ -5,12 +5,11 @@ ghost use Rattle.term3270.specs.Input.{usual_sizes, nothing_found, after_line, a
 ghost use Rattle.term3270.specs.Lines.{lines_in};
 ghost use Rattle.term3270.specs.Kinds.{Gives, found_seen, kind_seen};
 
+use crate::fault::Fault;
+use crate::lines::{Line, line_kind};
 use bstr::ByteSlice;
 use ds_codec::{Geometry, Mode, Size};
 use std::alloc::Global;
-
-use crate::fault::Fault;
-use crate::lines::{Line, line_kind};
 
 /// The most bytes of an input.
 const MOST_BYTES: usize = 16_777_216;

@@ -7,11 +7,10 @@ ghost use Rattle.hex.specs.Hex.{decode_of};
 ghost use Rattle.term3270.specs.Lines.{kind_of, record_kind, sized_or, without_spaces, is_passed_over};
 ghost use Rattle.term3270.specs.Kinds.{kind_seen};
 
+use crate::sizes::told_geometry;
 use ds_codec::Geometry;
 use hex::FromHexError;
 use std::alloc::{AllocError, Global};
-
-use crate::sizes::told_geometry;
 
 /// What one line says.
 #[derive(Debug, Drop)]

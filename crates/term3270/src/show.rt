@@ -8,15 +8,14 @@ ghost use Rattle.term3270.specs.Show.{hex_byte, lock_word, header_line, field_li
 ghost use Rattle.term3270.specs.Kinds.{AppliesTo, AppliesAll, refusal_seen, found_seen};
 ghost use Rattle.term3270.specs.Streams.{Prints, PrintsAs};
 
-use ds_codec::Record;
-use ds_screen::{FieldAt, Lock, PlainCells, Screen};
-use std::alloc::{AllocError, Global};
-use std::io::{Read, Write};
-
 use crate::fault::Fault;
 use crate::input::{Input, read_input};
 use crate::status::Status;
 use crate::stream::{read_all, write_text};
+use ds_codec::Record;
+use ds_screen::{FieldAt, Lock, PlainCells, Screen};
+use std::alloc::{AllocError, Global};
+use std::io::{Read, Write};
 
 /// A record that is refused: its number, the place in it, and the printed words.
 #[derive(Clone, Copy, Debug)]
@@ -50,7 +49,10 @@ fn push_header(out: &mut String, screen: &Screen<PlainCells>) -> Result<(), Allo
     let cols = size.cols;
     let cursor = screen.cursor();
     let lock = word_of(screen.lock());
-    write!(out, "screen {rows}x{cols} cursor {cursor} keyboard {lock} aid ")?;
+    write!(
+        out,
+        "screen {rows}x{cols} cursor {cursor} keyboard {lock} aid "
+    )?;
     push_hex(out, screen.aid().byte())?;
     out.push_str("\n")
 }
@@ -58,7 +60,12 @@ fn push_header(out: &mut String, screen: &Screen<PlainCells>) -> Result<(), Allo
 fn push_field(out: &mut String, field: FieldAt) -> Result<(), AllocError>
     ensures { OnOk result (string_bytes out.new ≡ string_bytes out.old ++ field_line field) }
 {
-    let FieldAt { at, attr, place, length } = field;
+    let FieldAt {
+        at,
+        attr,
+        place,
+        length,
+    } = field;
     write!(out, "field {at} attr ")?;
     push_hex(out, attr.bits())?;
     write!(out, " place {place} length {length}\n")
@@ -73,7 +80,12 @@ fn push_fields(out: &mut String, screen: &Screen<PlainCells>) -> Result<(), Allo
     Ok(())
 }
 
-fn push_row(alloc: Global, out: &mut String, screen: &Screen<PlainCells>, row: u16) -> Result<(), AllocError>
+fn push_row(
+    alloc: Global,
+    out: &mut String,
+    screen: &Screen<PlainCells>,
+    row: u16,
+) -> Result<(), AllocError>
     requires { row < screen.now.size.rows }
     ensures { OnOk result (string_bytes out.new ≡ string_bytes out.old ++ row_line screen.now row) }
 {
@@ -92,7 +104,11 @@ fn push_rows(alloc: Global, out: &mut String, screen: &Screen<PlainCells>) -> Re
 }
 
 /// The screen's text.
-fn push_screen(alloc: Global, out: &mut String, screen: &Screen<PlainCells>) -> Result<(), AllocError>
+fn push_screen(
+    alloc: Global,
+    out: &mut String,
+    screen: &Screen<PlainCells>,
+) -> Result<(), AllocError>
     ensures { OnOk result (string_bytes out.new ≡ string_bytes out.old ++ screen_text screen.now) }
 {
     push_header(out, screen)?;
@@ -123,11 +139,19 @@ fn apply(screen: &mut Screen<PlainCells>, index: usize, bytes: &[u8]) -> Result<
 {
     let record = match Record::read(screen.geometry().mode(), bytes) {
         Ok(record) => record,
-        Err(refused) => return Err(Refusal { index, at: refused.at, words: refused.why.words() }),
+        Err(refused) => return Err(Refusal {
+            index,
+            at: refused.at,
+            words: refused.why.words(),
+        }),
     };
     match screen.apply(&record) {
         Ok(_) => Ok(()),
-        Err(refused) => Err(Refusal { index, at: refused.at, words: refused.why.words() }),
+        Err(refused) => Err(Refusal {
+            index,
+            at: refused.at,
+            words: refused.why.words(),
+        }),
     }
 }
 

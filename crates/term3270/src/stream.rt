@@ -5,11 +5,10 @@ ghost use Rattle.std.specs.Bool.{OnTrue};
 ghost use Rattle.std.specs.Io.KnownBytes.{Appends};
 ghost use Rattle.term3270.specs.Streams.{AppendsFront, IsWantOrFailure};
 
+use crate::status::Status;
 use std::alloc::Global;
 use std::io;
 use std::io::{Read, Write};
-
-use crate::status::Status;
 
 /// The most bytes of an input, and one more.
 const READ_LIMIT: u64 = 16_777_217;
