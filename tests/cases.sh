@@ -1,0 +1,36 @@
+#!/bin/sh
+# Runs each folder of tests/cases: the program with the words of `args` (one a line) and `stdin`, in
+# a folder with the case's other files; compares bytes of standard output with `stdout` and the exit
+# status with `status` (0 where there is none). A script `make-stdin` prints an input that is too
+# large to store.
+program=$(cd "$(dirname "$1")" && pwd)/$(basename "$1")
+cases=$(cd "$(dirname "$0")/cases" && pwd)
+work=$(mktemp -d) || exit 1
+trap 'rm -rf "$work"' EXIT
+passed=0
+failed=0
+for folder in "$cases"/*/; do
+  name=$(basename "$folder")
+  rm -rf "$work/in" && cp -r "$folder" "$work/in"
+  if [ -f "$work/in/make-stdin" ]; then sh "$work/in/make-stdin" > "$work/stdin"
+  elif [ -f "$work/in/stdin" ]; then cp "$work/in/stdin" "$work/stdin"
+  else : > "$work/stdin"; fi
+  set --
+  if [ -f "$work/in/args" ]; then
+    while IFS= read -r word || [ -n "$word" ]; do set -- "$@" "$word"; done < "$work/in/args"
+  fi
+  wanted=0
+  [ -f "$work/in/status" ] && wanted=$(cat "$work/in/status")
+  (cd "$work/in" && "$program" "$@" < "$work/stdin" > "$work/stdout" 2> "$work/stderr")
+  status=$?
+  [ -f "$work/in/stdout" ] || : > "$work/in/stdout"
+  if [ "$status" = "$wanted" ] && cmp -s "$work/in/stdout" "$work/stdout"; then
+    passed=$((passed + 1))
+  else
+    failed=$((failed + 1))
+    echo "case $name: status $status, wanted $wanted"
+    diff "$work/in/stdout" "$work/stdout" | head -n 10
+  fi
+done
+echo "$passed passed, $failed failed"
+[ "$failed" -eq 0 ]
