@@ -44,3 +44,6 @@ fn main(rt: HostRuntime) -> io::Result<ExitCode> {
         }
     }
 }
+
+#[cfg(test)]
+mod tests;
