@@ -1,5 +1,6 @@
 # make run    shows examples/first.hex through the program, which is built where it is missing
 # make build  leaves the program at bin/term3270
+# make bench  times the program beside plain Rust
 # make test   proves everything from nothing, then runs the golden cases of the built program
 RT := $(shell command -v rt 2>/dev/null)
 BUILT := crates/term3270/out/term3270
@@ -25,6 +26,9 @@ test: toolchain
 
 cases: bin/term3270
 	@sh tests/cases.sh bin/term3270
+
+bench: bin/term3270
+	@sh bench/run
 
 clean:
 	rm -rf bin crates/*/out
