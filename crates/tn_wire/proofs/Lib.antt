@@ -1,0 +1,7 @@
+pub mod Bytes
+pub mod Front
+pub mod Parts
+pub mod Reading
+pub mod Runs
+pub mod Steps
+pub mod Streams
