@@ -1,22 +1,21 @@
 -- What each byte does to the token that is open.
-use Rattle.std.proofs.Common.{◌≡◌, ℕ, zero, suc, take, drop, get_or, length-drop, ◌+◌, ◌<◌, ◌≤◌, List, [], ◌∷◌, ◌++◌, length, refl, sym, ◌∙◌, ap, subst, inl, inr, ⊎_elim, ◌⊎◌, arith, append_assoc, length-append, Ok, Err, None, Some, true, false}
+use Rattle.std.proofs.Common.{◌≡◌, ℕ, zero, suc, take, drop, get_or, length-drop, ◌<◌, ◌≤◌, List, [], ◌∷◌, ◌++◌, length, refl, sym, ◌∙◌, ap, subst, ⊎_elim, arith, append_assoc, length-append, Ok, Err, None, true, false}
 use Rattle.std.specs.Prelude.{Result, Option, eqb, ◌||◌}
 use Rattle.std.proofs.lemmas.List.{append-nil, take-append-drop, get_or-drop}
 use Rattle.std.proofs.lemmas.List.Concat.{flat_map-append}
 use Rattle.std.proofs.lemmas.Bool.{cases_lt, ne_eqb, or_from, not_from_false}
 use Rattle.tn_wire.specs.declared.event.WireFault.{WireFault}
-use Rattle.tn_wire.specs.declared.event.WireFault.TheVariants.{RecordTooLong, SubTooLong, BadSub}
+use Rattle.tn_wire.specs.declared.event.WireFault.TheVariants.{RecordTooLong, SubTooLong}
 use Rattle.tn_wire.specs.declared.codes.Verb.{Verb}
 use Rattle.tn_wire.specs.declared.codes.Verb.TheVariants.{Will, Wont, Do, Dont}
 use Rattle.tn_wire.specs.declared.open_token.Open.{Open}
 use Rattle.tn_wire.specs.declared.open_token.Open.TheVariants.{Nothing, Told, Escape, Command, Start, StartEscape, Inside, InsideEscape}
 use Rattle.tn_wire.specs.declared.open_token.Found.{Found}
-use Rattle.tn_wire.specs.declared.open_token.Found.TheVariants as found
 use Rattle.tn_wire.specs.Verbs.{verb_code, is_verb}
-use Rattle.tn_wire.specs.Telnet.{Token, data_byte, record_end, command, subnegotiation, passed, quoted, quoted_byte, has_meaning, IsPartial}
+use Rattle.tn_wire.specs.Telnet.{data_byte, record_end, command, subnegotiation, passed, quoted, quoted_byte, has_meaning, IsPartial}
 use Rattle.tn_wire.specs.Stream.{told_passed}
 use Rattle.tn_wire.specs.Calls.{Answers}
-use Rattle.tn_wire.specs.Open.{open_bytes, content_of, TakesByte}
+use Rattle.tn_wire.specs.Open.{open_bytes, TakesByte}
 use Rattle.tn_wire.proofs.Streams.{partial_nothing}
 use Rattle.tn_wire.proofs.Steps.{stays, completes, breaks}
 

@@ -1,4 +1,5 @@
 pub mod Bytes
+pub mod Clauses
 pub mod Front
 pub mod Parts
 pub mod Reading

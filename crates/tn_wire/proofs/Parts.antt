@@ -1,14 +1,9 @@
 -- Parts of a stream taken in turn, and the whole.
-use Rattle.std.proofs.Common.{◌≡◌, ℕ, ◌+◌, ◌<◌, ◌≤◌, List, [], ◌∷◌, ◌++◌, length, refl, sym, ◌∙◌, ap, subst, inl, inr, ⊎_elim, ◌⊎◌, arith, append_assoc, length-append, Ok, Err}
-use Rattle.std.specs.Prelude.{Result, MatchResult, ◌↔◌}
-use Rattle.std.specs.List.{flat_map}
-use Rattle.std.proofs.lemmas.List.{append-nil, append_cancel_left}
+use Rattle.std.proofs.Common.{◌≡◌, ℕ, ◌<◌, ◌≤◌, List, [], ◌∷◌, ◌++◌, length, refl, sym, ◌∙◌, ap, subst, ⊎_elim, arith, append_assoc, length-append}
 use Rattle.std.proofs.lemmas.List.Concat.{flat_map-append}
 use Rattle.tn_wire.specs.declared.event.WireFault.{WireFault}
-use Rattle.tn_wire.specs.Telnet.{Token, quoted, spelling, pending_after, AreTokens, IsPartial, SpellsTokens}
+use Rattle.tn_wire.specs.Telnet.{Token, quoted, spelling, pending_after, AreTokens, IsPartial}
 use Rattle.tn_wire.specs.Stream.{Told, events_after, events_of, Tells, IsFault, Faults}
-use Rattle.tn_wire.specs.Laws.{TellInTurn, TellsAsWhole, FaultsAsWhole, NoneAfterFault, HasOneFault, HasOneReading}
-use Rattle.tn_wire.proofs.Front.{Front, found, short, wrong, front, front_spelling, front_fault, partial_short}
 use Rattle.tn_wire.proofs.Reading as reading
 use Rattle.tn_wire.proofs.Reading.{spelled_all, data_tokens, spelled-data, pending-data, events-data, data_come, pending-append, events-append, tokens-append, pending_bound, append_split, NoToken, no_token-partial, no_token-fault, Stripped, strip, none_more}
 

@@ -1,13 +1,11 @@
 -- The laws of readings: one reading, parts taken in turn, and faults.
-use Rattle.std.proofs.Common.{◌≡◌, ℕ, ◌+◌, ◌<◌, ◌≤◌, List, [], ◌∷◌, ◌++◌, length, map, refl, sym, ◌∙◌, ap, subst, inl, inr, ⊎_elim, ◌⊎◌, arith, append_assoc, length-append, Ok, Err}
-use Rattle.std.specs.Prelude.{Result}
+use Rattle.std.proofs.Common.{◌≡◌, ℕ, ◌+◌, ◌<◌, ◌≤◌, List, [], ◌∷◌, ◌++◌, length, map, refl, sym, ◌∙◌, ap, subst, inl, inr, ⊎_elim, ◌⊎◌, arith, append_assoc, length-append}
 use Rattle.std.specs.List.{flat_map}
 use Rattle.std.proofs.lemmas.List.{append-nil}
-use Rattle.std.proofs.lemmas.List.Concat.{flat_map-append}
 use Rattle.tn_wire.specs.declared.event.WireFault.{WireFault}
-use Rattle.tn_wire.specs.Telnet.{Token, data_byte, record_end, command, subnegotiation, passed, quoted, quoted_byte, spelling, pending_after, MayCome, AreTokens, IsPartial, SpellsTokens}
-use Rattle.tn_wire.specs.Stream.{Told, events_after, events_of, Tells, IsFault, Faults}
-use Rattle.tn_wire.proofs.Front.{Front, found, short, wrong, front, front_spelling, front_fault, partial_short}
+use Rattle.tn_wire.specs.Telnet.{Token, data_byte, record_end, command, subnegotiation, passed, quoted, quoted_byte, spelling, pending_after, AreTokens, IsPartial, SpellsTokens}
+use Rattle.tn_wire.specs.Stream.{Told, events_after, IsFault}
+use Rattle.tn_wire.proofs.Front.{found, short, wrong, front, front_spelling, front_fault, partial_short}
 
 -- the tokens, spelled
 abbrev pub spelled_all : List Token → List ℕ

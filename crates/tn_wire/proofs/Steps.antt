@@ -1,11 +1,10 @@
 -- One byte more, and one answer after the other.
-use Rattle.std.proofs.Common.{◌≡◌, ℕ, ◌+◌, ◌<◌, ◌≤◌, List, [], ◌∷◌, ◌++◌, length, refl, sym, ◌∙◌, ap, subst, inl, inr, ⊎_elim, ◌⊎◌, arith, append_assoc, length-append, Ok, Err}
+use Rattle.std.proofs.Common.{◌≡◌, ℕ, ◌<◌, ◌≤◌, List, [], ◌∷◌, ◌++◌, length, refl, sym, ◌∙◌, ap, subst, ⊎_elim, arith, append_assoc, length-append, Ok, Err}
 use Rattle.std.specs.Prelude.{Result, MatchResult}
-use Rattle.std.specs.List.{flat_map}
-use Rattle.std.proofs.lemmas.List.{append-nil, append_cancel_left}
+use Rattle.std.proofs.lemmas.List.{append-nil}
 use Rattle.std.proofs.lemmas.List.Concat.{flat_map-append}
 use Rattle.tn_wire.specs.declared.event.WireFault.{WireFault}
-use Rattle.tn_wire.specs.Telnet.{Token, quoted, spelling, pending_after, MayCome, AreTokens, IsPartial, SpellsTokens}
+use Rattle.tn_wire.specs.Telnet.{Token, quoted, spelling, pending_after, MayCome, AreTokens, IsPartial}
 use Rattle.tn_wire.specs.Stream.{Told, events_after, Tells, IsFault, Faults}
 use Rattle.tn_wire.specs.Calls.{Answers, IsQuiet}
 use Rattle.tn_wire.specs.Laws.{HasOneAnswer}

@@ -1,15 +1,13 @@
 -- The laws over whole streams.
-use Rattle.std.proofs.Common.{◌≡◌, ℕ, ◌+◌, ◌<◌, ◌≤◌, List, [], ◌∷◌, ◌++◌, length, refl, sym, ◌∙◌, ap, subst, ⊎_elim, ◌⊎◌, arith, append_assoc, length-append, Ok, Err}
-use Rattle.std.specs.Prelude.{Result, MatchResult, ◌↔◌}
+use Rattle.std.proofs.Common.{◌≡◌, ℕ, List, [], ◌∷◌, ◌++◌, refl, sym, ◌∙◌, ap, subst, arith, append_assoc}
 use Rattle.std.specs.List.{flat_map}
 use Rattle.std.proofs.lemmas.List.{append-nil, append_cancel_left}
 use Rattle.tn_wire.specs.declared.event.WireFault.{WireFault}
-use Rattle.tn_wire.specs.Telnet.{Token, record_end, quoted, spelling, pending_after, AreTokens, IsPartial, SpellsTokens}
+use Rattle.tn_wire.specs.Telnet.{Token, record_end, spelling, pending_after, AreTokens, IsPartial}
 use Rattle.tn_wire.specs.Stream.{Told, events_of, Tells, IsFault, Faults}
-use Rattle.tn_wire.specs.Calls.{Answers, IsQuiet}
-use Rattle.tn_wire.specs.Laws.{TellInTurn, TellsAsWhole, FaultsAsWhole, NoneAfterFault, HasOneFault, HasOneAnswer}
-use Rattle.tn_wire.proofs.Front.{Front, found, short, wrong, front, front_spelling, front_fault, partial_short, length_none}
-use Rattle.tn_wire.proofs.Reading.{spelled_all, append_split, NoToken, no_token-partial, no_token-fault, Stripped, strip}
+use Rattle.tn_wire.specs.Laws.{TellInTurn, TellsAsWhole, FaultsAsWhole, NoneAfterFault, HasOneFault}
+use Rattle.tn_wire.proofs.Front.{found, short, wrong, front, front_spelling, front_fault, partial_short}
+use Rattle.tn_wire.proofs.Reading.{spelled_all, NoToken, no_token-partial, no_token-fault, Stripped, strip}
 use Rattle.tn_wire.proofs.Parts.{tells_once, tells_both, tells_rest, tells_front, faults_both, faults_rest}
 
 -- nothing at all is less than a token, whatever is open

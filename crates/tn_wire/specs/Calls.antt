@@ -1,5 +1,5 @@
 -- What a call of the deframer answers.
-use Rattle.std.specs.Prelude.{ℕ, ◌<◌, ◌≡◌, List, [], ◌∷◌, ◌++◌, length, Result, Ok, Err, MatchResult, OnOk, Option, None, Some}
+use Rattle.std.specs.Prelude.{ℕ, ◌<◌, ◌≡◌, List, [], ◌∷◌, ◌++◌, length, Result, Ok, Err, MatchResult}
 use Rattle.tn_wire.specs.declared.event.WireFault.{WireFault}
 use Rattle.tn_wire.specs.declared.event.Event.{Event as EventValue}
 use Rattle.tn_wire.specs.declared.event.Event.TheVariants.{Record as RecordEvent, Verb as VerbEvent, Sub as SubEvent, Passed as PassedEvent}
@@ -33,3 +33,8 @@ IsQuiet bytes = (left : List ℕ) × Tells bytes [] left
 pub record Answers (old taken : List ℕ) (events : Result (List Told) WireFault) (new : List ℕ) : Type 0 where
   pub answer : MatchResult events (λ told. Tells (old ++ taken) told new) (λ fault. Faults (old ++ taken) [] fault)
   pub needed : (front more : List ℕ) → taken ≡ front ++ more → 0 < length more → IsQuiet (old ++ front)
+
+-- each answer that a front of the input gives is this one, with this input left
+abbrev pub IsOnlyAnswer : List ℕ → List ℕ → Result (List Told) WireFault → List ℕ → Type 0
+IsOnlyAnswer old input events after = (taken rest left : List ℕ) (others : Result (List Told) WireFault) → input ≡ taken ++ rest
+    → Answers old taken others left → (others ≡ Ok [] → rest ≡ []) → (others ≡ events) × (rest ≡ after)

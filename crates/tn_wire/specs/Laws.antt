@@ -1,5 +1,5 @@
 -- What holds of every stream, by the definition of its tokens.
-use Rattle.std.specs.Prelude.{ℕ, ◌≡◌, ◌↔◌, List, [], ◌∷◌, ◌++◌, Result, Ok, Err}
+use Rattle.std.specs.Prelude.{ℕ, ◌≡◌, ◌↔◌, List, [], ◌∷◌, ◌++◌, Result, Ok}
 use Rattle.std.specs.List.{flat_map}
 use Rattle.tn_wire.specs.declared.event.WireFault.{WireFault}
 use Rattle.tn_wire.specs.Telnet.{Token, SpellsTokens}

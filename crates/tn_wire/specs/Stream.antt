@@ -1,5 +1,5 @@
 -- What a stream tells, what it leaves open, and where it is at fault.
-use Rattle.std.specs.Prelude.{ℕ, ◌+◌, ◌<◌, ◌≤◌, ◌≡◌, ◌≢◌, ◌⊎◌, List, [], ◌∷◌, ◌++◌, length}
+use Rattle.std.specs.Prelude.{ℕ, ◌+◌, ◌≤◌, ◌≡◌, ◌≢◌, ◌⊎◌, List, [], ◌∷◌, ◌++◌, length}
 use Rattle.std.specs.List.{flat_map}
 use Rattle.tn_wire.specs.declared.codes.TheConstants.{IAC, SB, SE, RECORD_LIMIT, SUBNEGOTIATION_LIMIT}
 use Rattle.tn_wire.specs.declared.event.WireFault.{WireFault}

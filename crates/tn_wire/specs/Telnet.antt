@@ -1,5 +1,5 @@
 -- The tokens of a Telnet stream that carries records, and how each is spelled (RFC 854, 855, 856, 885).
-use Rattle.std.specs.Prelude.{ℕ, ◌+◌, ◌<◌, ◌≤◌, ◌≡◌, Bool, true, ◌||◌, not, ◌==◌, if◌then◌else◌, List, [], ◌∷◌, ◌++◌, length}
+use Rattle.std.specs.Prelude.{ℕ, ◌<◌, ◌≤◌, ◌≡◌, Bool, true, ◌||◌, not, ◌==◌, if◌then◌else◌, List, [], ◌∷◌, ◌++◌, length}
 use Rattle.std.specs.List.{flat_map}
 use Rattle.tn_wire.specs.declared.codes.TheConstants.{IAC, SB, SE, EOR, RECORD_LIMIT, SUBNEGOTIATION_LIMIT}
 use Rattle.tn_wire.specs.Verbs.{is_verb}

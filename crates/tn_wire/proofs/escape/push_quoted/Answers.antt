@@ -1,4 +1,4 @@
-use Rattle.std.proofs.Common.{◌≡◌, ℕ, List, [], ◌∷◌, ◌++◌, length, drop, take, sym, ◌∙◌, ap, append_assoc}
+use Rattle.std.proofs.Common.{◌≡◌, ℕ, List, [], ◌∷◌, ◌++◌, drop, take, sym, ◌∙◌, ap, append_assoc}
 use Rattle.std.proofs.lemmas.List.{nil_from_length}
 use Rattle.tn_wire.specs.Telnet.{quoted}
 use Rattle.tn_wire.proofs.Bytes.{quoted_end, quoted_on}

@@ -1,4 +1,4 @@
-use Rattle.std.proofs.Common.{◌≡◌, List, [], ◌∷◌, ◌++◌, rules, sym, subst}
+use Rattle.std.proofs.Common.{◌≡◌, [], ◌∷◌, ◌++◌, rules, sym, subst}
 use Rattle.tn_wire.specs.Telnet.{quoted, record_end}
 use Rattle.tn_wire.specs.Stream.{Tells, told_record}
 use Rattle.tn_wire.proofs.Steps.{tells_token}

@@ -1,4 +1,4 @@
-use Rattle.std.proofs.Common.{◌≡◌, ℕ, List, [], ◌∷◌, refl, sym, subst}
+use Rattle.std.proofs.Common.{ℕ, List, refl, subst}
 use Rattle.tn_wire.specs.declared.open_token.Open.TheVariants.{Nothing, Command}
 use Rattle.tn_wire.specs.Verbs.{verb_code}
 use Rattle.tn_wire.specs.Telnet.{command}

@@ -1,5 +1,5 @@
-use Rattle.std.proofs.Common.{◌≡◌, ℕ, List, [], ◌∷◌, ◌++◌, length, refl, sym, ◌∙◌, ap, subst, inl, inr, arith, append_assoc}
-use Rattle.tn_wire.specs.declared.open_token.Open.TheVariants.{Nothing, Escape, Command, Start, StartEscape, Inside, InsideEscape}
+use Rattle.std.proofs.Common.{ℕ, List, [], ◌∷◌, sym, ap, arith}
+use Rattle.tn_wire.specs.declared.open_token.Open.TheVariants.{Escape, Command, Start}
 use Rattle.tn_wire.specs.Telnet.{record_end}
 use Rattle.std.proofs.lemmas.Bool.{false≢true, false_from_ne_true}
 use Rattle.tn_wire.specs.Verbs.{is_verb}

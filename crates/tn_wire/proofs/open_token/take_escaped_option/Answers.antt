@@ -1,5 +1,5 @@
-use Rattle.std.proofs.Common.{◌≡◌, ℕ, List, [], ◌∷◌, ◌++◌, length, refl, sym, ◌∙◌, ap, subst, inl, inr, arith, append_assoc}
-use Rattle.tn_wire.specs.declared.open_token.Open.TheVariants.{Nothing, Escape, Command, Start, StartEscape, Inside, InsideEscape}
+use Rattle.std.proofs.Common.{[], ◌∷◌, refl, ap, inl, arith}
+use Rattle.tn_wire.specs.declared.open_token.Open.TheVariants.{StartEscape}
 use Rattle.tn_wire.specs.declared.event.WireFault.TheVariants.{BadSub}
 use Rattle.tn_wire.proofs.Bytes.{option_taken, partial_state}
 use Rattle.tn_wire.proofs.Steps.{breaks}

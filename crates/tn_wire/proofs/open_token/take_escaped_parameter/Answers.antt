@@ -1,5 +1,5 @@
-use Rattle.std.proofs.Common.{◌≡◌, ◌≤◌, ℕ, List, [], ◌∷◌, ◌++◌, length, refl, sym, ◌∙◌, ap, subst, inl, inr, arith, append_assoc}
-use Rattle.tn_wire.specs.declared.open_token.Open.TheVariants.{Nothing, Escape, Command, Start, StartEscape, Inside, InsideEscape}
+use Rattle.std.proofs.Common.{◌≡◌, ◌≤◌, ℕ, List, [], ◌∷◌, ◌++◌, length, ◌∙◌, ap, inr, arith, append_assoc}
+use Rattle.tn_wire.specs.declared.open_token.Open.TheVariants.{InsideEscape}
 use Rattle.tn_wire.specs.declared.event.WireFault.TheVariants.{BadSub}
 use Rattle.tn_wire.specs.Telnet.{quoted, subnegotiation}
 use Rattle.tn_wire.specs.Open.{open_bytes}

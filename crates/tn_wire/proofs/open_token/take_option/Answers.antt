@@ -1,5 +1,5 @@
-use Rattle.std.proofs.Common.{◌≡◌, ℕ, List, [], ◌∷◌, ◌++◌, length, refl, sym, ◌∙◌, ap, subst, inl, inr, arith, append_assoc}
-use Rattle.tn_wire.specs.declared.open_token.Open.TheVariants.{Nothing, Escape, Command, Start, StartEscape, Inside, InsideEscape}
+use Rattle.std.proofs.Common.{[], ◌∷◌, ap}
+use Rattle.tn_wire.specs.declared.open_token.Open.TheVariants.{Start, StartEscape}
 use Rattle.tn_wire.proofs.Bytes.{goes_on, option_taken, once}
 use Rattle.tn_wire.proofs.open_token.take_option.Goals as goal
 

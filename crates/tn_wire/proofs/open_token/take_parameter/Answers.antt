@@ -1,5 +1,5 @@
-use Rattle.std.proofs.Common.{◌≡◌, ℕ, List, [], ◌∷◌, ◌++◌, length, refl, sym, ◌∙◌, ap, subst, inl, inr, arith, append_assoc}
-use Rattle.tn_wire.specs.declared.open_token.Open.TheVariants.{Nothing, Escape, Command, Start, StartEscape, Inside, InsideEscape}
+use Rattle.std.proofs.Common.{ℕ, List, [], ◌∷◌, ◌++◌, ap}
+use Rattle.tn_wire.specs.declared.open_token.Open.TheVariants.{Inside, InsideEscape}
 use Rattle.tn_wire.specs.Telnet.{quoted}
 use Rattle.tn_wire.proofs.Bytes.{goes_on, parameter_taken, once}
 use Rattle.tn_wire.proofs.open_token.take_parameter.Goals as goal

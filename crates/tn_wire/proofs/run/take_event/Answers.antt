@@ -1,4 +1,4 @@
-use Rattle.std.proofs.Common.{◌≡◌, ℕ, List, [], ◌∷◌, ◌++◌, length, length-append, refl, sym, ◌∙◌, ap, subst, arith, Ok, Err}
+use Rattle.std.proofs.Common.{◌≡◌, ℕ, List, [], ◌∷◌, length, length-append, refl, sym, ◌∙◌, ap, subst, arith, Ok, Err}
 use Rattle.std.specs.Prelude.{Result, Option, is_some, None, Some, true, false}
 use Rattle.tn_wire.specs.declared.open_token.Found.{Found}
 use Rattle.tn_wire.proofs.Steps.{fault_leaves}
@@ -7,8 +7,7 @@ use Rattle.std.proofs.lemmas.Result.{err_from_is_err_and}
 use Rattle.tn_wire.specs.declared.event.WireFault.{WireFault}
 use Rattle.tn_wire.specs.Stream.{Told}
 use Rattle.tn_wire.specs.Calls.{Answers}
-use Rattle.std.specs.Vec.{vec_capacity}
-use Rattle.tn_wire.specs.Open.{content_of, lent_of, found_events, HasRoom, GoesOn}
+use Rattle.tn_wire.specs.Open.{content_of, lent_of, found_events, GoesOn}
 use Rattle.tn_wire.proofs.Runs.{Next, none_taken, both_taken, next_byte}
 use Rattle.tn_wire.proofs.run.take_event.Goals as goal
 use Rattle.tn_wire.proofs.run.take_event.Goals.{After-take_run, After-take_byte}

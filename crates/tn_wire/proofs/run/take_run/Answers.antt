@@ -1,4 +1,3 @@
-use Rattle.std.proofs.Common.{List}
 use Rattle.tn_wire.proofs.Runs.{none_taken, run_taken}
 use Rattle.tn_wire.proofs.run.take_run.Goals as goal
 
