@@ -23,7 +23,7 @@ use std::marker::Model;
 /// that has not ended, and the token that is not whole.
 #[derive(Drop)]
 pub struct Deframer {
-    data: Vec<u8>,
+    kept: Vec<u8>,
     parameters: Parameters,
     state: Open,
     fault: Option<WireFault>,
@@ -37,9 +37,13 @@ impl Model for Deframer {
 
     ghost use Rattle.tn_wire.specs.Open.{content_of, lent_of, HasRoom};
 
-    ghost view = { λ s. record { content = content_of s.data.items s.parameters.items s.state; fault = s.fault; lent = lent_of s.data.items s.parameters.items s.state } };
+    ghost view = { λ s. record {
+      content = content_of s.kept.items s.parameters.items s.state;
+      fault = s.fault;
+      lent = lent_of s.kept.items s.parameters.items s.state;
+    } };
 
-    ghost invariant = { λ s. HasRoom s.data.items (vec_capacity s.data) s.parameters.items };
+    ghost invariant = { λ s. HasRoom s.kept.items (vec_capacity s.kept) s.parameters.items };
 }
 
 impl Deframer {
@@ -50,7 +54,7 @@ impl Deframer {
         ensures fault { IfOk result (λ deframer. deframer.fault ≡ None) }
     {
         Ok(Deframer {
-            data: Vec::with_capacity(alloc, RECORD_LIMIT)?,
+            kept: Vec::with_capacity(alloc, RECORD_LIMIT)?,
             parameters: ArrayVec::new(),
             state: Open::Nothing,
             fault: None,
@@ -67,12 +71,16 @@ impl Deframer {
         ensures answer { self.old.fault ≡ None → (taken : List ℕ) × (left : List ℕ)
             × (input.old.now ≡ taken ++ input.new.now) × Answers self.old.content taken (events_in result) left }
         ensures used_up { result ≡ Ok Step.NeedMore → input.new.now ≡ [] }
-        ensures shorter { IfOk result (λ step. step ≢ Step.NeedMore → length input.new.now < length input.old.now) }
+        ensures shorter { IfOk result (λ step. step ≢ Step.NeedMore
+            → length input.new.now < length input.old.now) }
         // No other answer is right.
-        ensures only { self.old.fault ≡ None → IsOnlyAnswer self.old.content input.old.now (events_in result) input.new.now }
-        ensures faulted { (fault : WireFault) → self.old.fault ≡ Some fault → (result ≡ Err fault) × (input.new.now ≡ input.old.now) }
+        ensures only { self.old.fault ≡ None
+            → IsOnlyAnswer self.old.content input.old.now (events_in result) input.new.now }
+        ensures faulted { (fault : WireFault) → self.old.fault ≡ Some fault
+            → (result ≡ Err fault) × (input.new.now ≡ input.old.now) }
         // The same of what is open once the event is no longer borrowed, and whether a fault was met.
-        ensures* after { sem 𝓛 (Rests the_row self.entry (λ new. Moves self.old input.old.now (events_in result) new input.new.now)) }
+        ensures* after { sem 𝓛 (Rests the_row self.entry (λ new.
+            Moves self.old input.old.now (events_in result) new input.new.now)) }
     {
         let found = self.advance(input)?;
         Ok(self.step(found))
@@ -85,7 +93,7 @@ impl Deframer {
         if let Some(fault) = self.fault {
             return Err(fault);
         }
-        let found = take_event(&mut self.data, &mut self.parameters, &mut self.state, input);
+        let found = take_event(&mut self.kept, &mut self.parameters, &mut self.state, input);
         if let Err(fault) = found {
             self.fault = Some(fault);
         }
@@ -97,7 +105,7 @@ impl Deframer {
         ensures { result.now ≡ self.now.lent }
     {
         match self.state {
-            Open::Told => self.data.as_slice(),
+            Open::Told => self.kept.as_slice(),
             _ => self.parameters.as_slice(),
         }
     }

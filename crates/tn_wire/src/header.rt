@@ -1,6 +1,7 @@
 //! The header of a TN3270E record (RFC 2355, section 8.1).
 
-ghost use Rattle.std.specs.Prelude.{◌≡◌, ◌<◌, ◌≤◌, ◌↔◌, List, ℕ, ◌++◌, length, slice_index, Err, IfOk, IsOkAnd, IfSome, IsSome, IsTrue};
+ghost use Rattle.std.specs.Prelude.{◌≡◌, ◌<◌, ◌≤◌, ◌↔◌, List, ℕ, ◌++◌, length, slice_index, Err};
+ghost use Rattle.std.specs.Prelude.{IfOk, IsOkAnd, IfSome, IsSome, IsTrue};
 ghost use Rattle.tn_wire.specs.Header.{type_code, is_type, header_bytes, FitsHeader};
 
 use byteorder::{BigEndian, ByteOrder};
@@ -78,27 +79,31 @@ pub enum HeaderFault {
     UnknownType,
 }
 
-/// A record's header: five bytes on the line.
+/// A record's header: five bytes on the line (RFC 2355, section 8.1).
 #[derive(Clone, Copy, Debug, PartialEq, Eq)]
 pub struct Header {
     /// What the record holds.
     pub data_type: DataType,
-    /// The request flag.
+    /// The request flag, any byte: its meaning goes with the data type (section 8.1.2).
     pub request: u8,
-    /// The response flag.
+    /// The response flag, any byte. On data 00 asks for no response, 01 for one to errors, 02 for one always; on a
+    /// RESPONSE 00 is positive, 01 negative (section 8.1.3).
     pub response: u8,
-    /// The sequence number, high byte first on the line.
+    /// The sequence number, high byte first on the line (section 8.1.4).
     pub seq: u16,
 }
 
 impl Header {
     /// The header at the front of a record, and the bytes after it.
+    ///
+    /// A record of fewer than five bytes is refused first, whatever its first byte; then a first byte above 08.
     pub fn read(bytes: &[u8]) -> Result<(Header, &[u8]), HeaderFault>
         ensures found { IfOk result (λ read. bytes.now ≡ header_bytes read.0 ++ read.1.now) }
         ensures only { (header : Header) (rest : List ℕ) → FitsHeader header → bytes.now ≡ header_bytes header ++ rest
             → IsOkAnd result (λ read. (read.0 ≡ header) × (read.1.now ≡ rest)) }
         ensures short { (result ≡ Err HeaderFault.ShortHeader) ↔ (length bytes.now < 5) }
-        ensures unknown { (result ≡ Err HeaderFault.UnknownType) ↔ ((5 ≤ length bytes.now) × (8 < slice_index bytes.now 0)) }
+        ensures unknown { (result ≡ Err HeaderFault.UnknownType)
+            ↔ ((5 ≤ length bytes.now) × (8 < slice_index bytes.now 0)) }
     {
         if bytes.len() < 5 {
             return Err(HeaderFault::ShortHeader);

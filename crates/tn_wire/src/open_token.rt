@@ -1,8 +1,7 @@
 //! The token that is open, one byte at a time.
 
-ghost use Rattle.std.specs.Prelude.{◌≡◌, ◌+◌, ◌<◌, ◌≤◌, List, ℕ, [], ◌∷◌, ◌++◌, length, Ok, Err, None, Some, vec_capacity};
-ghost use Rattle.tn_wire.specs.Telnet.{quoted};
-ghost use Rattle.tn_wire.specs.Open.{content_of, open_bytes, TakesByte, HasRoom};
+ghost use Rattle.std.specs.Prelude.{◌≡◌, ◌<◌, ◌≤◌, List, ℕ, [], ◌∷◌, ◌++◌, length, Ok, Err, None, vec_capacity};
+ghost use Rattle.tn_wire.specs.Open.{content_of, TakesByte, HasRoom};
 
 use crate::codes::{EOR, IAC, RECORD_LIMIT, SB, SE, SUBNEGOTIATION_LIMIT, Verb};
 use crate::event::WireFault;
@@ -45,14 +44,16 @@ pub(crate) enum Found {
 pub(crate) type Taken = Result<(Open, Option<Found>), WireFault>;
 
 /// Adds a byte to the record that is open.
-fn push_data(data: &mut Vec<u8>, byte: u8) -> Taken
-    requires { RECORD_LIMIT ≤ vec_capacity data.old }
-    ensures fits { length data.old.items < RECORD_LIMIT → (result ≡ Ok (Open.Nothing, None)) × (data.new.items ≡ data.old.items ++ byte ∷ []) }
-    ensures full { RECORD_LIMIT ≤ length data.old.items → (result ≡ Err WireFault.RecordTooLong) × (data.new.items ≡ data.old.items) }
-    ensures room { RECORD_LIMIT ≤ vec_capacity data.new }
+fn push_data(kept: &mut Vec<u8>, byte: u8) -> Taken
+    requires { RECORD_LIMIT ≤ vec_capacity kept.old }
+    ensures fits { length kept.old.items < RECORD_LIMIT
+        → (result ≡ Ok (Open.Nothing, None)) × (kept.new.items ≡ kept.old.items ++ byte ∷ []) }
+    ensures full { RECORD_LIMIT ≤ length kept.old.items
+        → (result ≡ Err WireFault.RecordTooLong) × (kept.new.items ≡ kept.old.items) }
+    ensures room { RECORD_LIMIT ≤ vec_capacity kept.new }
 {
-    if data.len() < RECORD_LIMIT {
-        data.push(byte).unwrap();
+    if kept.len() < RECORD_LIMIT {
+        kept.push(byte).unwrap();
         Ok((Open::Nothing, None))
     } else {
         Err(WireFault::RecordTooLong)
@@ -61,8 +62,11 @@ fn push_data(data: &mut Vec<u8>, byte: u8) -> Taken
 
 /// Adds a byte to the parameters that are open.
 fn push_parameter(parameters: &mut Parameters, option: u8, byte: u8) -> Taken
-    ensures fits { length parameters.old.items < SUBNEGOTIATION_LIMIT → (result ≡ Ok (Open.Inside option, None)) × (parameters.new.items ≡ parameters.old.items ++ byte ∷ []) }
-    ensures full { SUBNEGOTIATION_LIMIT ≤ length parameters.old.items → (result ≡ Err WireFault.SubTooLong) × (parameters.new.items ≡ parameters.old.items) }
+    ensures fits { length parameters.old.items < SUBNEGOTIATION_LIMIT
+        → (result ≡ Ok (Open.Inside option, None))
+        × (parameters.new.items ≡ parameters.old.items ++ byte ∷ []) }
+    ensures full { SUBNEGOTIATION_LIMIT ≤ length parameters.old.items
+        → (result ≡ Err WireFault.SubTooLong) × (parameters.new.items ≡ parameters.old.items) }
 {
     if parameters.len() < SUBNEGOTIATION_LIMIT {
         parameters.push(byte);
@@ -73,30 +77,32 @@ fn push_parameter(parameters: &mut Parameters, option: u8, byte: u8) -> Taken
 }
 
 /// Where no token is open.
-fn take_first(data: &mut Vec<u8>, byte: u8) -> Taken
-    requires limit { length data.old.items ≤ RECORD_LIMIT }
-    requires room { RECORD_LIMIT ≤ vec_capacity data.old }
-    ensures takes { (ps : List ℕ) → TakesByte (content_of data.old.items ps Open.Nothing) byte data.new.items ps result }
-    ensures limit { length data.new.items ≤ RECORD_LIMIT }
-    ensures room { RECORD_LIMIT ≤ vec_capacity data.new }
+fn take_first(kept: &mut Vec<u8>, byte: u8) -> Taken
+    requires limit { length kept.old.items ≤ RECORD_LIMIT }
+    requires room { RECORD_LIMIT ≤ vec_capacity kept.old }
+    ensures takes { (ps : List ℕ)
+        → TakesByte (content_of kept.old.items ps Open.Nothing) byte kept.new.items ps result }
+    ensures limit { length kept.new.items ≤ RECORD_LIMIT }
+    ensures room { RECORD_LIMIT ≤ vec_capacity kept.new }
 {
     if byte == IAC {
         Ok((Open::Escape, None))
     } else {
-        push_data(data, byte)
+        push_data(kept, byte)
     }
 }
 
 /// After IAC.
-fn take_escaped(data: &mut Vec<u8>, byte: u8) -> Taken
-    requires limit { length data.old.items ≤ RECORD_LIMIT }
-    requires room { RECORD_LIMIT ≤ vec_capacity data.old }
-    ensures takes { (ps : List ℕ) → TakesByte (content_of data.old.items ps Open.Escape) byte data.new.items ps result }
-    ensures limit { length data.new.items ≤ RECORD_LIMIT }
-    ensures room { RECORD_LIMIT ≤ vec_capacity data.new }
+fn take_escaped(kept: &mut Vec<u8>, byte: u8) -> Taken
+    requires limit { length kept.old.items ≤ RECORD_LIMIT }
+    requires room { RECORD_LIMIT ≤ vec_capacity kept.old }
+    ensures takes { (ps : List ℕ)
+        → TakesByte (content_of kept.old.items ps Open.Escape) byte kept.new.items ps result }
+    ensures limit { length kept.new.items ≤ RECORD_LIMIT }
+    ensures room { RECORD_LIMIT ≤ vec_capacity kept.new }
 {
     match byte {
-        IAC => push_data(data, IAC),
+        IAC => push_data(kept, IAC),
         EOR => Ok((Open::Told, Some(Found::Record))),
         SB => Ok((Open::Start, None)),
         _ => match Verb::from_byte(byte) {
@@ -109,7 +115,9 @@ fn take_escaped(data: &mut Vec<u8>, byte: u8) -> Taken
 /// After IAC SB.
 fn take_option(parameters: &mut Parameters, byte: u8) -> Taken
     requires { length parameters.old.items ≤ SUBNEGOTIATION_LIMIT }
-    ensures takes { (d : List ℕ) → length d ≤ RECORD_LIMIT → TakesByte (content_of d parameters.old.items Open.Start) byte d parameters.new.items result }
+    ensures takes { (d : List ℕ) → length d ≤ RECORD_LIMIT
+        → TakesByte (content_of d parameters.old.items Open.Start)
+        byte d parameters.new.items result }
     ensures limit { length parameters.new.items ≤ SUBNEGOTIATION_LIMIT }
 {
     if byte == IAC {
@@ -123,7 +131,9 @@ fn take_option(parameters: &mut Parameters, byte: u8) -> Taken
 /// After IAC SB IAC.
 fn take_escaped_option(parameters: &mut Parameters, byte: u8) -> Taken
     requires { length parameters.old.items ≤ SUBNEGOTIATION_LIMIT }
-    ensures takes { (d : List ℕ) → length d ≤ RECORD_LIMIT → TakesByte (content_of d parameters.old.items Open.StartEscape) byte d parameters.new.items result }
+    ensures takes { (d : List ℕ) → length d ≤ RECORD_LIMIT
+        → TakesByte (content_of d parameters.old.items Open.StartEscape)
+        byte d parameters.new.items result }
     ensures limit { length parameters.new.items ≤ SUBNEGOTIATION_LIMIT }
 {
     if byte == IAC {
@@ -137,7 +147,9 @@ fn take_escaped_option(parameters: &mut Parameters, byte: u8) -> Taken
 /// Inside a subnegotiation.
 fn take_parameter(parameters: &mut Parameters, option: u8, byte: u8) -> Taken
     requires { length parameters.old.items ≤ SUBNEGOTIATION_LIMIT }
-    ensures takes { (d : List ℕ) → length d ≤ RECORD_LIMIT → TakesByte (content_of d parameters.old.items (Open.Inside option)) byte d parameters.new.items result }
+    ensures takes { (d : List ℕ) → length d ≤ RECORD_LIMIT
+        → TakesByte (content_of d parameters.old.items (Open.Inside option))
+        byte d parameters.new.items result }
     ensures limit { length parameters.new.items ≤ SUBNEGOTIATION_LIMIT }
 {
     if byte == IAC {
@@ -150,7 +162,9 @@ fn take_parameter(parameters: &mut Parameters, option: u8, byte: u8) -> Taken
 /// Inside a subnegotiation, after IAC.
 fn take_escaped_parameter(parameters: &mut Parameters, option: u8, byte: u8) -> Taken
     requires { length parameters.old.items ≤ SUBNEGOTIATION_LIMIT }
-    ensures takes { (d : List ℕ) → length d ≤ RECORD_LIMIT → TakesByte (content_of d parameters.old.items (Open.InsideEscape option)) byte d parameters.new.items result }
+    ensures takes { (d : List ℕ) → length d ≤ RECORD_LIMIT
+        → TakesByte (content_of d parameters.old.items (Open.InsideEscape option))
+        byte d parameters.new.items result }
     ensures limit { length parameters.new.items ≤ SUBNEGOTIATION_LIMIT }
 {
     match byte {
@@ -162,22 +176,23 @@ fn take_escaped_parameter(parameters: &mut Parameters, option: u8, byte: u8) -> 
 
 /// Takes one byte.
 pub(crate) fn take_byte(
-    data: &mut Vec<u8>,
+    kept: &mut Vec<u8>,
     parameters: &mut Parameters,
     state: Open,
     byte: u8,
 ) -> Taken
-    requires { HasRoom data.old.items (vec_capacity data.old) parameters.old.items }
-    ensures takes { TakesByte (content_of data.old.items parameters.old.items state) byte data.new.items parameters.new.items result }
-    ensures room { HasRoom data.new.items (vec_capacity data.new) parameters.new.items }
+    requires { HasRoom kept.old.items (vec_capacity kept.old) parameters.old.items }
+    ensures takes { TakesByte (content_of kept.old.items parameters.old.items state)
+        byte kept.new.items parameters.new.items result }
+    ensures room { HasRoom kept.new.items (vec_capacity kept.new) parameters.new.items }
 {
     match state {
-        Open::Nothing => take_first(data, byte),
+        Open::Nothing => take_first(kept, byte),
         Open::Told => {
-            data.clear();
-            take_first(data, byte)
+            kept.clear();
+            take_first(kept, byte)
         }
-        Open::Escape => take_escaped(data, byte),
+        Open::Escape => take_escaped(kept, byte),
         Open::Command(verb) => Ok((Open::Nothing, Some(Found::Verb(verb, byte)))),
         Open::Start => take_option(parameters, byte),
         Open::StartEscape => take_escaped_option(parameters, byte),

@@ -15,7 +15,7 @@ returns-in-Told-clause-takes c =
     let ps : List ℕ = c.args.parameters.now.items in
     let taken = c.take_first-in-Told in
     rw c.in-Told.is
-    (subst (λ z. TakesByte (content_of z ps Nothing) c.args.byte taken.new.data.items ps taken.result) c.clear.ensures.items
+    (subst (λ z. TakesByte (content_of z ps Nothing) c.args.byte taken.new.kept.items ps taken.result) c.clear.ensures.items
     (taken.ensures.takes ps))
 
 pub returns-in-Escape-clause-takes : goal.returns-in-Escape-clause-takes
@@ -25,6 +25,6 @@ pub returns-in-Command-clause-takes : goal.returns-in-Command-clause-takes
 returns-in-Command-clause-takes c =
     let ps : List ℕ = c.args.parameters.now.items in
     rw c.in-Command.is
-    (completes c.args.data.now.items (open_bytes ps (Command c.in-Command.verb)) c.args.byte c.requires.record_fits
-    (partial_state c.args.data.now.items ps (Command c.in-Command.verb) c.requires.parameters_fit)
+    (completes c.args.kept.now.items (open_bytes ps (Command c.in-Command.verb)) c.args.byte c.requires.record_fits
+    (partial_state c.args.kept.now.items ps (Command c.in-Command.verb) c.requires.parameters_fit)
     (command (verb_code c.in-Command.verb) c.args.byte) (verb_is c.in-Command.verb) refl)

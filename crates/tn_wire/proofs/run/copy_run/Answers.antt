@@ -12,6 +12,6 @@ returns-clause-takes c = record {
   taken = sym (ap (λ z. take c.min.result c.args.input.now.now ++ z) c.split_at.ensures.back ∙ take-append-drop c.min.result c.args.input.now.now);
   added =
       c.extend_from_slice.ensures.items
-      ∙ cond-true (is_ok c.extend_from_slice.result) (c.args.data.now.items ++ c.split_at.result.0.now) c.args.data.now.items (ap is_ok c.unwrap.ensures)
-      ∙ ap (λ z. c.args.data.now.items ++ z) c.split_at.ensures.front;
+      ∙ cond-true (is_ok c.extend_from_slice.result) (c.args.kept.now.items ++ c.split_at.result.0.now) c.args.kept.now.items (ap is_ok c.unwrap.ensures)
+      ∙ ap (λ z. c.args.kept.now.items ++ z) c.split_at.ensures.front;
 }

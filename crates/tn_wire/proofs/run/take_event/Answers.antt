@@ -15,29 +15,29 @@ use Rattle.tn_wire.proofs.run.take_event.Goals.{After-take_run, After-take_byte}
 pub bytes-init : goal.bytes-init
 bytes-init c = record {
   goes_on =
-      none_taken c.args.data.now.items c.args.parameters.now.items c.args.state.now c.args.input.now.now c.requires.record_fits
+      none_taken c.args.kept.now.items c.args.parameters.now.items c.args.state.now c.args.input.now.now c.requires.record_fits
       c.requires.parameters_fit;
   room = c.requires;
 }
 
 -- up to the next IAC, or as far as before
-ran : (c : After-take_run) → GoesOn (content_of c.args.data.now.items c.args.parameters.now.items c.args.state.now) c.args.input.now.now
-    (content_of c.take_run.new.data.items c.bytes.parameters.items c.bytes.state) c.take_run.new.input.now
+ran : (c : After-take_run) → GoesOn (content_of c.args.kept.now.items c.args.parameters.now.items c.args.state.now) c.args.input.now.now
+    (content_of c.take_run.new.kept.items c.bytes.parameters.items c.bytes.state) c.take_run.new.input.now
 ran c =
-    both_taken (content_of c.args.data.now.items c.args.parameters.now.items c.args.state.now) c.args.input.now.now
-    (content_of c.bytes.data.items c.bytes.parameters.items c.bytes.state) c.bytes.input.now
-    (content_of c.take_run.new.data.items c.bytes.parameters.items c.bytes.state) c.take_run.new.input.now c.bytes.invariant.goes_on
+    both_taken (content_of c.args.kept.now.items c.args.parameters.now.items c.args.state.now) c.args.input.now.now
+    (content_of c.bytes.kept.items c.bytes.parameters.items c.bytes.state) c.bytes.input.now
+    (content_of c.take_run.new.kept.items c.bytes.parameters.items c.bytes.state) c.take_run.new.input.now c.bytes.invariant.goes_on
     (c.take_run.ensures.goes_on c.bytes.parameters.items c.bytes.invariant.room.parameters_fit)
 
 -- and one byte more
 took : (c : After-take_byte) (events : Result (List Told) WireFault) (new : List ℕ)
-    → Answers (content_of c.take_run.new.data.items c.bytes.parameters.items c.bytes.state) (c.in-Some.byte.now ∷ []) events new
-    → Next (content_of c.args.data.now.items c.args.parameters.now.items c.args.state.now) c.args.input.now.now events new c.in-Some.rest.now
+    → Answers (content_of c.take_run.new.kept.items c.bytes.parameters.items c.bytes.state) (c.in-Some.byte.now ∷ []) events new
+    → Next (content_of c.args.kept.now.items c.args.parameters.now.items c.args.state.now) c.args.input.now.now events new c.in-Some.rest.now
 took c events new p =
-    next_byte (content_of c.args.data.now.items c.args.parameters.now.items c.args.state.now) c.args.input.now.now
-    (content_of c.take_run.new.data.items c.bytes.parameters.items c.bytes.state) new c.in-Some.rest.now c.in-Some.byte.now events
-    (subst (λ z. GoesOn (content_of c.args.data.now.items c.args.parameters.now.items c.args.state.now) c.args.input.now.now
-    (content_of c.take_run.new.data.items c.bytes.parameters.items c.bytes.state) z) c.in-Some.ensures.cases.0 (ran (goal.at.After-take_byte c).After-take_run)) p
+    next_byte (content_of c.args.kept.now.items c.args.parameters.now.items c.args.state.now) c.args.input.now.now
+    (content_of c.take_run.new.kept.items c.bytes.parameters.items c.bytes.state) new c.in-Some.rest.now c.in-Some.byte.now events
+    (subst (λ z. GoesOn (content_of c.args.kept.now.items c.args.parameters.now.items c.args.state.now) c.args.input.now.now
+    (content_of c.take_run.new.kept.items c.bytes.parameters.items c.bytes.state) z) c.in-Some.ensures.cases.0 (ran (goal.at.After-take_byte c).After-take_run)) p
 
 pub returns-in_default-clause-takes : goal.returns-in_default-clause-takes
 returns-in_default-clause-takes c =
@@ -58,8 +58,8 @@ returns-in_err-next-clause-takes c =
       taken = one.taken;
       front = one.front;
       answers =
-          fault_leaves (content_of c.args.data.now.items c.args.parameters.now.items c.args.state.now) one.taken []
-          (content_of c.take_byte.new.data.items c.take_byte.new.parameters.items c.bytes.state) c.in_err-next.field-0.0 one.answers;
+          fault_leaves (content_of c.args.kept.now.items c.args.parameters.now.items c.args.state.now) one.taken []
+          (content_of c.take_byte.new.kept.items c.take_byte.new.parameters.items c.bytes.state) c.in_err-next.field-0.0 one.answers;
       used_up = λ none. absurd (cc);
       shorter = λ some. one.shorter;
     })
@@ -74,7 +74,7 @@ some_none (Some x) e none = cc
 
 pub returns-then-is_some-clause-takes : goal.returns-then-is_some-clause-takes
 returns-then-is_some-clause-takes c =
-    let kept : List ℕ = c.take_byte.new.data.items in
+    let kept : List ℕ = c.take_byte.new.kept.items in
     let parameters : List ℕ = c.take_byte.new.parameters.items in
     let one =
     took (goal.at.returns-then-is_some-clause-takes c).After-take_byte (Ok (found_events c.in_ok-next.found (lent_of kept parameters c.in_ok-next.next)))
@@ -95,13 +95,13 @@ bytes-smaller c =
 
 pub bytes-preserved : goal.bytes-preserved
 bytes-preserved c =
-    let kept : List ℕ = c.take_byte.new.data.items in
+    let kept : List ℕ = c.take_byte.new.kept.items in
     let parameters : List ℕ = c.take_byte.new.parameters.items in
     let left : List ℕ = content_of kept parameters c.in_ok-next.next in
     let none : c.in_ok-next.found ≡ None = none_of c.in_ok-next.found (sym c.is_some.ensures ∙ c.if-is_some.false) in
     let one =
     took (goal.at.bytes-preserved c).After-take_byte (Ok []) left
-    (subst (λ z. Answers (content_of c.take_run.new.data.items c.bytes.parameters.items c.bytes.state) (c.in-Some.byte.now ∷ [])
+    (subst (λ z. Answers (content_of c.take_run.new.kept.items c.bytes.parameters.items c.bytes.state) (c.in-Some.byte.now ∷ [])
     (Ok (found_events z (lent_of kept parameters c.in_ok-next.next))) left) none c.in_ok-next.ensures.takes) in
     record {
       goes_on = record { taken = one.taken; front = one.front; answers = one.answers };

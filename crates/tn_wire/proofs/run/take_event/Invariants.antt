@@ -10,8 +10,8 @@ pub record SoFar (old before kept : List ℕ) (capacity : ℕ) (parameters conte
 
 abbrev pub invariant-bytes : goal.invariant-bytes
 invariant-bytes l =
-    SoFar (content_of l.fn.data.items l.fn.parameters.items l.fn.state) l.fn.input.now l.data.items (vec_capacity l.data) l.parameters.items
-    (content_of l.data.items l.parameters.items l.state) l.input.now
+    SoFar (content_of l.fn.kept.items l.fn.parameters.items l.fn.state) l.fn.input.now l.kept.items (vec_capacity l.kept) l.parameters.items
+    (content_of l.kept.items l.parameters.items l.state) l.input.now
 
 abbrev pub decreases-bytes : goal.decreases-bytes
 decreases-bytes l = length l.input.now
