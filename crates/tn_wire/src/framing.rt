@@ -1,0 +1,23 @@
+//! Records written.
+
+ghost use Rattle.std.specs.Prelude.{◌≡◌, ◌≤◌, [], ◌∷◌, ◌++◌, length, IfOk};
+ghost use Rattle.tn_wire.specs.Telnet.{quoted};
+ghost use Rattle.tn_wire.specs.Stream.{told_record, Tells};
+
+use crate::codes::{EOR, IAC, RECORD_LIMIT};
+use crate::escape::push_quoted;
+use std::alloc::{AllocError, Global};
+
+/// The bytes of a record as they go over the line, each IAC twice (RFC 854), and then IAC EOR (RFC 885).
+///
+/// A record of more than 32,768 bytes is written too, and refused by a deframer.
+pub fn frame(alloc: Global, bytes: &[u8]) -> Result<Vec<u8>, AllocError>
+    ensures bytes { IfOk result (λ framed. framed.items ≡ quoted bytes.now ++ IAC ∷ EOR ∷ []) }
+    ensures one_record { IfOk result (λ framed. length bytes.now ≤ RECORD_LIMIT
+        → Tells framed.items (told_record bytes.now ∷ []) []) }
+{
+    let mut framed = Vec::with_capacity(alloc, bytes.len() + 2)?;
+    push_quoted(&mut framed, bytes)?;
+    framed.extend_from_slice(&[IAC, EOR])?;
+    Ok(framed)
+}
