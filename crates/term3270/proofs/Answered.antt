@@ -1,13 +1,14 @@
 -- What is printed for a reader's bytes, whatever a writer takes.
-use Rattle.std.proofs.Common.{◌≡◌, ℕ, ◌<◌, ◌≤◌, Bool, true, false, cond, ltb, List, [], ◌∷◌, ◌++◌, length, take, refl, sym, ap, subst, ◌∙◌, arith, ◌⊎◌, inl, inr, length-take, append-nil}
-use Rattle.std.specs.Prelude.{Option, Some, None, IfSome}
+use Rattle.std.proofs.Common.{◌≡◌, ℕ, true, ltb, List, [], length, take, refl, sym, ap, ◌∙◌, arith, inl, inr, length-take, append-nil}
+use Rattle.std.specs.Prelude.{Option, Some, None, IfSome, Result}
 use Rattle.std.specs.Io.KnownBytes.{Appends}
 use Rattle.std.proofs.lemmas.Bool.{cases_lt, lt-ltb}
 use Rattle.std.proofs.lemmas.List.{take_all}
 use Rattle.term3270.specs.declared.status.Status.{Status}
 use Rattle.term3270.specs.declared.status.Status.TheVariants.{Done, BadInput, Failed, NoMemory}
-use Rattle.term3270.specs.Input.{found_in}
-use Rattle.term3270.specs.Show.{Printed, printed_found, printed_show}
+use Rattle.term3270.specs.declared.fault.Fault.{Fault}
+use Rattle.term3270.specs.Input.{Found, found_in}
+use Rattle.term3270.specs.Show.{Printed}
 use Rattle.term3270.specs.Streams.{AppendsFront, IsWantOrFailure, Prints, PrintsAs}
 
 -- one byte more than an input can have tells that it is too long
@@ -21,19 +22,16 @@ up_to_limit input =
       | inr short ↦ ap found_in (take_all 16777217 input (omega arith))
     ]
 
-whole : (input : List ℕ) → printed_show (take 16777217 input) ≡ printed_show input
-whole input = ap printed_found (up_to_limit input)
-
 nothing_written : (known : Option (List ℕ)) → Appends known known []
 nothing_written None = tt
 nothing_written (Some bytes) = sym (append-nil bytes)
 
-pub stops : (known old : Option (List ℕ)) (status : Status) → IsWantOrFailure status → IfSome known (λ input. Prints old old status (printed_show input))
-stops None old status want = tt
-stops (Some input) old Done want = absurd want
-stops (Some input) old BadInput want = absurd want
-stops (Some input) old Failed want = ([], (printed_show input).text, refl, nothing_written old)
-stops (Some input) old NoMemory want = ([], (printed_show input).text, refl, nothing_written old)
+pub stops : (due : Result Found Fault → Printed) (known old : Option (List ℕ)) (status : Status) → IsWantOrFailure status → IfSome known (λ input. Prints old old status (due (found_in input)))
+stops due None old status want = tt
+stops due (Some input) old Done want = absurd want
+stops due (Some input) old BadInput want = absurd want
+stops due (Some input) old Failed want = ([], (due (found_in input)).text, refl, nothing_written old)
+stops due (Some input) old NoMemory want = ([], (due (found_in input)).text, refl, nothing_written old)
 
 all_is_front : (old new : Option (List ℕ)) (text : List ℕ) → Appends old new text → AppendsFront old new text
 all_is_front old new text all = (text, [], sym (append-nil text), all)
@@ -44,18 +42,18 @@ prints_all old new BadInput due same all = (same, all)
 prints_all old new Failed due same all = all_is_front old new due.text all
 prints_all old new NoMemory due same all = all_is_front old new due.text all
 
-pub answered : (known old new : Option (List ℕ)) (text out first : List ℕ) (status : Status) → IfSome known (λ input. text ≡ take 16777217 input) → first ≡ [] → PrintsAs first out status (printed_show text)
-    → Appends old new out → IfSome known (λ input. Prints old new status (printed_show input))
-answered None old new text out first status read empty prints all = tt
-answered (Some input) old new text out first status read empty (out-is, status-is) all =
-    let same : printed_show text ≡ printed_show input = ap printed_show read ∙ whole input in
-    let text-is : out ≡ (printed_show input).text = out-is ∙ rw (empty, same) refl in
-    prints_all old new status (printed_show input) (status-is ∙ ap (λ (p : Printed). p.status) same) (rw (← text-is) all)
+pub answered : (due : Result Found Fault → Printed) (known old new : Option (List ℕ)) (text out first : List ℕ) (status : Status) → IfSome known (λ input. text ≡ take 16777217 input) → first ≡ [] → PrintsAs first out status (due (found_in text))
+    → Appends old new out → IfSome known (λ input. Prints old new status (due (found_in input)))
+answered due None old new text out first status read empty prints all = tt
+answered due (Some input) old new text out first status read empty (out-is, status-is) all =
+    let same : due (found_in text) ≡ due (found_in input) = ap (λ t. due (found_in t)) read ∙ ap due (up_to_limit input) in
+    let text-is : out ≡ (due (found_in input)).text = out-is ∙ rw (empty, same) refl in
+    prints_all old new status (due (found_in input)) (status-is ∙ ap (λ (p : Printed). p.status) same) (rw (← text-is) all)
 
-pub broken : (known old new : Option (List ℕ)) (text out first : List ℕ) (status : Status) → IfSome known (λ input. text ≡ take 16777217 input) → first ≡ [] → PrintsAs first out status (printed_show text)
-    → AppendsFront old new out → IfSome known (λ input. Prints old new Failed (printed_show input))
-broken None old new text out first status read empty prints part = tt
-broken (Some input) old new text out first status read empty (out-is, status-is) part =
-    let same : printed_show text ≡ printed_show input = ap printed_show read ∙ whole input in
-    let text-is : out ≡ (printed_show input).text = out-is ∙ rw (empty, same) refl in
+pub broken : (due : Result Found Fault → Printed) (known old new : Option (List ℕ)) (text out first : List ℕ) (status : Status) → IfSome known (λ input. text ≡ take 16777217 input) → first ≡ [] → PrintsAs first out status (due (found_in text))
+    → AppendsFront old new out → IfSome known (λ input. Prints old new Failed (due (found_in input)))
+broken due None old new text out first status read empty prints part = tt
+broken due (Some input) old new text out first status read empty (out-is, status-is) part =
+    let same : due (found_in text) ≡ due (found_in input) = ap (λ t. due (found_in t)) read ∙ ap due (up_to_limit input) in
+    let text-is : out ≡ (due (found_in input)).text = out-is ∙ rw (empty, same) refl in
     rw (← text-is) part

@@ -4,3 +4,4 @@ pub mod Input
 pub mod Kinds
 pub mod Show
 pub mod Streams
+pub mod OrderLines

@@ -1,12 +1,11 @@
 -- What `show` prints, as a function of its input.
-use Rattle.std.specs.Prelude.{ℕ, ◌+◌, ◌/◌, ◌%◌, List, [], ◌∷◌, ◌++◌, codes, map, Result, Ok, Err, true}
+use Rattle.std.specs.Prelude.{ℕ, ◌+◌, ◌/◌, ◌%◌, List, [], ◌∷◌, ◌++◌, codes, Result, Ok, Err, true}
 use Rattle.std.specs.List.{flat_map, range_with_len}
 use Rattle.std.specs.Fmt.{decimal, digit_glyph}
 use Rattle.ds_codec.specs.declared.refused.Refused.{Refused}
 use Rattle.ds_codec.specs.Record.{Message}
 use Rattle.ds_codec.specs.Reading.{read_of}
 use Rattle.ds_codec.specs.Refused.{why_words}
-use Rattle.ds_codec.specs.Geometry.{Sizes}
 use Rattle.ds_screen.specs.declared.lock.Lock.{Lock}
 use Rattle.ds_screen.specs.declared.lock.Lock.TheVariants.{Free, Waiting, Error}
 use Rattle.ds_screen.specs.declared.field.FieldAt.{FieldAt}

@@ -1,5 +1,5 @@
 -- What is written where a read or a write may fail.
-use Rattle.std.specs.Prelude.{◌≡◌, ℕ, List, ◌++◌, Option, ◌⊎◌}
+use Rattle.std.specs.Prelude.{◌≡◌, ℕ, List, ◌++◌, Option}
 use Rattle.std.specs.Io.KnownBytes.{Appends}
 use Rattle.term3270.specs.declared.status.Status.{Status}
 use Rattle.term3270.specs.declared.status.Status.TheVariants.{Done, BadInput, Failed, NoMemory}

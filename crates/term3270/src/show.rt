@@ -20,9 +20,9 @@ use std::io::{Read, Write};
 /// A record that is refused: its number, the place in it, and the printed words.
 #[derive(Clone, Copy, Debug)]
 pub struct Refusal {
-    index: usize,
-    at: usize,
-    words: &'static str,
+    pub index: usize,
+    pub at: usize,
+    pub words: &'static str,
 }
 
 fn word_of(lock: Lock) -> &'static str
@@ -35,7 +35,7 @@ fn word_of(lock: Lock) -> &'static str
     }
 }
 
-fn push_hex(out: &mut String, byte: u8) -> Result<(), AllocError>
+pub fn push_hex(out: &mut String, byte: u8) -> Result<(), AllocError>
     ensures { OnOk result (string_bytes out.new ≡ string_bytes out.old ++ hex_byte byte) }
 {
     write!(out, "{byte:02X}")
@@ -116,14 +116,14 @@ fn push_screen(
     push_rows(alloc, out, screen)
 }
 
-fn push_refusal(out: &mut String, refusal: Refusal) -> Result<(), AllocError>
+pub fn push_refusal(out: &mut String, refusal: Refusal) -> Result<(), AllocError>
     ensures { OnOk result (string_bytes out.new ≡ string_bytes out.old ++ refusal_line (refusal_seen refusal)) }
 {
     let Refusal { index, at, words } = refusal;
     write!(out, "record {index} refused at {at}: {words}\n")
 }
 
-fn push_fault(out: &mut String, fault: Fault) -> Result<(), AllocError>
+pub fn push_fault(out: &mut String, fault: Fault) -> Result<(), AllocError>
     ensures { OnOk result (string_bytes out.new ≡ string_bytes out.old ++ fault_line fault) }
 {
     match fault {

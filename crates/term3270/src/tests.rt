@@ -1,5 +1,6 @@
 //! `show` over readers and writers in memory, and over ones that fail.
 
+use crate::convert::run_convert;
 use crate::show::run_show;
 use crate::status::Status;
 use std::io;
@@ -149,6 +150,21 @@ fn a_failed_write_leaves_a_front(rt: HostRuntime) -> Result<(), Fail> {
     assert_eq!(rt;
         run_show(rt.alloc(), &mut reader, &mut writer),
         Status::Failed
+    );
+    Ok(())
+}
+
+#[test]
+fn converts_a_record(rt: HostRuntime) -> Result<(), Fail> {
+    let mut reader = INPUT.as_bytes();
+    let mut writer = Vec::new(rt.alloc());
+    assert_eq!(rt;
+        run_convert(rt.alloc(), &mut reader, &mut writer),
+        Status::Done
+    );
+    assert_eq!(rt;
+        writer.as_slice(),
+        b"EW C2\nSF 20\nTEXT C1\nSF 00\nIC\nSBA 6\nSF 30\n\n".as_slice()
     );
     Ok(())
 }

@@ -1,4 +1,3 @@
-use Rattle.std.proofs.Common.{ℕ}
 use Rattle.term3270.proofs.Prefixes.{up_to}
 use Rattle.term3270.proofs.stream.read_all.Goals as goal
 

@@ -1,4 +1,4 @@
-use Rattle.std.proofs.Common.{◌++◌, take, ap, ◌∙◌}
+use Rattle.std.proofs.Common.{◌++◌, take}
 use Rattle.std.proofs.lemmas.List.{take_rest}
 use Rattle.term3270.proofs.Prefixes.{appends_more, rest_more}
 use Rattle.term3270.proofs.stream.write_text.Goals as goal
