@@ -185,13 +185,13 @@ impl<C: Cells> Screen<C> {
     /// address is not below the number of cells. A2: no attribute stands where one is to be changed. A3,
     /// at 0: the command is a read or No-operation. Works on the second buffer, in time linear in the
     /// record's bytes and the cells that it touches.
-    pub fn apply(&mut self, record: &Record<'_>) -> Result<Effect, Refused>
-        ensures shows { OnOk result (RecordShows self.old record.now self.new) }
-        ensures told { IfOk result (λ effect. effect ≡ told_of record.now.command) }
-        ensures refused { IfErr result (IsRefusedBy self.old record.now) }
+    pub fn apply(&mut self, outbound: &Record<'_>) -> Result<Effect, Refused>
+        ensures shows { OnOk result (RecordShows self.old outbound.now self.new) }
+        ensures told { IfOk result (λ effect. effect ≡ told_of outbound.now.command) }
+        ensures refused { IfErr result (IsRefusedBy self.old outbound.now) }
         ensures unchanged { OnErr result (self.new ≡ self.old) }
     {
-        let command = record.command();
+        let command = outbound.command();
         if let Command::EraseAllUnprotected = command {
             self.cursor = clear_unprotected(&mut self.cells);
             self.lock = Lock::Free;
@@ -212,7 +212,7 @@ impl<C: Cells> Screen<C> {
                 why: Why::NotAWrite,
             });
         };
-        let end = write_orders(&mut self.spare, base.wcc, base.cursor, record)?;
+        let end = write_orders(&mut self.spare, base.wcc, base.cursor, outbound)?;
         swap(&mut self.cells, &mut self.spare);
         self.size = base.size;
         self.cursor = end.cursor;
