@@ -7,5 +7,7 @@ pub mod TabLaws
 pub mod ActLaws
 pub mod ShowLaws
 pub mod SpanLaws
+pub mod EffectLaws
+pub mod GovernLaws
 pub mod PrintLaws
 pub mod Rows

@@ -7,4 +7,5 @@ pub mod State
 pub mod Records
 pub mod Reset
 pub mod Kept
+pub mod Laws
 pub mod Refused

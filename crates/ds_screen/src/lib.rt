@@ -5,6 +5,7 @@ mod cells;
 mod effect;
 mod field;
 mod fields;
+mod laws;
 mod lock;
 mod orders;
 mod plain;
@@ -22,7 +23,14 @@ pub use cells::Cells;
 pub use effect::Effect;
 pub use field::FieldAt;
 pub use fields::Fields;
+pub use laws::{
+    distance_is_least, each_write_has_an_effect, nearest_attribute_governs, one_effect,
+    refused_at_the_least,
+};
 pub use lock::Lock;
 pub use plain::PlainCells;
 pub use refused::{Refused, Why};
 pub use screen::Screen;
+
+#[cfg(test)]
+mod tests;

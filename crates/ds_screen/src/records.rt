@@ -20,17 +20,17 @@ use ds_codec::{Cell, Command, Geometry, Record, Size};
 pub(crate) fn run_orders<C: Cells>(
     cells: &mut C,
     start: State,
-    record: &Record<'_>,
+    outbound: &Record<'_>,
 ) -> Result<State, Refused>
     requires { IsInside (C.content cells.old) start }
-    ensures done { IfOk result (λ end. acts record.now.orders (writing (C.content cells.old) start) ≡ Ok (writing (C.content cells.new) end)) }
+    ensures done { IfOk result (λ end. acts outbound.now.orders (writing (C.content cells.old) start) ≡ Ok (writing (C.content cells.new) end)) }
     ensures inside { IfOk result (IsInside (C.content cells.new)) }
-    ensures refused { IfErr result (λ e. acts record.now.orders (writing (C.content cells.old) start) ≡ Err e) }
+    ensures refused { IfErr result (λ e. acts outbound.now.orders (writing (C.content cells.old) start) ≡ Err e) }
     ensures whole { OnOk result (length (C.content cells.new) ≡ length (C.content cells.old)) }
     ensures room { C.capacity cells.new ≡ C.capacity cells.old }
 {
     let mut state = start;
-    'orders: for placed in record.orders() {
+    'orders: for placed in outbound.orders() {
         match act(cells, state, &placed.order) {
             Ok(after) => state = after,
             Err(why) => return Err(Refused { at: placed.at, why }),
@@ -181,12 +181,12 @@ pub(crate) fn write_orders<C: Cells>(
     cells: &mut C,
     wcc: u8,
     cursor: u32,
-    record: &Record<'_>,
+    outbound: &Record<'_>,
 ) -> Result<State, Refused>
     requires { cursor < length (C.content cells.old) }
-    ensures done { IfOk result (λ end. acts record.now.orders (begun wcc (C.content cells.old) cursor) ≡ Ok (writing (C.content cells.new) end)) }
+    ensures done { IfOk result (λ end. acts outbound.now.orders (begun wcc (C.content cells.old) cursor) ≡ Ok (writing (C.content cells.new) end)) }
     ensures inside { IfOk result (IsInside (C.content cells.new)) }
-    ensures refused { IfErr result (λ e. acts record.now.orders (begun wcc (C.content cells.old) cursor) ≡ Err e) }
+    ensures refused { IfErr result (λ e. acts outbound.now.orders (begun wcc (C.content cells.old) cursor) ≡ Err e) }
     ensures whole { OnOk result (length (C.content cells.new) ≡ length (C.content cells.old)) }
     ensures room { C.capacity cells.new ≡ C.capacity cells.old }
 {
@@ -198,5 +198,5 @@ pub(crate) fn write_orders<C: Cells>(
         address: cursor,
         nulling: false,
     };
-    run_orders(cells, start, record)
+    run_orders(cells, start, outbound)
 }

@@ -183,15 +183,16 @@ impl<C: Cells> Screen<C> {
 
     /// Does what a record says, or refuses it at the least order at fault and changes nothing. A1: an
     /// address is not below the number of cells. A2: no attribute stands where one is to be changed. A3,
-    /// at 0: the command is a read or No-operation. Works on the second buffer, in time linear in the
-    /// record's bytes and the cells that it touches.
-    pub fn apply(&mut self, record: &Record<'_>) -> Result<Effect, Refused>
-        ensures shows { OnOk result (RecordShows self.old record.now self.new) }
-        ensures told { IfOk result (λ effect. effect ≡ told_of record.now.command) }
-        ensures refused { IfErr result (IsRefusedBy self.old record.now) }
+    /// at 0: the command is a read or No-operation. Works on the second buffer and takes no memory. An erase,
+    /// the copy that a Write begins with, a reset of all modified data tags and Erase All Unprotected go over
+    /// the whole buffer; everything else takes time linear in the record's bytes and the cells it touches.
+    pub fn apply(&mut self, outbound: &Record<'_>) -> Result<Effect, Refused>
+        ensures shows { OnOk result (RecordShows self.old outbound.now self.new) }
+        ensures told { IfOk result (λ effect. effect ≡ told_of outbound.now.command) }
+        ensures refused { IfErr result (IsRefusedBy self.old outbound.now) }
         ensures unchanged { OnErr result (self.new ≡ self.old) }
     {
-        let command = record.command();
+        let command = outbound.command();
         if let Command::EraseAllUnprotected = command {
             self.cursor = clear_unprotected(&mut self.cells);
             self.lock = Lock::Free;
@@ -212,7 +213,7 @@ impl<C: Cells> Screen<C> {
                 why: Why::NotAWrite,
             });
         };
-        let end = write_orders(&mut self.spare, base.wcc, base.cursor, record)?;
+        let end = write_orders(&mut self.spare, base.wcc, base.cursor, outbound)?;
         swap(&mut self.cells, &mut self.spare);
         self.size = base.size;
         self.cursor = end.cursor;

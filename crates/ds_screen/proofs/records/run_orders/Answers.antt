@@ -8,10 +8,10 @@ use Rattle.ds_screen.proofs.records.run_orders.Goals as goal
 
 pub orders-init : goal.orders-init
 orders-init g c =
-    let same : c.into_iter-placed-iterator.result ≡ c.args.record.now.orders = c.into_iter-placed-iterator.ensures.into_iter_gives ∙ c.orders-placed-items.ensures.all in
+    let same : c.into_iter-placed-iterator.result ≡ c.args.outbound.now.orders = c.into_iter-placed-iterator.ensures.into_iter_gives ∙ c.orders-placed-items.ensures.all in
     record {
       rest = ap (λ sites. acts sites (writing (g.C.Cells.content c.args.cells.now) c.args.start)) same;
-      characters = subst HaveCharacters (sym same) (orders_characters c.args.record.now.orders c.orders-placed-items.ensures.spelled);
+      characters = subst HaveCharacters (sym same) (orders_characters c.args.outbound.now.orders c.orders-placed-items.ensures.spelled);
       inside = c.requires;
       whole = refl;
       room = refl;

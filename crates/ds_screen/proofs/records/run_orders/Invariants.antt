@@ -8,7 +8,7 @@ abbrev pub invariant-orders : goal.invariant-orders
 invariant-orders g l =
     let content = g.C.Cells.content in
     record {
-      rest : acts l.placed-iterator (writing (content l.cells) l.state) ≡ acts l.record.orders (writing (content l.fn.cells) l.fn.start);
+      rest : acts l.placed-iterator (writing (content l.cells) l.state) ≡ acts l.outbound.orders (writing (content l.fn.cells) l.fn.start);
       characters : HaveCharacters l.placed-iterator;
       inside : IsInside (content l.cells) l.state;
       whole : length (content l.cells) ≡ length (content l.fn.cells);

@@ -10,12 +10,12 @@ use Rattle.ds_screen.proofs.screen.Screen.apply.Goals as goal
 pub returns-in_default-prepare-clause-refused : goal.returns-in_default-prepare-clause-refused
 returns-in_default-prepare-clause-refused g c =
     read_refused c.self.inside.geometry c.self.inside.size (g.C.Cells.content c.self.inside.cells) c.self.inside.cursor c.self.inside.lock c.self.inside.aid
-    c.args.self.now c.args.record.now c.command-command.result c.self.view_is c.command-command.ensures c.in_default.not-EraseAllUnprotected c.in_default-prepare.ensures.start
+    c.args.self.now c.args.outbound.now c.command-command.result c.self.view_is c.command-command.ensures c.in_default.not-EraseAllUnprotected c.in_default-prepare.ensures.start
 
 pub returns-in-EraseAllUnprotected-clause-shows : goal.returns-in-EraseAllUnprotected-clause-shows
 returns-in-EraseAllUnprotected-clause-shows g c =
     clear_shows c.self.inside.geometry c.self.inside.size (g.C.Cells.content c.self.inside.cells) c.self.inside.cursor c.self.inside.lock c.self.inside.aid
-    c.args.self.now c.args.record.now c.command-command.result (g.C.Cells.content c.clear_unprotected-self-inside.new.cells) c.clear_unprotected-self-inside.result
+    c.args.self.now c.args.outbound.now c.command-command.result (g.C.Cells.content c.clear_unprotected-self-inside.new.cells) c.clear_unprotected-self-inside.result
     c.none-self-inside.result c.self.view_is c.command-command.ensures c.in-EraseAllUnprotected.is c.clear_unprotected-self-inside.ensures.stored
     c.clear_unprotected-self-inside.ensures.first c.none-self-inside.ensures
 
@@ -24,7 +24,7 @@ returns-in_err-end-clause-refused g c =
     let start : Start = record { wcc = c.in-Some.base.wcc; size = c.in-Some.base.size; cells = g.C.Cells.content c.prepare.new.spare; cursor = c.in-Some.base.cursor } in
     let p = err_from_is_err_and c.from_residual.result c.from_residual.ensures.1 in
     let refused = order_refused c.self.inside.geometry c.self.inside.size (g.C.Cells.content c.self.inside.cells) c.self.inside.cursor c.self.inside.lock c.self.inside.aid
-    c.args.self.now c.args.record.now c.command-command.result start c.in_err-end.field-0.0 c.self.view_is c.command-command.ensures c.in-Some.ensures.start c.in_err-end.ensures.refused in
+    c.args.self.now c.args.outbound.now c.command-command.result start c.in_err-end.field-0.0 c.self.view_is c.command-command.ensures c.in-Some.ensures.start c.in_err-end.ensures.refused in
     rw (p.1, p.2) refused
 
 pub returns-clause-shows : goal.returns-clause-shows
@@ -34,6 +34,6 @@ returns-clause-shows g c =
     let before : Picture = picture c.self.inside.geometry c.self.inside.size (g.C.Cells.content c.self.inside.cells) c.self.inside.cursor c.self.inside.lock c.self.inside.aid in
     let after : Picture = picture c.self.inside.geometry c.in-Some.base.size (g.C.Cells.content c.swap.new.x) c.in_ok-end.end.cursor c.lock_after-self-inside.result c.aid_after-self-inside.result in
     write_shows c.self.inside.geometry c.self.inside.size (g.C.Cells.content c.self.inside.cells) c.self.inside.cursor c.self.inside.lock c.self.inside.aid
-    c.args.self.now c.args.record.now c.command-command.result start w after c.self.view_is c.command-command.ensures c.in-Some.ensures.start c.in_ok-end.ensures.done
+    c.args.self.now c.args.outbound.now c.command-command.result start w after c.self.view_is c.command-command.ensures c.in-Some.ensures.start c.in_ok-end.ensures.done
     (ap (λ x. picture c.self.inside.geometry c.in-Some.base.size (g.C.Cells.content x) c.in_ok-end.end.cursor c.lock_after-self-inside.result c.aid_after-self-inside.result) c.swap.ensures.x_after
     ∙ write_ends start.wcc (based before start) w c.lock_after-self-inside.result c.aid_after-self-inside.result c.lock_after-self-inside.ensures c.aid_after-self-inside.ensures)

@@ -1,0 +1,30 @@
+//! Laws on what records do. These functions do nothing: their contracts are the laws.
+
+ghost use Rattle.ds_screen.specs.Laws.{HasOneEffect, HasEffectExactly, StopsAtLeast, GovernsExactly, DistanceIsLeast};
+
+/// A record leads from a picture to one picture.
+pub fn one_effect()
+    ensures { HasOneEffect }
+{}
+
+/// A record has an effect exactly where its command is no read and no No-operation, its addresses are
+/// inside and each attribute that it changes is there.
+pub fn each_write_has_an_effect()
+    ensures { HasEffectExactly }
+{}
+
+/// Orders are refused exactly at the least one at fault, as the orders before it leave the buffer.
+pub fn refused_at_the_least()
+    ensures { StopsAtLeast }
+{}
+
+/// An attribute governs a character exactly where no other attribute is nearer before it, round the
+/// buffer.
+pub fn nearest_attribute_governs()
+    ensures { GovernsExactly }
+{}
+
+/// The distance from a position to another is the least number of steps that lead there, round the buffer.
+pub fn distance_is_least()
+    ensures { DistanceIsLeast }
+{}
