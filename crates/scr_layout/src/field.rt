@@ -15,20 +15,19 @@ use ds_codec::Size;
 use std::alloc::Global;
 use toml::Table;
 
+const FIELD_KEYS: [LayoutKey; 5] = [
+    LayoutKey::Name,
+    LayoutKey::Row,
+    LayoutKey::Col,
+    LayoutKey::Length,
+    LayoutKey::Kind,
+];
+
 /// The table, if it has no key but those of a field.
 fn field_of(table: &Table) -> Result<&Table, LayoutFault>
     ensures { Tells (λ t. table_view t.now) result (with_only field_keys (table_view table.now)) }
 {
-    with_only(
-        &[
-            LayoutKey::Name,
-            LayoutKey::Row,
-            LayoutKey::Col,
-            LayoutKey::Length,
-            LayoutKey::Kind,
-        ],
-        table,
-    )
+    with_only(&FIELD_KEYS, table)
 }
 
 fn is_name_byte(byte: u8) -> bool

@@ -12,3 +12,6 @@ mod values;
 pub use entry::{Entry, Kind};
 pub use fault::{LayoutError, LayoutFault, LayoutKey, LayoutRefusal};
 pub use layout::Layout;
+
+#[cfg(test)]
+mod tests;

@@ -12,19 +12,18 @@ use crate::values::{text_of, value_at, with_only};
 use ds_codec::{Mode, Size};
 use toml::{Table, Value};
 
+const TOP_KEYS: [LayoutKey; 4] = [
+    LayoutKey::Default,
+    LayoutKey::Alternate,
+    LayoutKey::Screen,
+    LayoutKey::Field,
+];
+
 /// The table, if it has no key but those of the top.
 pub(crate) fn top_of(table: &Table) -> Result<&Table, LayoutFault>
     ensures { Tells (λ t. table_view t.now) result (with_only top_keys (table_view table.now)) }
 {
-    with_only(
-        &[
-            LayoutKey::Default,
-            LayoutKey::Alternate,
-            LayoutKey::Screen,
-            LayoutKey::Field,
-        ],
-        table,
-    )
+    with_only(&TOP_KEYS, table)
 }
 
 #[tactic(auto, unfolding(crate::specs::Top::size_of))]
