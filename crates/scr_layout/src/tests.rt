@@ -1,14 +1,15 @@
-//! Texts, and what is told of them. `CODE` is the layout that most rows change.
+//! Texts, and what is told of them.
 
-mod fields;
 mod keys;
 mod limits;
-mod sizes;
 mod texts;
+mod values;
 
 use crate::{Layout, LayoutError};
 use std::alloc::{AllocError, Global};
+use std::process::Abort;
 
+/// The layout that most rows change.
 const CODE: &str = "default = \"2x10\"\n[[field]]\nname = \"code\"\nrow = 1\ncol = 4\nlength = 3\n";
 
 /// The printed words of a refusal, or `taken`.
@@ -18,6 +19,23 @@ fn told(alloc: Global, text: &str) -> Result<String, AllocError> {
         Err(LayoutError::Refused(fault)) => format!(in alloc; "{fault}"),
         Err(LayoutError::OutOfMemory) => String::from_str(alloc, "out of memory"),
     }
+}
+
+/// Each row is a text, its lines parted by ` | `, and behind ` -> ` what is told of it where it
+/// stands behind `before`.
+fn check_rows(rt: &impl Abort, alloc: Global, before: &str, rows: &str) -> Result<(), AllocError> {
+    for row in rows.lines() {
+        let (lines, words) = row
+            .split_once(" -> ")
+            .unwrap_or((row, "a row without words"));
+        let mut text = String::from_str(alloc, before)?;
+        for line in lines.split(" | ") {
+            text.push_str(line)?;
+            text.push_str("\n")?;
+        }
+        assert_eq!(rt; told(alloc, text.as_str())?.as_str(), words, "{row}");
+    }
+    Ok(())
 }
 
 /// `CODE` with another value of a key of its field, which may be `kind`.

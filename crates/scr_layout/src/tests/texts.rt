@@ -1,9 +1,40 @@
 //! Whole texts.
 
-use super::{CODE, told};
+use super::{CODE, check_rows, told};
 use crate::{Kind, Layout, LayoutError};
 use ds_codec::{Mode, Size};
 use std::test::Fail;
+
+const CUTS: &str = r#"default = "2x10" -> taken
+default = "2x10" | [[field] -> L1 NotToml
+default = "2x10" | [[field]] -> L2 MissingKey name in field 0
+default = "2x10" | [[field]] | name = "code" -> L2 MissingKey row in field 0
+default = "2x10" | [[field]] | name = "code" | row = 1 -> L2 MissingKey col in field 0
+default = "2x10" | [[field]] | name = "code" | row = 1 | col = 4 -> L2 MissingKey length in field 0
+default = "2x10" | [[field]] | name = "code" | row = 1 | col = 4 | length = 3 -> taken
+default =  -> L1 NotToml"#;
+
+const SPELLINGS: &str = r#"field = [{ name = "code", row = 1, col = 4, length = 3 }] -> taken
+field = [ | { name = "a", row = 1, col = 4, length = 3 }, | { name = 'b', row = 1, col = 9, length = 3, kind = 'fixed' }, # für | ] -> taken
+field = [] -> taken
+"default" = "2x10" | 'screen' = """default""" -> taken
+[[field]] | "n\u0061me" = "c\u006Fde" | row = 1 | col = 4 | length = 3 -> taken
+# Straße -> taken
+default.size = "2x10" -> L3 WrongKind default
+field.name = "code" -> L3 WrongKind field
+[field] | name = "code" -> L3 WrongKind field
+[screen] -> L3 WrongKind screen
+[[screen]] -> L3 WrongKind screen
+[[field]] | name.first = "code" -> L3 WrongKind name in field 0
+[[field]] | [field.name] -> L3 WrongKind name in field 0
+[[field]] | [field.size] -> L4 UnknownKey unknown in field 0
+[size] -> L4 UnknownKey unknown
+größe = 1 -> L1 NotToml
+"größe" = 1 -> L4 UnknownKey unknown
+"" = 1 -> L4 UnknownKey unknown
+default = "2x10" | default = "2x10" -> L1 NotToml
+[[field]] | row = 9223372036854775808 -> L1 NotToml
+field = 1 | [[field]] -> L1 NotToml"#;
 
 #[test]
 fn reads_the_field(rt: HostRuntime) -> Result<(), Fail> {
@@ -115,29 +146,7 @@ fn a_text_that_ends_early(rt: HostRuntime) -> Result<(), Fail> {
         let told = told(alloc, text)?;
         assert_ne!(rt; told.as_str(), "out of memory", "{text}");
     }
-    let rows = [
-        ("default = \"2x10\"", "taken"),
-        ("default = \"2x10\"\n[[field]", "L1 NotToml"),
-        (
-            "default = \"2x10\"\n[[field]]",
-            "L2 MissingKey name in field 0",
-        ),
-        (
-            "default = \"2x10\"\n[[field]]\nname = \"code\"",
-            "L2 MissingKey row in field 0",
-        ),
-        (
-            "default = \"2x10\"\n[[field]]\nname = \"code\"\nrow = 1",
-            "L2 MissingKey col in field 0",
-        ),
-        (
-            "default = \"2x10\"\n[[field]]\nname = \"code\"\nrow = 1\ncol = 4",
-            "L2 MissingKey length in field 0",
-        ),
-    ];
-    for (text, words) in rows {
-        assert_eq!(rt; told(alloc, text)?.as_str(), words, "{text}");
-    }
+    check_rows(&rt, alloc, "", CUTS)?;
     Ok(())
 }
 
@@ -145,53 +154,14 @@ fn a_text_that_ends_early(rt: HostRuntime) -> Result<(), Fail> {
 #[test]
 fn spellings(rt: HostRuntime) -> Result<(), Fail> {
     let alloc = rt.alloc();
-    let rows = [
-        (
-            "\u{FEFF}default = \"2x10\"\r\n[[field]]\r\nname = 'code'\r\nrow = 0x1\r\ncol = 0b100\r\nlength = 1_9\r\n",
-            "taken",
-        ),
-        (
-            "field = [{ name = \"code\", row = 1, col = 4, length = 3 }]",
-            "taken",
-        ),
-        (
-            "field = [\n  { name = \"a\", row = 1, col = 4, length = 3 },\n  { name = \"b\", row = 1, col = 9, length = 3, kind = 'fixed' }, # \u{FC}\n]",
-            "taken",
-        ),
-        ("field = []", "taken"),
-        ("\"default\" = \"2x10\"\n'screen' = \"default\"", "taken"),
-        (
-            "[[field]]\n\"n\\u0061me\" = \"c\\u006Fde\"\nrow = 1\ncol = 4\nlength = 3",
-            "taken",
-        ),
-        ("# Stra\u{DF}e\n", "taken"),
-        ("default.size = \"2x10\"", "L3 WrongKind default"),
-        ("field.name = \"code\"", "L3 WrongKind field"),
-        ("[field]\nname = \"code\"", "L3 WrongKind field"),
-        ("[screen]", "L3 WrongKind screen"),
-        ("[[screen]]", "L3 WrongKind screen"),
-        (
-            "[[field]]\nname.first = \"code\"",
-            "L3 WrongKind name in field 0",
-        ),
-        ("[[field]]\n[field.name]", "L3 WrongKind name in field 0"),
-        (
-            "[[field]]\n[field.size]",
-            "L4 UnknownKey unknown in field 0",
-        ),
-        ("[size]", "L4 UnknownKey unknown"),
-        ("gr\u{F6}\u{DF}e = 1", "L1 NotToml"),
-        ("\"gr\u{F6}\u{DF}e\" = 1", "L4 UnknownKey unknown"),
-        ("\"\" = 1", "L4 UnknownKey unknown"),
-        ("default = ", "L1 NotToml"),
-        ("default = \"2x10\"\ndefault = \"2x10\"", "L1 NotToml"),
-        ("[[field]]\nrow = 9223372036854775808", "L1 NotToml"),
-        ("[[field]]\rname = \"code\"", "L1 NotToml"),
-        ("field = 1\n[[field]]", "L1 NotToml"),
-    ];
-    for (text, words) in rows {
-        assert_eq!(rt; told(alloc, text)?.as_str(), words, "{text}");
-    }
+    check_rows(&rt, alloc, "", SPELLINGS)?;
+    let windows =
+        "\u{FEFF}default = \"2x10\"\r\n[[field]]\r\nname = 'code'\r\nrow = 0x1\r\ncol = 0b100\r\nlength = 1_9\r\n";
+    assert_eq!(rt; told(alloc, windows)?.as_str(), "taken");
+    assert_eq!(rt;
+        told(alloc, "[[field]]\rname = \"code\"")?.as_str(),
+        "L1 NotToml"
+    );
     Ok(())
 }
 
