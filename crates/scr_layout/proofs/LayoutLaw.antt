@@ -182,12 +182,12 @@ entry_of-follows size before table entry h =
 
 -- ---- all entries
 
-record AreEntries (size : Size) (entries : List Declared) : Type 0 where
-  named : All (λ entry. IsTrue (is_name entry.name)) entries
-  inside : All (λ entry. entry.place < cells_of size) entries
-  long : All (λ entry. (1 ≤ entry.length) × (entry.length < cells_of size)) entries
-  names : IsDistinct bytes_eq (map (λ entry. entry.name) entries)
-  places : IsDistinct nat_eq (map (λ entry. entry.place) entries)
+pub record AreEntries (size : Size) (entries : List Declared) : Type 0 where
+  pub named : All (λ entry. IsTrue (is_name entry.name)) entries
+  pub inside : All (λ entry. entry.place < cells_of size) entries
+  pub long : All (λ entry. (1 ≤ entry.length) × (entry.length < cells_of size)) entries
+  pub names : IsDistinct bytes_eq (map (λ entry. entry.name) entries)
+  pub places : IsDistinct nat_eq (map (λ entry. entry.place) entries)
 
 list_any-map : {A B : Type 0} (p : B → Bool) (f : A → B) (xs : List A) → list_any p (map f xs) ≡ list_any (λ x. p (f x)) xs
 list_any-map p f [] = refl
@@ -246,7 +246,7 @@ parts-law top default alternate size fields entries d a s f e =
       few = omega (arith, all.1, fields_of-few top fields f);
     }
 
-declaration_of-law : (table : Members) (layout : Declaration) → declaration_of table ≡ Ok layout → IsLayout layout
+pub declaration_of-law : (table : Members) (layout : Declaration) → declaration_of table ≡ Ok layout → IsLayout layout
 unfolding declaration_of
 declaration_of-law table layout h =
     let top = bind_ok (with_only top_keys table) _ layout h in

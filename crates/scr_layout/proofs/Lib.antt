@@ -5,3 +5,6 @@ pub mod Loop
 pub mod Steps
 pub mod LayoutLaw
 pub mod Keyed
+pub mod SizeLaw
+pub mod SaysLaw
+pub mod ReadLaw

@@ -6,3 +6,4 @@ pub mod Values
 pub mod Top
 pub mod Field
 pub mod Layout
+pub mod Says

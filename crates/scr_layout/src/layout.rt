@@ -5,7 +5,7 @@ ghost use Rattle.toml.specs.View.{table_view, items_view};
 ghost use Rattle.scr_layout.specs.Results.{Gives, in_field};
 ghost use Rattle.scr_layout.specs.Top.{tables_in};
 ghost use Rattle.scr_layout.specs.Field.{entry_of};
-ghost use Rattle.scr_layout.specs.Layout.{table_of};
+ghost use Rattle.scr_layout.specs.Layout.{table_of, entries_of};
 
 use crate::entry::Entry;
 use crate::fault::{LayoutError, LayoutFault};
@@ -35,19 +35,38 @@ impl Model for Layout {
 }
 
 impl Layout {
-    ghost use Rattle.std.specs.Prelude.{◌==◌, ◌↔◌, IfOk, None, Err, position};
+    ghost use Rattle.std.specs.Prelude.{◌==◌, IfOk, None, Ok, Err, position};
     ghost use Rattle.ds_codec.specs.Geometry.{IsGood};
     ghost use Rattle.toml.specs.Parse.{parse_document};
     ghost use Rattle.scr_layout.specs.Fault.{not_toml};
     ghost use Rattle.scr_layout.specs.Results.{IsRefused};
-    ghost use Rattle.scr_layout.specs.Layout.{declaration_of, layout_of, IsLayout};
+    ghost use Rattle.scr_layout.specs.Layout.{Declaration, declaration_of, layout_of, IsLayout};
+    ghost use Rattle.scr_layout.specs.Says.{TextSays};
 
     /// The layout that a text says.
     ///
     /// # Errors
     ///
     /// The first refusal, or `OutOfMemory` in its place where a request for memory was refused.
+    ///
+    /// Names and places are looked for among the entries before: with 1,000 entries about 500,000
+    /// comparisons of each.
     pub fn from_text(alloc: Global, text: &str) -> Result<Layout, LayoutError>
+        // What is read is what the text says, and what it says is read.
+        ensures says { IfOk result (TextSays text.now) }
+        ensures only { (layout : Declaration) → TextSays text.now layout → Gives (λ l. l) result (Ok layout) }
+
+        // Which refusal it is.
+        ensures exact { Gives (λ l. l) result (layout_of text.now) }
+        ensures not_toml { (result ≡ Err (LayoutError.Refused not_toml)) → parse_document text.now ≡ None }
+        ensures only_toml { parse_document text.now ≡ None → IsRefused result not_toml }
+
+        ensures law { IfOk result IsLayout }
+    {
+        Layout::read(alloc, text)
+    }
+
+    fn read(alloc: Global, text: &str) -> Result<Layout, LayoutError>
         ensures exact { Gives (λ l. l) result (layout_of text.now) }
         ensures not_toml { (result ≡ Err (LayoutError.Refused not_toml)) → parse_document text.now ≡ None }
         ensures only_toml { parse_document text.now ≡ None → IsRefused result not_toml }
@@ -98,7 +117,8 @@ impl Layout {
         &self.entries
     }
 
-    /// The index of the entry whose first character stands at this position, counted from 0. It looks at each entry in turn.
+    /// The index of the entry whose first character stands at this position, counted from 0. It
+    /// looks at each entry in turn.
     pub fn entry_at(&self, place: u32) -> Option<usize>
         ensures { result ≡ position (λ entry. place == entry.place) self.now.entries }
     {
@@ -138,8 +158,6 @@ fn entry_in(
         Err(LayoutError::OutOfMemory) => Err(LayoutError::OutOfMemory),
     }
 }
-
-ghost use Rattle.scr_layout.specs.Layout.{entries_of};
 
 /// The entries of the tables, in order.
 fn entries_of(alloc: Global, size: Size, values: &[Value]) -> Result<Vec<Entry>, LayoutError>

@@ -1,7 +1,9 @@
 //! A size as a text: rows, an `x`, columns.
 
-ghost use Rattle.std.specs.Prelude.{◌≡◌, ◌↔◌, IsTrue};
-ghost use Rattle.scr_layout.specs.SizeText.{is_good, number_of, size_of_text};
+ghost use Rattle.std.specs.Prelude.{◌≡◌, IfSome};
+ghost use Rattle.ds_codec.specs.declared.size.Size.{Size};
+ghost use Rattle.ds_codec.specs.Geometry.{IsGood};
+ghost use Rattle.scr_layout.specs.SizeText.{is_good, number_of, size_of_text, size_text};
 
 use ds_codec::{Geometry, Mode, Size};
 
@@ -24,8 +26,17 @@ fn number_of(digits: &str) -> Option<u16>
 }
 
 /// The size that `RxC` spells, where a terminal can have it.
-#[tactic(auto, unfolding(crate::specs::SizeText::size_of_text))]
 pub(crate) fn size_of_text(mode: Mode, text: &str) -> Option<Size>
+    // A size has one spelling.
+    ensures spelled { IfSome result (λ size. IsGood mode size × (text.now ≡ size_text size)) }
+    ensures only { (size : Size) → IsGood mode size → text.now ≡ size_text size → result ≡ Some size }
+    ensures exact { result ≡ size_of_text mode text.now }
+{
+    read_size(mode, text)
+}
+
+#[tactic(auto, unfolding(crate::specs::SizeText::size_of_text))]
+fn read_size(mode: Mode, text: &str) -> Option<Size>
     ensures { result ≡ size_of_text mode text.now }
 {
     let (rows, cols) = text.split_once('x')?;
