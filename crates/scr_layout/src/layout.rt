@@ -43,22 +43,22 @@ impl Layout {
     ghost use Rattle.scr_layout.specs.Layout.{Declaration, declaration_of, layout_of, IsLayout};
     ghost use Rattle.scr_layout.specs.Says.{TextSays};
 
-    /// The layout that a text says.
+    /// The layout that a text says. Each name and each place is looked for among the entries before
+    /// it: with 1,000 entries about 500,000 comparisons of either.
     ///
     /// # Errors
     ///
     /// The first refusal, or `OutOfMemory` in its place where a request for memory was refused.
-    ///
-    /// Names and places are looked for among the entries before: with 1,000 entries about 500,000
-    /// comparisons of each.
     pub fn from_text(alloc: Global, text: &str) -> Result<Layout, LayoutError>
         // What is read is what the text says, and what it says is read.
         ensures says { IfOk result (TextSays text.now) }
-        ensures only { (layout : Declaration) → TextSays text.now layout → Gives (λ l. l) result (Ok layout) }
+        ensures only { (layout : Declaration) → TextSays text.now layout →
+            Gives (λ l. l) result (Ok layout) }
 
         // Which refusal it is.
         ensures exact { Gives (λ l. l) result (layout_of text.now) }
-        ensures not_toml { (result ≡ Err (LayoutError.Refused not_toml)) → parse_document text.now ≡ None }
+        ensures not_toml { (result ≡ Err (LayoutError.Refused not_toml)) →
+            parse_document text.now ≡ None }
         ensures only_toml { parse_document text.now ≡ None → IsRefused result not_toml }
 
         ensures law { IfOk result IsLayout }
@@ -68,7 +68,8 @@ impl Layout {
 
     fn read(alloc: Global, text: &str) -> Result<Layout, LayoutError>
         ensures exact { Gives (λ l. l) result (layout_of text.now) }
-        ensures not_toml { (result ≡ Err (LayoutError.Refused not_toml)) → parse_document text.now ≡ None }
+        ensures not_toml { (result ≡ Err (LayoutError.Refused not_toml)) →
+            parse_document text.now ≡ None }
         ensures only_toml { parse_document text.now ≡ None → IsRefused result not_toml }
         ensures law { IfOk result IsLayout }
     {
@@ -150,7 +151,8 @@ fn entry_in(
     before: &[Entry],
     table: &Table,
 ) -> Result<Entry, LayoutError>
-    ensures { Gives (λ e. e) result (in_field field (entry_of size before.now (table_view table.now))) }
+    ensures { Gives (λ e. e) result
+        (in_field field (entry_of size before.now (table_view table.now))) }
 {
     match entry_of(alloc, size, before, table) {
         Ok(entry) => Ok(entry),
@@ -161,7 +163,8 @@ fn entry_in(
 
 /// The entries of the tables, in order.
 fn entries_of(alloc: Global, size: Size, values: &[Value]) -> Result<Vec<Entry>, LayoutError>
-    ensures { Gives (λ v. v.items) result (entries_of size 0 [] (tables_in (items_view values.now))) }
+    ensures { Gives (λ v. v.items) result
+        (entries_of size 0 [] (tables_in (items_view values.now))) }
 {
     let mut entries = Vec::new(alloc);
     let mut field = 0usize;

@@ -29,7 +29,8 @@ fn number_of(digits: &str) -> Option<u16>
 pub(crate) fn size_of_text(mode: Mode, text: &str) -> Option<Size>
     // A size has one spelling.
     ensures spelled { IfSome result (λ size. IsGood mode size × (text.now ≡ size_text size)) }
-    ensures only { (size : Size) → IsGood mode size → text.now ≡ size_text size → result ≡ Some size }
+    ensures only { (size : Size) → IsGood mode size → text.now ≡ size_text size →
+        result ≡ Some size }
     ensures exact { result ≡ size_of_text mode text.now }
 {
     read_size(mode, text)
