@@ -1,7 +1,7 @@
 //! Whole texts.
 
 use super::{CODE, check_rows, told};
-use crate::{Kind, Layout, LayoutError};
+use crate::{Kind, Layout, LayoutError, LayoutKey, LayoutRefusal};
 use ds_codec::{Mode, Size};
 use std::test::Fail;
 
@@ -174,6 +174,12 @@ fn errors_print(rt: HostRuntime) -> Result<(), Fail> {
     assert_eq!(rt;
         format!(in alloc; "{refused}")?.as_str(),
         "L4 UnknownKey unknown"
+    );
+    assert_eq!(rt; LayoutKey::Unknown.word(), "unknown");
+    let (key, why) = (LayoutKey::Length, LayoutRefusal::BadLength);
+    assert_eq!(rt;
+        format!(in alloc; "{key}: {why}")?.as_str(),
+        "length: L10 BadLength"
     );
     let memory = LayoutError::OutOfMemory;
     assert_eq!(rt; format!(in alloc; "{memory}")?.as_str(), "out of memory");
