@@ -1,0 +1,176 @@
+-- Each fault of a table has a key, and so is not that of a text that is no TOML.
+use Rattle.std.proofs.Common.{◌≡◌, ℕ, ◌+◌, ◌-◌, ◌*◌, ℤ, Bool, true, false, cond, not, nat_le, bytes_eq, codes, refl, ap, is_some, length, List, [], ◌∷◌, ◌++◌, Option, Some, None, ok_or, Result, Ok, Err}
+use Rattle.ds_codec.specs.declared.size.Size.{Size}
+use Rattle.toml.specs.Data.{Data, Members, as_array, as_str, as_integer}
+use Rattle.scr_layout.specs.declared.fault.LayoutFault.{LayoutFault}
+use Rattle.scr_layout.specs.declared.fault.LayoutKey.{LayoutKey}
+use Rattle.scr_layout.specs.declared.fault.LayoutKey.TheVariants.{Unknown, Default, Alternate, Screen, Field, Name, Row, Col, Length, Kind}
+use Rattle.scr_layout.specs.declared.fault.LayoutRefusal.TheVariants.{MissingKey, WrongKind, UnknownKey, BadSize, BadName, NameTwice, PlaceOutside, PlaceTwice, BadLength, TooManyFields}
+use Rattle.scr_layout.specs.declared.entry.Kind.TheVariants.{Input, Fixed}
+use Rattle.ds_codec.specs.declared.size.Mode.TheVariants.{Bits14}
+use Rattle.ds_codec.specs.Geometry.{cells_of}
+use Rattle.scr_layout.specs.SizeText.{size_of_text}
+use Rattle.scr_layout.specs.declared.fault.LayoutRefusal.{LayoutRefusal}
+use Rattle.scr_layout.specs.Entry.{Declared, is_name}
+use Rattle.scr_layout.specs.Fault.{at_key, not_toml}
+use Rattle.scr_layout.specs.Field.{field_keys, has_name, has_place, name_of, integer_at, place_of, length_of, kind_or, kind_of, entry_of}
+use Rattle.scr_layout.specs.Layout.{entries_of, declaration_of}
+use Rattle.scr_layout.specs.Results.{◌>>=◌, tested, in_field}
+use Rattle.scr_layout.specs.Top.{top_keys, are_tables, tables_in, size_of, size_or, default_of, alternate_of, screen_or, screen_of, tables_of, tables_or, fields_of}
+use Rattle.scr_layout.specs.Values.{value_at, needed_at, text_of, from_one_to, has_only, with_only}
+
+-- a fault that has a key
+abbrev HasKey : {A : Type 0} → Result A LayoutFault → Type 0
+HasKey (Ok x) = Unit {0}
+HasKey (Err e) = is_some e.which ≡ true
+
+record IsKeyed {A : Type 0} (r : Result A LayoutFault) : Type 0 where
+  key : HasKey r
+
+bound : {A B : Type 0} (r : Result A LayoutFault) (f : A → Result B LayoutFault) → IsKeyed r → ((x : A) → IsKeyed (f x)) → IsKeyed (r >>= f)
+bound (Ok x) f h k = k x
+bound (Err e) f h k = record { key = h.key }
+
+test : {A : Type 0} (b : Bool) (x : A) (key : LayoutKey) (why : LayoutRefusal) → IsKeyed (tested b x (at_key key why))
+test true x key why = record { key = tt }
+test false x key why = record { key = refl }
+
+found : {A : Type 0} (o : Option A) (key : LayoutKey) (why : LayoutRefusal) → IsKeyed (ok_or o (at_key key why))
+found (Some x) key why = record { key = tt }
+found None key why = record { key = refl }
+
+-- no other keys; a key that has to be there; a text
+needed : (key : LayoutKey) (table : Members) → IsKeyed (needed_at key table)
+needed key table = found (value_at key table) key MissingKey
+
+only : (keys : List LayoutKey) (table : Members) → IsKeyed (with_only keys table)
+only keys table = test (has_only keys table) table Unknown UnknownKey
+
+text : (key : LayoutKey) (value : Data) → IsKeyed (text_of key value)
+text key value = found (as_str value) key WrongKind
+
+good : {A : Type 0} {x : A} → IsKeyed (Ok x)
+good = record { key = tt }
+
+either : {A : Type 0} (a b : Bool) (x y : A) (key : LayoutKey) (why : LayoutRefusal)
+    → IsKeyed (cond {A = Result A LayoutFault} a (Ok x) (cond b (Ok y) (Err (at_key key why))))
+either true b x y key why = good
+either false true x y key why = good
+either false false x y key why = record { key = refl }
+
+numbered : {A : Type 0} (n : ℕ) (r : Result A LayoutFault) → IsKeyed r → IsKeyed (in_field n r)
+numbered n (Ok x) h = good
+numbered n (Err e) h = record { key = h.key }
+
+size : (key : LayoutKey) (value : Data) → IsKeyed (size_of key value)
+unfolding size_of
+size key value = bound (text_of key value) _ (text key value) (λ t. found (size_of_text Bits14 t) key BadSize)
+
+size_where : (absent : Size) (key : LayoutKey) (o : Option Data) → IsKeyed (size_or absent key o)
+size_where absent key None = good
+size_where absent key (Some value) = size key value
+
+screen_where : (default alternate : Size) (o : Option Data) → IsKeyed (screen_or default alternate o)
+screen_where default alternate None = good
+screen_where default alternate (Some value) =
+    bound (text_of Screen value) _ (text Screen value) (λ word. either (bytes_eq word (codes "default")) (bytes_eq word (codes "alternate")) default alternate Screen WrongKind)
+
+tables : (value : Data) → IsKeyed (tables_of value)
+unfolding tables_of
+tables value =
+    bound (ok_or (as_array value) (at_key Field WrongKind)) _ (found (as_array value) Field WrongKind) (λ items.
+    bound (tested (are_tables items) (tables_in items) (at_key Field WrongKind)) _ (test (are_tables items) (tables_in items) Field WrongKind) (λ ts.
+    test (nat_le (length ts) 1000) ts Field TooManyFields))
+
+tables_where : (o : Option Data) → IsKeyed (tables_or o)
+tables_where None = good
+tables_where (Some value) = tables value
+
+default : (top : Members) → IsKeyed (default_of top)
+unfolding default_of
+default top = size_where (record { rows = 24; cols = 80 }) Default (value_at Default top)
+
+alternate : (size : Size) (top : Members) → IsKeyed (alternate_of size top)
+unfolding alternate_of
+alternate size top = size_where size Alternate (value_at Alternate top)
+
+screen : (a b : Size) (top : Members) → IsKeyed (screen_of a b top)
+unfolding screen_of
+screen a b top = screen_where a b (value_at Screen top)
+
+fields : (top : Members) → IsKeyed (fields_of top)
+unfolding fields_of
+fields top = tables_where (value_at Field top)
+
+name : (before : List Declared) (field : Members) → IsKeyed (name_of before field)
+unfolding name_of
+name before field =
+    bound (needed_at Name field) _ (needed Name field) (λ value.
+    bound (text_of Name value) _ (text Name value) (λ t.
+    bound (tested (is_name t) t (at_key Name BadName)) _ (test (is_name t) t Name BadName) (λ n.
+    test (not (has_name n before)) n Name NameTwice)))
+
+integer : (key : LayoutKey) (field : Members) → IsKeyed (integer_at key field)
+unfolding integer_at
+integer key field = bound (needed_at key field) _ (needed key field) (λ value. found (as_integer value) key WrongKind)
+
+place : (size : Size) (before : List Declared) (row col : ℤ) → IsKeyed (place_of size before row col)
+unfolding place_of
+place size before row col =
+    bound (ok_or (from_one_to size.rows row) (at_key Row PlaceOutside)) _ (found (from_one_to size.rows row) Row PlaceOutside) (λ r.
+    bound (ok_or (from_one_to size.cols col) (at_key Col PlaceOutside)) _ (found (from_one_to size.cols col) Col PlaceOutside) (λ c.
+    test (not (has_place ((r - 1) * size.cols + (c - 1)) before)) ((r - 1) * size.cols + (c - 1)) Row PlaceTwice))
+
+long : (size : Size) (field : Members) → IsKeyed (length_of size field)
+unfolding length_of
+long size field = bound (integer_at Length field) _ (integer Length field) (λ n. found (from_one_to (cells_of size - 1) n) Length BadLength)
+
+kind_where : (o : Option Data) → IsKeyed (kind_or o)
+kind_where None = good
+kind_where (Some value) =
+    bound (text_of Kind value) _ (text Kind value) (λ word. either (bytes_eq word (codes "input")) (bytes_eq word (codes "fixed")) Input Fixed Kind WrongKind)
+
+kind : (field : Members) → IsKeyed (kind_of field)
+unfolding kind_of
+kind field = kind_where (value_at Kind field)
+
+entry : (size : Size) (before : List Declared) (table : Members) → IsKeyed (entry_of size before table)
+unfolding entry_of
+entry size before table =
+    bound (with_only field_keys table) _ (only field_keys table) (λ field.
+    bound (name_of before field) _ (name before field) (λ n.
+    bound (integer_at Row field) _ (integer Row field) (λ row.
+    bound (integer_at Col field) _ (integer Col field) (λ col.
+    bound (place_of size before row col) _ (place size before row col) (λ p.
+    bound (length_of size field) _ (long size field) (λ l.
+    bound (kind_of field) _ (kind field) (λ k. good)))))))
+
+entries : (size : Size) (n : ℕ) (before : List Declared) (tables : List Members) → IsKeyed (entries_of size n before tables)
+unfolding entries_of
+entries size n before [] = good
+entries size n before (table ∷ tables) =
+    bound (in_field n (entry_of size before table)) _ (numbered n (entry_of size before table) (entry size before table)) (λ e. entries size (n + 1) (before ++ e ∷ []) tables)
+
+declaration : (table : Members) → IsKeyed (declaration_of table)
+unfolding declaration_of
+declaration table =
+    bound (with_only top_keys table) _ (only top_keys table) (λ top.
+    bound (default_of top) _ (default top) (λ d.
+    bound (alternate_of d top) _ (alternate d top) (λ a.
+    bound (screen_of d a top) _ (screen d a top) (λ size.
+    bound (fields_of top) _ (fields top) (λ tables.
+    bound (entries_of size 0 [] tables) _ (entries size 0 [] tables) (λ es. good))))))
+
+same_err : {A : Type 0} (f g : LayoutFault) → ◌≡◌ {A = Result A LayoutFault} (Err f) (Err g) → f ≡ g
+same_err f g e = cc
+
+none_some : (f : LayoutFault) → is_some f.which ≡ true → f ≡ not_toml → ⊥
+none_some f h e = let none : is_some f.which ≡ false = ap (λ g. is_some g.which) e in cc
+
+keyed : {A : Type 0} (r : Result A LayoutFault) → IsKeyed r → r ≡ Err not_toml → ⊥
+keyed (Ok x) h e = cc
+keyed (Err f) h e = none_some f h.key (same_err f not_toml e)
+
+-- the fault of a text that is no TOML is told of no table
+pub declaration_of-toml : (table : Members) → declaration_of table ≡ Err not_toml → ⊥
+declaration_of-toml table e = keyed (declaration_of table) (declaration table) e

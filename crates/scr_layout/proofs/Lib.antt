@@ -1,0 +1,10 @@
+pub mod Keys
+pub mod Tables
+pub mod Sizes
+pub mod Loop
+pub mod Steps
+pub mod LayoutLaw
+pub mod Keyed
+pub mod SizeLaw
+pub mod SaysLaw
+pub mod ReadLaw

@@ -1,0 +1,49 @@
+//! A field that a layout declares.
+
+use std::marker::Model;
+
+/// Whether an operator may type into a field.
+#[derive(Clone, Copy, Debug, PartialEq, Eq)]
+pub enum Kind {
+    /// An unprotected field.
+    Input,
+    /// A protected field that is sent all the same, as it comes modified.
+    Fixed,
+}
+
+/// A field of a layout.
+#[derive(Debug, Drop)]
+pub struct Entry {
+    /// 1 to 32 letters A-Z and a-z, digits, `-` and `_`.
+    pub name: String,
+    /// The position of its first character, counted from 0 in the named screen.
+    pub place: u32,
+    /// How many cells it has, from 1 to all cells of the screen less 1.
+    pub length: u32,
+    pub kind: Kind,
+}
+
+impl Model for Entry {
+    ghost use Rattle.std.specs.Prelude.{string_bytes};
+    ghost use Rattle.scr_layout.specs.Entry.{Declared};
+
+    ghost Value = { Declared };
+
+    ghost view = { λ e. record { name = string_bytes e.name; place = e.place; length = e.length; kind = e.kind } };
+}
+
+impl Entry {
+    ghost use Rattle.std.specs.Prelude.{◌≡◌, ◌==◌, bytes_eq};
+
+    pub(crate) fn is_named(&self, name: &str) -> bool
+        ensures { result ≡ bytes_eq name.now self.now.name }
+    {
+        name == self.name.as_str()
+    }
+
+    pub(crate) fn is_at(&self, place: u32) -> bool
+        ensures { result ≡ (place == self.now.place) }
+    {
+        place == self.place
+    }
+}

@@ -1,0 +1,179 @@
+//! A layout, read from TOML.
+
+ghost use Rattle.std.specs.Prelude.{◌≡◌, []};
+ghost use Rattle.toml.specs.View.{table_view, items_view};
+ghost use Rattle.scr_layout.specs.Results.{Gives, in_field};
+ghost use Rattle.scr_layout.specs.Top.{tables_in};
+ghost use Rattle.scr_layout.specs.Field.{entry_of};
+ghost use Rattle.scr_layout.specs.Layout.{table_of, entries_of};
+
+use crate::entry::Entry;
+use crate::fault::{LayoutError, LayoutFault};
+use crate::field::entry_of;
+use crate::top::{alternate_of, default_of, fields_of, screen_of, top_of};
+use ds_codec::{Geometry, Mode, Size};
+use std::alloc::Global;
+use std::marker::Model;
+use toml::{Table, Value};
+
+/// The fields of a screen, and the terminal that it is for.
+#[derive(Debug, Drop)]
+pub struct Layout {
+    geometry: Geometry,
+    size: Size,
+    entries: Vec<Entry>,
+}
+
+impl Model for Layout {
+    ghost use Rattle.scr_layout.specs.Layout.{Declaration, IsLayout};
+
+    ghost Value = { Declaration };
+
+    ghost view = { λ l. record { geometry = l.geometry; size = l.size; entries = l.entries.items } };
+
+    ghost invariant = { λ l. IsLayout (record { geometry = l.geometry; size = l.size; entries = l.entries.items }) };
+}
+
+impl Layout {
+    ghost use Rattle.std.specs.Prelude.{◌==◌, IfOk, None, Ok, Err, position};
+    ghost use Rattle.ds_codec.specs.Geometry.{IsGood};
+    ghost use Rattle.toml.specs.Parse.{parse_document};
+    ghost use Rattle.scr_layout.specs.Fault.{not_toml};
+    ghost use Rattle.scr_layout.specs.Results.{IsRefused};
+    ghost use Rattle.scr_layout.specs.Layout.{Declaration, declaration_of, layout_of, IsLayout};
+    ghost use Rattle.scr_layout.specs.Says.{TextSays};
+
+    /// The layout that a text says. Each name and each place is looked for among the entries before
+    /// it: with 1,000 entries about 500,000 comparisons of either.
+    ///
+    /// # Errors
+    ///
+    /// The first refusal, or `OutOfMemory` in its place where a request for memory was refused.
+    pub fn from_text(alloc: Global, text: &str) -> Result<Layout, LayoutError>
+        // What is read is what the text says, and what it says is read.
+        ensures says { IfOk result (TextSays text.now) }
+        ensures only { (layout : Declaration) → TextSays text.now layout →
+            Gives (λ l. l) result (Ok layout) }
+
+        // Which refusal it is.
+        ensures exact { Gives (λ l. l) result (layout_of text.now) }
+        ensures not_toml { (result ≡ Err (LayoutError.Refused not_toml)) →
+            parse_document text.now ≡ None }
+        ensures only_toml { parse_document text.now ≡ None → IsRefused result not_toml }
+
+        ensures law { IfOk result IsLayout }
+    {
+        Layout::read(alloc, text)
+    }
+
+    fn read(alloc: Global, text: &str) -> Result<Layout, LayoutError>
+        ensures exact { Gives (λ l. l) result (layout_of text.now) }
+        ensures not_toml { (result ≡ Err (LayoutError.Refused not_toml)) →
+            parse_document text.now ≡ None }
+        ensures only_toml { parse_document text.now ≡ None → IsRefused result not_toml }
+        ensures law { IfOk result IsLayout }
+    {
+        let table = table_of(alloc, text)?;
+        Layout::from_table(alloc, &table)
+    }
+
+    #[tactic(auto, unfolding(crate::specs::Layout::declaration_of))]
+    fn from_table(alloc: Global, table: &Table) -> Result<Layout, LayoutError>
+        ensures { Gives (λ l. l) result (declaration_of (table_view table.now)) }
+    {
+        let top = top_of(table)?;
+        let default = default_of(top)?;
+        let alternate = alternate_of(default, top)?;
+        let size = screen_of(default, alternate, top)?;
+        let fields = fields_of(top)?;
+        let entries = entries_of(alloc, size, fields)?;
+        let geometry = Geometry::new(default, alternate, Mode::Bits14).unwrap();
+        Ok(Layout {
+            geometry,
+            size,
+            entries,
+        })
+    }
+
+    /// The terminal that the layout is for.
+    pub fn geometry(&self) -> Geometry
+        ensures { result ≡ self.now.geometry }
+    {
+        self.geometry
+    }
+
+    /// The size of the named screen.
+    pub fn size(&self) -> Size
+        ensures value { result ≡ self.now.size }
+        ensures good { IsGood self.now.geometry.mode result }
+    {
+        self.size
+    }
+
+    /// The fields in the order of the text.
+    pub fn entries(&self) -> &[Entry]
+        ensures value { result.now ≡ self.now.entries }
+        ensures law { IsLayout self.now }
+    {
+        &self.entries
+    }
+
+    /// The index of the entry whose first character stands at this position, counted from 0. It
+    /// looks at each entry in turn.
+    pub fn entry_at(&self, place: u32) -> Option<usize>
+        ensures { result ≡ position (λ entry. place == entry.place) self.now.entries }
+    {
+        self.entries.iter().position(|entry| entry.is_at(place))
+    }
+}
+
+/// The table that a text is, by TOML.
+fn table_of(alloc: Global, text: &str) -> Result<Table, LayoutError>
+    ensures { Gives table_view result (table_of text.now) }
+{
+    match toml::table_from_str(alloc, text) {
+        Ok(table) => Ok(table),
+        Err(error) => {
+            if error.is_memory() {
+                Err(LayoutError::OutOfMemory)
+            } else {
+                Err(LayoutError::Refused(LayoutFault::not_toml()))
+            }
+        }
+    }
+}
+
+/// The entry of the field of this number, counted from 0, after these entries.
+fn entry_in(
+    alloc: Global,
+    field: usize,
+    size: Size,
+    before: &[Entry],
+    table: &Table,
+) -> Result<Entry, LayoutError>
+    ensures { Gives (λ e. e) result
+        (in_field field (entry_of size before.now (table_view table.now))) }
+{
+    match entry_of(alloc, size, before, table) {
+        Ok(entry) => Ok(entry),
+        Err(LayoutError::Refused(fault)) => Err(LayoutError::Refused(fault.in_field(field))),
+        Err(LayoutError::OutOfMemory) => Err(LayoutError::OutOfMemory),
+    }
+}
+
+/// The entries of the tables, in order.
+fn entries_of(alloc: Global, size: Size, values: &[Value]) -> Result<Vec<Entry>, LayoutError>
+    ensures { Gives (λ v. v.items) result
+        (entries_of size 0 [] (tables_in (items_view values.now))) }
+{
+    let mut entries = Vec::new(alloc);
+    let mut field = 0usize;
+    for value in values {
+        if let Some(table) = value.as_table() {
+            let entry = entry_in(alloc, field, size, &entries, table)?;
+            entries.push(entry)?;
+            field += 1;
+        }
+    }
+    Ok(entries)
+}

@@ -1,0 +1,17 @@
+//! Screen layouts: named fields with place, length and kind, read from TOML.
+#![tactic(auto)]
+
+mod entry;
+mod fault;
+mod field;
+mod layout;
+mod size_text;
+mod top;
+mod values;
+
+pub use entry::{Entry, Kind};
+pub use fault::{LayoutError, LayoutFault, LayoutKey, LayoutRefusal};
+pub use layout::Layout;
+
+#[cfg(test)]
+mod tests;

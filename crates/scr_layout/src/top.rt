@@ -1,0 +1,114 @@
+//! The keys at the top of a layout.
+
+ghost use Rattle.std.specs.Prelude.{◌≡◌, option_map};
+ghost use Rattle.toml.specs.View.{view, table_view, items_view};
+ghost use Rattle.scr_layout.specs.Results.{Tells};
+ghost use Rattle.scr_layout.specs.Values.{with_only};
+ghost use Rattle.scr_layout.specs.Top.{top_keys, size_of, default_of, alternate_of, named_size, screen_of, tables_in, are_tables, tables_of, fields_of};
+
+use crate::fault::{LayoutFault, LayoutKey, LayoutRefusal};
+use crate::size_text::size_of_text;
+use crate::values::{text_of, value_at, with_only};
+use ds_codec::{Mode, Size};
+use toml::{Table, Value};
+
+const TOP_KEYS: [LayoutKey; 4] = [
+    LayoutKey::Default,
+    LayoutKey::Alternate,
+    LayoutKey::Screen,
+    LayoutKey::Field,
+];
+
+/// The table, if it has no key but those of the top.
+pub(crate) fn top_of(table: &Table) -> Result<&Table, LayoutFault>
+    ensures { Tells (λ t. table_view t.now) result (with_only top_keys (table_view table.now)) }
+{
+    with_only(&TOP_KEYS, table)
+}
+
+#[tactic(auto, unfolding(crate::specs::Top::size_of))]
+fn size_of(key: LayoutKey, value: &Value) -> Result<Size, LayoutFault>
+    ensures { result ≡ size_of key (view value.now) }
+{
+    let text = text_of(key, value)?;
+    match size_of_text(Mode::Bits14, text) {
+        Some(size) => Ok(size),
+        None => Err(LayoutFault::at_key(key, LayoutRefusal::BadSize)),
+    }
+}
+
+/// `default`: a size, 24x80 where it is absent.
+#[tactic(auto, unfolding(crate::specs::Top::default_of))]
+pub(crate) fn default_of(top: &Table) -> Result<Size, LayoutFault>
+    ensures { result ≡ default_of (table_view top.now) }
+{
+    match value_at(LayoutKey::Default, top) {
+        Some(value) => size_of(LayoutKey::Default, value),
+        None => Ok(Size { rows: 24, cols: 80 }),
+    }
+}
+
+/// `alternate`: a size, the default one where it is absent.
+#[tactic(auto, unfolding(crate::specs::Top::alternate_of))]
+pub(crate) fn alternate_of(default: Size, top: &Table) -> Result<Size, LayoutFault>
+    ensures { result ≡ alternate_of default (table_view top.now) }
+{
+    match value_at(LayoutKey::Alternate, top) {
+        Some(value) => size_of(LayoutKey::Alternate, value),
+        None => Ok(default),
+    }
+}
+
+fn named_size(default: Size, alternate: Size, word: &str) -> Result<Size, LayoutFault>
+    ensures { result ≡ named_size default alternate word.now }
+{
+    match word {
+        "default" => Ok(default),
+        "alternate" => Ok(alternate),
+        _ => Err(LayoutFault::at_key(LayoutKey::Screen, LayoutRefusal::WrongKind)),
+    }
+}
+
+/// `screen`: the size that it names, the default one where it is absent.
+#[tactic(auto, unfolding(crate::specs::Top::screen_of))]
+pub(crate) fn screen_of(default: Size, alternate: Size, top: &Table) -> Result<Size, LayoutFault>
+    ensures { result ≡ screen_of default alternate (table_view top.now) }
+{
+    match value_at(LayoutKey::Screen, top) {
+        Some(value) => named_size(default, alternate, text_of(LayoutKey::Screen, value)?),
+        None => Ok(default),
+    }
+}
+
+fn are_tables(values: &[Value]) -> bool
+    ensures { result ≡ are_tables (items_view values.now) }
+{
+    values.iter().all(|value| value.is_table())
+}
+
+#[tactic(auto, unfolding(crate::specs::Top::tables_of))]
+fn tables_of(value: &Value) -> Result<&[Value], LayoutFault>
+    ensures { Tells (λ vs. tables_in (items_view vs.now)) result (tables_of (view value.now)) }
+{
+    let Some(values) = value.as_array() else {
+        return Err(LayoutFault::at_key(LayoutKey::Field, LayoutRefusal::WrongKind));
+    };
+    if !are_tables(values) {
+        return Err(LayoutFault::at_key(LayoutKey::Field, LayoutRefusal::WrongKind));
+    }
+    if values.len() > 1000 {
+        return Err(LayoutFault::at_key(LayoutKey::Field, LayoutRefusal::TooManyFields));
+    }
+    Ok(values)
+}
+
+/// `field`: a list of at most 1,000 tables, none where it is absent.
+#[tactic(auto, unfolding(crate::specs::Top::fields_of))]
+pub(crate) fn fields_of(top: &Table) -> Result<&[Value], LayoutFault>
+    ensures { Tells (λ vs. tables_in (items_view vs.now)) result (fields_of (table_view top.now)) }
+{
+    match value_at(LayoutKey::Field, top) {
+        Some(value) => tables_of(value),
+        None => Ok(&[]),
+    }
+}
