@@ -1,27 +1,31 @@
 # make run    shows examples/first.hex through the program, which is built where it is missing
 # make build  leaves the program at bin/term3270
-# make bench  times the program beside plain Rust
 # make test   proves everything from nothing, then runs the golden cases of the built program
+# make cases  runs the golden cases alone
+# make bench  times the program beside plain Rust
 RT := $(shell command -v rt 2>/dev/null)
 BUILT := crates/term3270/out/term3270
+SOURCES := $(shell find crates/ds_codec crates/ds_screen crates/term3270 -path '*/out' -prune -o -name '*.rt' -print -o -name '*.antt' -print)
+need_toolchain = $(if $(RT),,$(error missing: the Rattle toolchain's command 'rt' on the PATH))
 
-.PHONY: run build test cases bench clean toolchain
+.PHONY: run build test cases bench clean
 
 run: bin/term3270
 	@bin/term3270 < examples/first.hex
 
 build: bin/term3270
 
-bin/term3270: toolchain
-	@if [ ! -x $@ ]; then \
-	  if [ ! -x $(BUILT) ]; then echo "building the program: its proofs take some minutes" >&2; (cd crates/term3270 && rt run < stdin > out.log 2>&1 || { tail -20 out.log >&2; exit 1; }; rm -f out.log); fi; \
-	  mkdir -p bin && cp $(BUILT) $@; \
-	fi
+bin/term3270: $(BUILT)
+	@mkdir -p bin && cp $(BUILT) $@
 
-toolchain:
-	@if [ -z "$(RT)" ]; then echo "missing: the Rattle toolchain's command 'rt' is not on the PATH" >&2; exit 1; fi
+$(BUILT): $(SOURCES)
+	$(need_toolchain)
+	@echo "building the program: its proofs take some minutes" >&2
+	@log=$$(mktemp) && (cd crates/term3270 && rt run < stdin > $$log 2>&1) || { tail -n 20 $$log >&2; rm -f $$log; exit 1; }; rm -f $$log
+	@touch $@
 
-test: toolchain
+test:
+	$(need_toolchain)
 	@sh tests/run
 
 cases: bin/term3270
