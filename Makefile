@@ -5,6 +5,7 @@
 # make bench  times the program beside plain Rust
 RT := $(shell command -v rt 2>/dev/null)
 BUILT := crates/term3270/out/term3270
+WIRE := crates/wire_bench/out/wire_bench
 SOURCES := $(shell find crates/ds_codec crates/ds_screen crates/term3270 -path '*/out' -prune -o -name '*.rt' -print -o -name '*.antt' -print)
 need_toolchain = $(if $(RT),,$(error missing: the Rattle toolchain's command 'rt' on the PATH))
 
@@ -31,8 +32,13 @@ test:
 cases: bin/term3270
 	@sh tests/cases.sh bin/term3270
 
-bench: bin/term3270
+bench: bin/term3270 $(WIRE)
 	@sh bench/run
+
+$(WIRE):
+	$(need_toolchain)
+	@echo "building the wire's benchmark: its proofs take some minutes" >&2
+	@cd crates/wire_bench && rt run > /dev/null 2>&1
 
 clean:
 	rm -rf bin crates/*/out

@@ -1,7 +1,8 @@
 #!/bin/sh
 # Runs each folder of tests/cases: the program with the words of `args` (one a line) and `stdin`, in
 # a folder with the case's other files; compares bytes of standard output with `stdout` and the exit
-# status with `status` (0 where there is none). A script `make-stdin` prints an input that is too
+# status with `status` (0 where there is none). Where status 2 goes with no output, the fault is one of
+# the command line, and standard error must say it. A script `make-stdin` prints an input that is too
 # large to store.
 program=$(cd "$(dirname "$1")" && pwd)/$(basename "$1")
 cases=$(cd "$(dirname "$0")/cases" && pwd)
@@ -24,7 +25,9 @@ for folder in "$cases"/*/; do
   (cd "$work/in" && "$program" "$@" < "$work/stdin" > "$work/stdout" 2> "$work/stderr")
   status=$?
   [ -f "$work/in/stdout" ] || : > "$work/in/stdout"
-  if [ "$status" = "$wanted" ] && cmp -s "$work/in/stdout" "$work/stdout"; then
+  told=yes
+  if [ "$wanted" = 2 ] && [ ! -s "$work/in/stdout" ] && [ ! -s "$work/stderr" ]; then told=no; fi
+  if [ "$status" = "$wanted" ] && [ $told = yes ] && cmp -s "$work/in/stdout" "$work/stdout"; then
     passed=$((passed + 1))
   else
     failed=$((failed + 1))

@@ -60,7 +60,8 @@ impl Aid {
         ensures value { result ≡ self }
         ensures valid { is_aid result ≡ true }
     {
-        self.byte
+        let Aid { byte } = self;
+        byte
     }
 
     /// Whether the key sends the cursor address and the modified fields: Enter and PF1 to PF24.

@@ -36,7 +36,8 @@ impl Attr {
         ensures value { result ≡ self }
         ensures six { result < 64 }
     {
-        self.bits
+        let Attr { bits } = self;
+        bits
     }
 
     /// Whether the operator is kept from typing there (bit 20).

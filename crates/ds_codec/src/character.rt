@@ -81,13 +81,15 @@ impl Char {
         ensures value { result ≡ self.code }
         ensures valid { is_glyph self ≡ true }
     {
-        self.code
+        let Char { code, .. } = self;
+        code
     }
 
     /// Whether it is of the alternate set.
     pub fn alt(self) -> bool
         ensures { result ≡ self.alt }
     {
-        self.alt
+        let Char { alt, .. } = self;
+        alt
     }
 }

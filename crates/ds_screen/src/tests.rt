@@ -1,6 +1,6 @@
 //! Worked rows, by hand from the data stream's rules.
 
-use crate::{Effect, FieldAt, Lock, PlainCells, Refused, Screen, Why};
+use crate::{Cells, Effect, FieldAt, Lock, PlainCells, Refused, Screen, Why};
 use ds_codec::{Attr, Cell, Char, Geometry, Mode, Record, Size};
 use std::alloc::Global;
 use std::test::Fail;
@@ -634,5 +634,15 @@ fn keys_change_one_thing(rt: HostRuntime) -> Result<(), Fail> {
     let text = text_of(alloc, &screen)?;
     assert!(rt; text.as_str() == "....................", "{text}");
     assert_eq!(rt; screen.cursor(), 0);
+    Ok(())
+}
+
+#[test]
+fn cells_are_reserved(rt: HostRuntime) -> Result<(), Fail> {
+    let mut cells = PlainCells::reserved(rt.alloc(), 20)?;
+    cells.clear(20);
+    assert_eq!(rt; cells.len(), 20);
+    assert_eq!(rt; cells.cell(19), Cell::Char(Char::null()));
+    assert!(rt; cells.attr_before(0).is_none());
     Ok(())
 }

@@ -1,3 +1,4 @@
+pub mod Status
 pub mod Lines
 pub mod Sizes
 pub mod Input

@@ -4,8 +4,6 @@ ghost use Rattle.std.specs.Prelude.{◌≡◌};
 ghost use Rattle.term3270.specs.declared.fault.Fault.TheVariants.{OutOfMemory};
 
 use std::alloc::{AllocError, AllocFailed};
-use std::error::Error;
-use std::fmt;
 
 /// The first fault of an input, line by line.
 #[derive(Clone, Copy, Debug, PartialEq, Eq)]
@@ -17,18 +15,6 @@ pub enum Fault {
     /// A request for memory was refused.
     OutOfMemory,
 }
-
-impl fmt::Display for Fault {
-    fn fmt<W: fmt::Write>(&self, f: &mut fmt::Formatter<W>) -> fmt::Result {
-        match self {
-            Fault::BadLine(number) => write!(f, "line {number} refused"),
-            Fault::TooLong => write!(f, "input too long"),
-            Fault::OutOfMemory => write!(f, "out of memory"),
-        }
-    }
-}
-
-impl Error for Fault {}
 
 impl From<AllocError> for Fault {
     ghost from_gives = { λ _ e. e ≡ OutOfMemory };

@@ -13,6 +13,8 @@ mod stream;
 use crate::convert::run_convert;
 use crate::show::run_show;
 use crate::status::Status;
+use crate::stream::failure;
+use clap::error::ErrorKind;
 use clap::{ArgMatches, Command, Error};
 use std::alloc::Global;
 use std::process::ExitCode;
@@ -43,15 +45,24 @@ fn run(rt: &HostRuntime, command: Option<&str>) -> Status {
     }
 }
 
-fn main(rt: HostRuntime) -> io::Result<ExitCode> {
-    let words: Vec<String> = env::args(&rt)?.collect(rt.alloc())?;
+/// Parses the command line and runs what it asks for.
+fn answer(rt: &HostRuntime) -> io::Result<Status> {
+    let words: Vec<String> = env::args(rt)?.collect(rt.alloc())?;
     match parsed(rt.alloc(), words.as_slice()) {
-        Ok(matches) => Ok(ExitCode::from(run(&rt, matches.subcommand_name()))),
+        Ok(matches) => Ok(run(rt, matches.subcommand_name())),
         Err(error) => {
-            error.print(&rt)?;
-            Ok(ExitCode::from(if error.use_stderr() { 2 } else { 0 }))
+            error.print(rt)?;
+            Ok(match error.kind() {
+                ErrorKind::OutOfMemory => Status::NoMemory,
+                _ if error.use_stderr() => Status::BadInput,
+                _ => Status::Done,
+            })
         }
     }
+}
+
+fn main(rt: HostRuntime) -> ExitCode {
+    ExitCode::from(answer(&rt).unwrap_or_else(|error| failure(&error)))
 }
 
 #[cfg(test)]

@@ -1,5 +1,7 @@
 //! How the program ends.
 
+ghost use Rattle.std.specs.Prelude.{◌≡◌};
+
 use std::process::ExitCode;
 
 /// The status with which a command ends.
@@ -15,13 +17,24 @@ pub enum Status {
     NoMemory,
 }
 
+impl Status {
+    ghost use Rattle.term3270.specs.Status.{code_of};
+
+    /// The number that the program answers.
+    pub fn code(self) -> u8
+        ensures { result ≡ code_of self }
+    {
+        match self {
+            Status::Done => 0,
+            Status::BadInput => 2,
+            Status::Failed => 3,
+            Status::NoMemory => 4,
+        }
+    }
+}
+
 impl From<Status> for ExitCode {
     fn from(status: Status) -> ExitCode {
-        match status {
-            Status::Done => ExitCode::from(0),
-            Status::BadInput => ExitCode::from(2),
-            Status::Failed => ExitCode::from(3),
-            Status::NoMemory => ExitCode::from(4),
-        }
+        ExitCode::from(status.code())
     }
 }

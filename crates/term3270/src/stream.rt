@@ -13,7 +13,8 @@ use std::io::{Read, Write};
 /// The most bytes of an input, and one more.
 const READ_LIMIT: u64 = 16_777_217;
 
-fn failure(error: &io::Error) -> Status
+/// The status for an error of a stream.
+pub fn failure(error: &io::Error) -> Status
     ensures { IsWantOrFailure result }
 {
     match error.kind() {

@@ -1,8 +1,8 @@
 //! Sizes, addresses, attributes, characters, attention identifiers and words.
 
 use crate::{
-    Aid, Attr, BadSize, Char, Command, Geometry, Mode, Order, Placed, Record, Refused, Size,
-    Unwritable, Why, decode_address, encode_address, last_attr,
+    Aid, Attr, BadSize, Char, Command, Geometry, Mode, Record, Refused, Size, Unwritable, Why,
+    decode_address, encode_address, last_attr,
 };
 use std::test::Fail;
 
@@ -237,14 +237,12 @@ fn a_record_lends_its_orders(rt: HostRuntime) -> Result<(), Fail> {
     let bytes = [0x05u8, 0xC2, 0xC1, 0xC2, 0x13];
     let record = Record::read(Mode::Bits14, &bytes).map_err(|_| "a good record")?;
     assert_eq!(rt; record.command(), Command::EraseWrite(0xC2));
-    let mut orders = record.orders();
-    assert!(rt;
-        orders.next().is_some_and(|placed| placed.at == 2 && matches!(placed.order, Order::Text(_)))
-    );
-    assert!(rt;
-        orders.next().is_some_and(|placed: Placed<'_>| placed.at == 4
-            && matches!(placed.order, Order::Ic))
-    );
-    assert!(rt; orders.next().is_none());
+    let mut count = 0usize;
+    for placed in record.orders() {
+        let wanted = if count == 0 { 2 } else { 4 };
+        assert_eq!(rt; placed.at, wanted, "order {count}");
+        count = count.saturating_add(1);
+    }
+    assert_eq!(rt; count, 2);
     Ok(())
 }

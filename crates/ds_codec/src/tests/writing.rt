@@ -124,6 +124,36 @@ fn each_command(rt: HostRuntime) -> Result<(), Fail> {
 }
 
 #[test]
+fn large_buffers_have_addresses_of_14_bits(rt: HostRuntime) -> Result<(), Fail> {
+    let orders = [Order::Sba(254), Order::Eua(9_919)];
+    let bytes = write_record(
+        rt.alloc(),
+        Command::Write(0xC2),
+        &orders,
+        Mode::Bits14,
+        9_920,
+    );
+    let wanted = [0xF1, 0xC2, 0x11, 0x00, 0xFE, 0x12, 0x26, 0xBF];
+    assert_eq!(rt;
+        bytes.map_err(|_| "a good record")?.as_slice(),
+        wanted.as_slice()
+    );
+    Ok(())
+}
+
+#[test]
+fn orders_for_a_command_without(rt: HostRuntime) -> Result<(), Fail> {
+    let orders = [Order::Ic, Order::Text(&[0xC1]), Order::Ge(0xFF)];
+    check(
+        &rt,
+        rt.alloc(),
+        Command::ReadModified,
+        &orders,
+        Err(Unwritable::NotAllowed),
+    )
+}
+
+#[test]
 fn unwritable_orders(rt: HostRuntime) -> Result<(), Fail> {
     let erase = Command::EraseWrite(0xC2);
     let letter = Char::new(0xC1, false).ok_or("a letter")?;
