@@ -1,6 +1,8 @@
 -- What is written where a read or a write may fail.
 use Rattle.std.specs.Prelude.{◌≡◌, ℕ, List, ◌++◌, Option}
 use Rattle.std.specs.Io.KnownBytes.{Appends}
+use Rattle.std.specs.declared.io.ErrorKind.{ErrorKind}
+use Rattle.std.specs.declared.io.ErrorKind.TheVariants.{OutOfMemory}
 use Rattle.term3270.specs.declared.status.Status.{Status}
 use Rattle.term3270.specs.declared.status.Status.TheVariants.{Done, BadInput, Failed, NoMemory}
 use Rattle.term3270.specs.Show.{Printed}
@@ -8,6 +10,11 @@ use Rattle.term3270.specs.Show.{Printed}
 -- a front of the text was written
 abbrev pub AppendsFront : Option (List ℕ) → Option (List ℕ) → List ℕ → Type 0
 AppendsFront old new text = (front : List ℕ) × (rest : List ℕ) × (text ≡ front ++ rest) × Appends old new front
+
+-- the status for an error of a stream
+abbrev pub failure_of : ErrorKind → Status
+failure_of OutOfMemory = NoMemory
+failure_of kind = Failed
 
 abbrev pub IsWantOrFailure : Status → Type 0
 IsWantOrFailure Done = ⊥

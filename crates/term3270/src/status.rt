@@ -34,6 +34,12 @@ impl Status {
 }
 
 impl From<Status> for ExitCode {
+    ghost use Rattle.std.specs.Prelude.{◌≡◌};
+    ghost use Rattle.std.specs.Process.{exit_status};
+    ghost use Rattle.term3270.specs.Status.{code_of};
+
+    ghost from_gives = { λ status code. exit_status code ≡ code_of status };
+
     fn from(status: Status) -> ExitCode {
         ExitCode::from(status.code())
     }

@@ -3,7 +3,8 @@
 ghost use Rattle.std.specs.Prelude.{◌≡◌, IfOk, IfErr, IfSome, take};
 ghost use Rattle.std.specs.Bool.{OnTrue};
 ghost use Rattle.std.specs.Io.KnownBytes.{Appends};
-ghost use Rattle.term3270.specs.Streams.{AppendsFront, IsWantOrFailure};
+ghost use Rattle.std.specs.IoError.{error_kind};
+ghost use Rattle.term3270.specs.Streams.{AppendsFront, IsWantOrFailure, failure_of};
 
 use crate::status::Status;
 use std::alloc::Global;
@@ -15,7 +16,8 @@ const READ_LIMIT: u64 = 16_777_217;
 
 /// The status for an error of a stream.
 pub fn failure(error: &io::Error) -> Status
-    ensures { IsWantOrFailure result }
+    ensures exact { result ≡ failure_of (error_kind error.now) }
+    ensures failed { IsWantOrFailure result }
 {
     match error.kind() {
         io::ErrorKind::OutOfMemory => Status::NoMemory,
