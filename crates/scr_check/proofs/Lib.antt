@@ -1,0 +1,3 @@
+pub mod HasField
+pub mod EntryPlaces
+pub mod OpenLaw

@@ -1,0 +1,66 @@
+//! What the checker finds.
+
+use ds_codec::{Refused as ReadRefused, Size};
+use ds_screen::Refused as ApplyRefused;
+
+/// Why a record is refused.
+#[derive(Clone, Copy, Debug, PartialEq, Eq)]
+pub enum Refusal {
+    /// Its bytes are no record.
+    Read(ReadRefused),
+    /// The screen can't do what it says.
+    Apply(ApplyRefused),
+}
+
+/// Keys that show a finding: Right so many times, then the character C1 so many times, then Enter.
+#[derive(Clone, Copy, Debug, PartialEq, Eq)]
+pub struct Demo {
+    /// How often Right is pressed, 0 to the number of cells less 1.
+    pub rights: u32,
+    /// How often C1 is typed.
+    pub types: u32,
+}
+
+/// A field with more cells than its entry declares.
+#[derive(Clone, Copy, Debug, PartialEq, Eq)]
+pub struct Overlong {
+    /// The entry's index in the layout.
+    pub entry: usize,
+    /// The number of cells that the field has.
+    pub length: u32,
+    /// The number that the entry declares.
+    pub declared: u32,
+    /// For an input. A fixed field has none, as its text may be shorter than its cells.
+    pub demo: Option<Demo>,
+}
+
+/// What stands against a layout. Records, positions and entries count from 0.
+#[derive(Clone, Copy, Debug, PartialEq, Eq)]
+pub enum Finding {
+    /// F1: this record is refused.
+    RecordRefused(usize, Refusal),
+    /// F2: there is no record.
+    NoRecord,
+    /// F3: the first record is no Erase/Write and no Erase/Write Alternate.
+    FirstNotErase,
+    /// F4: this record is a read or No-operation.
+    NotAWrite(usize),
+    /// F5: the keyboard stays locked.
+    KeyboardLocked,
+    /// F6: the screen has the first size, the layout is for the second.
+    OtherSize(Size, Size),
+    /// F7: there is no field.
+    Unformatted,
+    /// F8: an input at this place that no entry declares.
+    Undeclared(u32, Demo),
+    /// F9: a protected field at this place that comes modified and that no entry declares.
+    UndeclaredFixed(u32, Demo),
+    /// F10: no field stands at the place of this entry.
+    Missing(usize),
+    /// F11: a field is longer than declared.
+    TooLong(Overlong),
+    /// F12: this entry is an input where the field is protected, or the other way round.
+    OtherKind(usize),
+    /// F13: a field without cells at this place that comes modified.
+    EmptyModified(u32),
+}

@@ -1,0 +1,123 @@
+//! The records in turn, on a new terminal.
+
+ghost use Rattle.std.specs.Prelude.{◌≡◌, Ok, Err, map, IfOk};
+ghost use Rattle.ds_codec.specs.Reading.{read_of};
+ghost use Rattle.scr_check.specs.Opening.{erases, writes, command_fault, is_free, is_size, ready, opening_of};
+ghost use Rattle.scr_check.specs.Seen.{Takes, TakesAll, IsReady, opening_seen};
+
+use crate::finding::{Finding, Refusal};
+use ds_codec::{Command, Record, Size};
+use ds_screen::{Lock, PlainCells, Screen};
+use scr_layout::Layout;
+use std::alloc::{AllocError, Global};
+
+/// Where the records lead: to a screen, or to the one finding that comes first.
+#[derive(Drop)]
+pub(crate) enum Opening {
+    Leads(Screen<PlainCells>),
+    Stands(Finding),
+}
+
+fn erases(command: Command) -> bool
+    ensures { result ≡ erases command }
+{
+    matches!(
+        command,
+        Command::EraseWrite(_) | Command::EraseWriteAlternate(_)
+    )
+}
+
+fn writes(command: Command) -> bool
+    ensures { result ≡ writes command }
+{
+    match command {
+        Command::ReadBuffer
+        | Command::ReadModified
+        | Command::ReadModifiedAll
+        | Command::NoOperation => false,
+        _ => true,
+    }
+}
+
+/// What the command of the record of this number is at fault for.
+fn command_fault(index: usize, command: Command) -> Option<Finding>
+    ensures { result ≡ command_fault index command }
+{
+    if index == 0 && !erases(command) {
+        Some(Finding::FirstNotErase)
+    } else if writes(command) {
+        None
+    } else {
+        Some(Finding::NotAWrite(index))
+    }
+}
+
+/// Reads and applies the record of this number.
+fn take(screen: &mut Screen<PlainCells>, index: usize, bytes: &[u8]) -> Result<(), Finding>
+    ensures { Takes screen.old screen.new index bytes.now result }
+{
+    let record = match Record::read(screen.geometry().mode(), bytes) {
+        Ok(record) => record,
+        Err(refused) => return Err(Finding::RecordRefused(index, Refusal::Read(refused))),
+    };
+    if let Some(finding) = command_fault(index, record.command()) {
+        return Err(finding);
+    }
+    match screen.apply(&record) {
+        Ok(_) => Ok(()),
+        Err(refused) => Err(Finding::RecordRefused(index, Refusal::Apply(refused))),
+    }
+}
+
+/// Takes the records in turn, up to the first against which something stands.
+fn take_all(screen: &mut Screen<PlainCells>, records: &[&[u8]]) -> Result<(), Finding>
+    ensures { TakesAll screen.old screen.new (map (λ bytes. bytes.now) records.now) result }
+{
+    for (index, bytes) in records.iter().enumerate() {
+        take(screen, index, bytes)?;
+    }
+    Ok(())
+}
+
+fn is_size(size: Size, other: Size) -> bool
+    ensures { result ≡ is_size size other }
+{
+    size.rows == other.rows && size.cols == other.cols
+}
+
+/// What keeps the operator from a screen of this size with fields.
+fn ready(screen: &Screen<PlainCells>, size: Size) -> Result<(), Finding>
+    ensures { IsReady screen.now size result }
+{
+    if screen.lock() != Lock::Free {
+        return Err(Finding::KeyboardLocked);
+    }
+    if !is_size(screen.size(), size) {
+        return Err(Finding::OtherSize(screen.size(), size));
+    }
+    match screen.fields().next() {
+        Some(_) => Ok(()),
+        None => Err(Finding::Unformatted),
+    }
+}
+
+/// Opens a new terminal of the layout's geometry with the records.
+pub(crate) fn open(
+    alloc: Global,
+    records: &[&[u8]],
+    layout: &Layout,
+) -> Result<Opening, AllocError>
+    ensures { IfOk result (λ opening. opening_seen opening ≡ opening_of layout.now (map (λ bytes. bytes.now) records.now)) }
+{
+    if records.is_empty() {
+        return Ok(Opening::Stands(Finding::NoRecord));
+    }
+    let mut screen = Screen::<PlainCells>::new(alloc, layout.geometry())?;
+    if let Err(finding) = take_all(&mut screen, records) {
+        return Ok(Opening::Stands(finding));
+    }
+    match ready(&screen, layout.size()) {
+        Ok(()) => Ok(Opening::Leads(screen)),
+        Err(finding) => Ok(Opening::Stands(finding)),
+    }
+}

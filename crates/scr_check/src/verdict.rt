@@ -1,0 +1,49 @@
+//! The verdict on records and a layout.
+
+ghost use Rattle.std.specs.Prelude.{◌≡◌, ◌↔◌, [], map, IfOk};
+ghost use Rattle.scr_check.specs.Findings.{answer_of, Conforms};
+ghost use Rattle.scr_check.specs.Seen.{findings_in};
+
+use crate::fields::findings_of;
+use crate::finding::Finding;
+use crate::opening::{Opening, open};
+use scr_layout::Layout;
+use std::alloc::{AllocError, Global};
+
+/// Whether records and a layout agree.
+#[derive(Debug, Drop)]
+pub enum Verdict {
+    /// Nothing stands against them.
+    Yes,
+    /// All that does, at least one finding.
+    No(Vec<Finding>),
+}
+
+fn verdict_of(findings: Vec<Finding>) -> Verdict
+    ensures listed { findings_in result ≡ findings.items }
+    ensures yes { result ≡ Verdict.Yes ↔ findings.items ≡ [] }
+{
+    if findings.is_empty() {
+        Verdict::Yes
+    } else {
+        Verdict::No(findings)
+    }
+}
+
+/// Whether the records, on a new terminal of the layout's geometry, lead to a screen of the named size
+/// with exactly the layout's fields: each input declared and no longer than declared, each fixed field
+/// protected, nothing else modified. Otherwise all findings: one of F1 to F7 alone, or those of the
+/// fields by their attributes in rising order, then the entries without a field.
+///
+/// # Errors
+///
+/// Where a request for memory was refused.
+pub fn check(alloc: Global, records: &[&[u8]], layout: &Layout) -> Result<Verdict, AllocError>
+    ensures yes { IfOk result (λ verdict. verdict ≡ Verdict.Yes ↔ Conforms layout.now (map (λ bytes. bytes.now) records.now)) }
+    ensures listed { IfOk result (λ verdict. findings_in verdict ≡ answer_of layout.now (map (λ bytes. bytes.now) records.now)) }
+{
+    match open(alloc, records, layout)? {
+        Opening::Leads(screen) => Ok(verdict_of(findings_of(alloc, &screen, layout)?)),
+        Opening::Stands(finding) => Ok(verdict_of(vec![in alloc; finding]?)),
+    }
+}
