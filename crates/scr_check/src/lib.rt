@@ -1,14 +1,12 @@
 //! The screen layout checker: whether records and a layout agree, or exactly what stands against them.
 #![tactic(auto)]
 
-
 mod fields;
 mod finding;
 mod opening;
 mod places;
 mod ring;
 mod verdict;
-
 
 pub use finding::{Demo, Finding, Refusal};
 pub use verdict::{Verdict, check};

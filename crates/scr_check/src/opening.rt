@@ -102,11 +102,7 @@ fn ready(screen: &Screen<PlainCells>, size: Size) -> Result<(), Finding>
 }
 
 /// Opens a new terminal of the layout's geometry with the records.
-pub(crate) fn open(
-    alloc: Global,
-    records: &[&[u8]],
-    layout: &Layout,
-) -> Result<Opening, AllocError>
+pub(crate) fn open(alloc: Global, records: &[&[u8]], layout: &Layout) -> Result<Opening, AllocError>
     ensures { IfOk result (λ opening. opening_seen opening ≡ opening_of layout.now (map (λ bytes. bytes.now) records.now)) }
 {
     if records.is_empty() {
