@@ -1,0 +1,4 @@
+pub mod Answer
+pub mod Inbound
+pub mod Reading
+pub mod Refused
