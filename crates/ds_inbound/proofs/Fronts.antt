@@ -1,5 +1,6 @@
 -- The item at the front of an answer's bytes: a character, or the beginning of a field.
 use Rattle.std.proofs.Common.{◌≡◌, ◌≢◌, ℕ, zero, suc, ◌+◌, ◌-◌, ◌<◌, ◌≤◌, ◌⊎◌, Bool, true, false, cond, not, eqb, ltb, ◌&&◌, List, [], ◌∷◌, length, drop, Option, Some, None, Result, Ok, Err, refl, sym, ap, subst, ◌∙◌, arith, inl, inr}
+use Rattle.std.specs.Prelude.{IfOk}
 use Rattle.std.proofs.lemmas.Bool.{eqb-true, eqb-false, ltb-true, ltb-false, lt-ltb, le-ltb}
 use Rattle.ds_codec.specs.declared.size.Mode.{Mode}
 use Rattle.ds_codec.specs.Address.{SpellsAddress, IsReserved, address_at}
@@ -12,7 +13,8 @@ use Rattle.ds_inbound.specs.declared.refused.Why.TheVariants.{Empty, UnknownAid,
 use Rattle.ds_inbound.specs.declared.item.Item.{Item}
 use Rattle.ds_inbound.specs.declared.item.Item.TheVariants as items
 use Rattle.ds_inbound.specs.Inbound.{IsGlyphThen, IsAddressThen, IsBadAddress, HasFault}
-use Rattle.ds_inbound.specs.Reading.{pair_at, plain_at, front_character, inside, place_at, front}
+use Rattle.ds_inbound.specs.Characters.{pair_at, plain_at, front_character}
+use Rattle.ds_inbound.specs.Reading.{inside, as_item, place_at, front}
 use Rattle.ds_inbound.proofs.Glyphs.{size_of, text_is_no, glyph_again, TakesGlyph, glyph_taken}
 
 -- ---- addresses of the buffer
@@ -108,7 +110,7 @@ character_fault mode cells byte more why no-mark e =
     ]
 
 character_says : (mode : Mode) (cells byte : ℕ) (more : List ℕ) (r : Result (Glyph × ℕ) Why) → byte ≢ 0x11 → front_character (byte ∷ more) ≡ r
-    → FrontSays mode cells (byte ∷ more) (r >>= λ found. Ok (items.Char found.0, found.1))
+    → FrontSays mode cells (byte ∷ more) (as_item r)
 character_says mode cells byte more (Ok found) no-mark read = (read, glyph_taken (byte ∷ more) found read)
 character_says mode cells byte more (Err why) no-mark read = character_fault mode cells byte more why no-mark read
 
@@ -116,7 +118,7 @@ character_says mode cells byte more (Err why) no-mark read = character_fault mod
 pub front_says : (mode : Mode) (cells byte : ℕ) (more : List ℕ) → FrontSays mode cells (byte ∷ more) (front mode cells (byte ∷ more))
 unfolding front
 front_says mode cells byte more =
-    elim (eqb byte 0x11) as (λ b. eqb byte 0x11 ≡ b → FrontSays mode cells (byte ∷ more) (cond b (place_at mode cells more) (front_character (byte ∷ more) >>= λ found. Ok (items.Char found.0, found.1)))) [
+    elim (eqb byte 0x11) as (λ b. eqb byte 0x11 ≡ b → FrontSays mode cells (byte ∷ more) (cond b (place_at mode cells more) (as_item (front_character (byte ∷ more))))) [
       | true ↦ λ same. subst (λ b. FrontSays mode cells (b ∷ more) (place_at mode cells more)) (sym (eqb-true byte 0x11 same)) (place_says mode cells more)
       | false ↦ λ other. character_says mode cells byte more _ (eqb-false byte 0x11 other) refl
     ] refl
@@ -136,7 +138,7 @@ mark_or_none byte more found e =
 pub front_of_character : (mode : Mode) (cells : ℕ) (bytes : List ℕ) (found : Glyph × ℕ) → front_character bytes ≡ Ok found → front mode cells bytes ≡ Ok (items.Char found.0, found.1)
 unfolding front front_character
 front_of_character mode cells [] found e = absurd cc
-front_of_character mode cells (byte ∷ more) found e = rw (mark_or_none byte more found e) (ap (λ r. r >>= λ f. Ok (items.Char f.0, f.1)) e)
+front_of_character mode cells (byte ∷ more) found e = rw (mark_or_none byte more found e) (ap as_item e)
 
 pub front_of_glyph : (mode : Mode) (cells : ℕ) (character : Glyph) (bytes rest : List ℕ) → IsGlyphThen character bytes rest
     → (front mode cells bytes ≡ Ok (items.Char character, size_of character.alt)) × (drop (size_of character.alt) bytes ≡ rest)
@@ -188,3 +190,43 @@ fault_some mode cells BadCharacter (inr (byte, rest, is, bad, no-mark, no-pair))
 fault_some mode cells Null (rest, is) = absurd cc
 fault_some mode cells Empty fault = fault
 fault_some mode cells UnknownAid fault = fault
+
+-- ---- how much is taken
+
+taken_some : (bytes : List ℕ) (r : Result (Glyph × ℕ) Why) → front_character bytes ≡ r → IfOk r (λ found. 0 < found.1)
+taken_some bytes (Ok found) e = (glyph_taken bytes found e).some
+taken_some bytes (Err why) e = tt
+
+taken_within : (bytes : List ℕ) (r : Result (Glyph × ℕ) Why) → front_character bytes ≡ r → IfOk r (λ found. found.1 ≤ length bytes)
+taken_within bytes (Ok found) e = (glyph_taken bytes found e).inside
+taken_within bytes (Err why) e = tt
+
+pub character_some : (bytes : List ℕ) (r : Result (Glyph × ℕ) Why) → r ≡ front_character bytes → IfOk r (λ found. 0 < found.1)
+character_some bytes r e = taken_some bytes r (sym e)
+
+pub character_within : (bytes : List ℕ) (r : Result (Glyph × ℕ) Why) → r ≡ front_character bytes → IfOk r (λ found. found.1 ≤ length bytes)
+character_within bytes r e = taken_within bytes r (sym e)
+
+says_some : (mode : Mode) (cells : ℕ) (bytes : List ℕ) (r : Result (Item × ℕ) Why) → FrontSays mode cells bytes r → IfOk r (λ found. (0 < found.1) × (found.1 ≤ length bytes))
+says_some mode cells bytes (Ok (items.Char character, taken)) says = (says.1.some, says.1.inside)
+says_some mode cells bytes (Ok (items.Field place, taken)) says = (omega (arith, says.three), says.inside)
+says_some mode cells bytes (Err why) says = tt
+
+both_some : (bytes : List ℕ) (r : Result (Item × ℕ) Why) → IfOk r (λ found. (0 < found.1) × (found.1 ≤ length bytes)) → IfOk r (λ found. 0 < found.1)
+both_some bytes (Ok found) both = both.0
+both_some bytes (Err why) both = tt
+
+both_within : (bytes : List ℕ) (r : Result (Item × ℕ) Why) → IfOk r (λ found. (0 < found.1) × (found.1 ≤ length bytes)) → IfOk r (λ found. found.1 ≤ length bytes)
+both_within bytes (Ok found) both = both.1
+both_within bytes (Err why) both = tt
+
+front_both : (mode : Mode) (cells : ℕ) (bytes : List ℕ) → IfOk (front mode cells bytes) (λ found. (0 < found.1) × (found.1 ≤ length bytes))
+unfolding front
+front_both mode cells [] = tt
+front_both mode cells (byte ∷ more) = says_some mode cells (byte ∷ more) (front mode cells (byte ∷ more)) (front_says mode cells byte more)
+
+pub front_some : (mode : Mode) (cells : ℕ) (bytes : List ℕ) (r : Result (Item × ℕ) Why) → r ≡ front mode cells bytes → IfOk r (λ found. 0 < found.1)
+front_some mode cells bytes r e = rw e (both_some bytes (front mode cells bytes) (front_both mode cells bytes))
+
+pub front_within : (mode : Mode) (cells : ℕ) (bytes : List ℕ) (r : Result (Item × ℕ) Why) → r ≡ front mode cells bytes → IfOk r (λ found. found.1 ≤ length bytes)
+front_within mode cells bytes r e = rw e (both_within bytes (front mode cells bytes) (front_both mode cells bytes))

@@ -2,7 +2,7 @@
 use Rattle.std.proofs.Common.{◌≡◌, ℕ, zero, suc, ◌+◌, ◌-◌, ◌<◌, ◌≤◌, Bool, true, false, not, eqb, cond, ◌&&◌, List, [], ◌∷◌, ◌++◌, length, take, drop, Result, Ok, Err, refl, sym, ap, subst, ◌∙◌, arith, append_assoc, length-append, length-drop, inl, inr}
 use Rattle.std.specs.List.{flat_map, list_all}
 use Rattle.std.proofs.lemmas.Bool.{eqb-true}
-use Rattle.std.proofs.lemmas.List.{drop_at, take_at}
+use Rattle.std.proofs.lemmas.List.{append-nil}
 use Rattle.std.proofs.lemmas.List.Concat.{flat_map-cons}
 use Rattle.ds_codec.specs.Character.{Glyph, glyph, is_text, is_graphic}
 use Rattle.ds_codec.specs.Writing.{written_character}
@@ -11,7 +11,7 @@ use Rattle.ds_codec.proofs.Steps.{chosen, ok_is}
 use Rattle.ds_inbound.specs.declared.refused.Why.{Why}
 use Rattle.ds_inbound.specs.Answer.{written_characters}
 use Rattle.ds_inbound.specs.Inbound.{is_sendable, IsGlyphThen, AreGlyphsThen}
-use Rattle.ds_inbound.specs.Reading.{pair_at, plain_at, front_character, glyphs_before, characters_from, characters_in}
+use Rattle.ds_inbound.specs.Characters.{pair_at, plain_at, front_character, glyphs_before, characters_from, characters_in}
 
 -- ---- one character
 
@@ -134,7 +134,7 @@ one_more bytes found e have =
       none = have.none;
     }
 
-no_characters : characters_in [] ≡ []
+pub no_characters : characters_in [] ≡ []
 unfolding characters_in
 no_characters = refl
 
@@ -178,3 +178,36 @@ then_written (character ∷ characters) rest good =
       ),
       then_written characters rest parts.1,
     )
+
+-- ---- how long the run of characters at the front is
+
+-- characters and a rest have the length of both
+pub run_after : (bytes : List ℕ) (found : Glyph × ℕ) → front_character bytes ≡ Ok found
+    → length (written_characters (characters_in bytes)) ≡ found.1 + length (written_characters (characters_in (drop found.1 bytes)))
+run_after bytes found e =
+    let takes = glyph_taken bytes found e in
+    let one : length bytes ≡ length (written_character found.0) + length (drop found.1 bytes) =
+    ap length (takes.then.1 ∙ one_written found.0 (drop found.1 bytes)) ∙ length-append (written_character found.0) (drop found.1 bytes) in
+    let size : length (written_character found.0) ≡ found.1 = omega (arith, one, length-drop found.1 bytes, takes.inside) in
+    ap (λ cs. length (written_characters cs)) (characters_step bytes found e)
+    ∙ ap length (flat_map-cons written_character found.0 (characters_in (drop found.1 bytes)))
+    ∙ length-append (written_character found.0) (written_characters (characters_in (drop found.1 bytes)))
+    ∙ ap (λ n. n + length (written_characters (characters_in (drop found.1 bytes)))) size
+
+pub run_none : (bytes : List ℕ) (why : Why) → front_character bytes ≡ Err why → length (written_characters (characters_in bytes)) ≡ 0
+run_none bytes why e = ap (λ cs. length (written_characters cs)) (characters_stop bytes why e)
+
+-- ---- what is written is read again
+
+and_true : (a b : Bool) → a ≡ true → b ≡ true → (a && b) ≡ true
+and_true a b e f = rw (e, f) refl
+
+pub sendable_then : (characters : List Glyph) (bytes rest : List ℕ) → AreGlyphsThen characters bytes rest → list_all is_sendable characters ≡ true
+sendable_then [] bytes rest is = refl
+sendable_then (character ∷ characters) bytes rest (more, here, later) = and_true (is_sendable character) _ here.0 (sendable_then characters more rest later)
+
+pub characters_written : (characters : List Glyph) → list_all is_sendable characters ≡ true → characters_in (written_characters characters) ≡ characters
+characters_written characters good =
+    ap characters_in (sym (append-nil (written_characters characters)))
+    ∙ characters_again characters (written_characters characters ++ []) [] (then_written characters [] good)
+    ∙ ap (λ cs. characters ++ cs) no_characters ∙ append-nil characters

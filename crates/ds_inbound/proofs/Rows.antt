@@ -12,7 +12,8 @@ use Rattle.ds_screen.specs.Picture.{Picture, blank}
 use Rattle.ds_screen.specs.Fields.{attribute_before, span_of}
 use Rattle.ds_inbound.specs.declared.refused.Why.TheVariants.{Empty, UnknownAid, Truncated, BadAddress, BadCharacter, Null}
 use Rattle.ds_inbound.specs.Answer.{Sent, Answer, is_short_aid, characters_at, field_sent, fields_sent, answer_of, bytes_sent, buffer_of}
-use Rattle.ds_inbound.specs.Reading.{pair_at, front_character, place_at, front, answer_after, read_of}
+use Rattle.ds_inbound.specs.Characters.{pair_at, front_character}
+use Rattle.ds_inbound.specs.Reading.{place_at, front, answer_after, read_of}
 
 -- a buffer of 2 rows of 10 cells, of which these are the first
 abbrev on_small : ℕ → ℕ → List Cell → Picture

@@ -11,7 +11,8 @@ use Rattle.ds_inbound.specs.declared.item.Item.{Item}
 use Rattle.ds_inbound.specs.declared.item.Item.TheVariants as items
 use Rattle.ds_inbound.specs.Answer.{Sent}
 use Rattle.ds_inbound.specs.Inbound.{IsGlyphThen, AreGlyphsThen, IsAddressThen, IsFieldThen, AreFieldsThen, IsTailThen, HasFault}
-use Rattle.ds_inbound.specs.Reading.{front_character, front, Tail, no_tail, before, tail_from, fields_of_tail, fields_in, refusal_in}
+use Rattle.ds_inbound.specs.Characters.{front_character}
+use Rattle.ds_inbound.specs.Reading.{front, Tail, no_tail, before, tail_from, fields_of_tail, fields_in, refusal_in}
 use Rattle.ds_inbound.proofs.Glyphs.{size_of, TakesGlyph}
 use Rattle.ds_inbound.proofs.Fronts.{TakesPlace, FrontSays, front_says, front_of_glyph, front_of_place, front_refused, fault_some}
 

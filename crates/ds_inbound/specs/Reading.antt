@@ -1,50 +1,20 @@
 -- Reading an answer from left to right, with the first fault that is met.
 use Rattle.std.specs.Prelude.{◌≡◌, ℕ, zero, suc, ◌+◌, ◌-◌, Bool, true, false, nat_lt, ◌==◌, List, [], ◌∷◌, length, Option, Some, None, Result, Ok, Err, if◌then◌else◌}
 use Rattle.ds_codec.specs.declared.size.Mode.{Mode}
-use Rattle.ds_codec.specs.declared.order.OrderCode.TheVariants.{Sba, Ge}
+use Rattle.ds_codec.specs.declared.order.OrderCode.TheVariants.{Sba}
 use Rattle.ds_codec.specs.Address.{address_at}
 use Rattle.ds_codec.specs.Aid.{is_aid}
-use Rattle.ds_codec.specs.Character.{Glyph, glyph, is_text, is_graphic}
+use Rattle.ds_codec.specs.Character.{Glyph}
 use Rattle.ds_codec.specs.Order.{code_of}
 use Rattle.ds_codec.specs.Reading.{◌>>=◌}
 use Rattle.ds_inbound.specs.declared.refused.Refused.{Refused}
 use Rattle.ds_inbound.specs.declared.refused.Why.{Why}
-use Rattle.ds_inbound.specs.declared.refused.Why.TheVariants.{Empty, UnknownAid, Truncated, BadAddress, BadCharacter, Null}
+use Rattle.ds_inbound.specs.declared.refused.Why.TheVariants.{Empty, UnknownAid, Truncated, BadAddress}
 use Rattle.ds_inbound.specs.declared.item.Item.{Item}
 use Rattle.ds_inbound.specs.declared.item.Item.TheVariants as items
 use Rattle.ds_inbound.specs.declared.field.FieldSlice.{FieldSlice}
 use Rattle.ds_inbound.specs.Answer.{Sent, Answer, is_short_aid, short_answer}
-
--- ---- characters
-
--- the code behind the graphic escape
-unfoldable pub pair_at : List ℕ → Result (Glyph × ℕ) Why
-pair_at [] = Err Truncated
-pair_at (code ∷ rest) = if is_graphic code then Ok (glyph code true, 2) else Err BadCharacter
-
--- a byte that stands for itself
-abbrev pub plain_at : ℕ → Result (Glyph × ℕ) Why
-plain_at byte = if byte == 0x00 then Err Null else (if is_text byte then Ok (glyph byte false, 1) else Err BadCharacter)
-
--- the character at the front and how many bytes it takes
-unfoldable pub front_character : List ℕ → Result (Glyph × ℕ) Why
-front_character [] = Err Truncated
-front_character (byte ∷ more) = if byte == code_of Ge then pair_at more else plain_at byte
-
--- a character before others, none where there is none
-abbrev pub glyphs_before : Result (Glyph × ℕ) Why → (ℕ → List Glyph) → List Glyph
-glyphs_before (Ok found) others = found.0 ∷ others (found.1 - 1)
-glyphs_before (Err why) others = []
-
--- the characters up to the first byte that begins none, where so many bytes at the front belong to one before
-abbrev pub characters_from : ℕ → List ℕ → List Glyph
-characters_from skip [] = []
-characters_from (suc skip) (byte ∷ rest) = characters_from skip rest
-characters_from zero (byte ∷ rest) = glyphs_before (front_character (byte ∷ rest)) (λ skip. characters_from skip rest)
-
--- the characters at the front
-unfoldable pub characters_in : List ℕ → List Glyph
-characters_in bytes = characters_from 0 bytes
+use Rattle.ds_inbound.specs.Characters.{front_character, characters_in}
 
 -- ---- characters and fields
 
@@ -61,12 +31,16 @@ place_at mode cells (first ∷ second ∷ rest) = do
   place ← inside cells (address_at mode first second)
   Ok (items.Field place, 3)
 
+abbrev pub as_item : Result (Glyph × ℕ) Why → Result (Item × ℕ) Why
+as_item character = do
+  found ← character
+  Ok (items.Char found.0, found.1)
+
 -- the character or the beginning of a field at the front, and how many bytes it takes
 unfoldable pub front : Mode → ℕ → List ℕ → Result (Item × ℕ) Why
 front mode cells [] = Err Truncated
 front mode cells (byte ∷ more) =
-    if byte == code_of Sba then place_at mode cells more
-    else (front_character (byte ∷ more) >>= λ found. Ok (items.Char found.0, found.1))
+    if byte == code_of Sba then place_at mode cells more else as_item (front_character (byte ∷ more))
 
 -- what a fault of an item makes of an answer
 abbrev pub placed : {A : Type 0} → ℕ → Result A Why → Result A Refused
@@ -103,6 +77,10 @@ fields_of_tail (Err e) = []
 abbrev pub fields_in : Mode → ℕ → List ℕ → List Sent
 fields_in mode cells bytes = fields_of_tail (tail_from mode cells 0 0 bytes)
 
+-- the bytes are fields, with no characters before the first
+abbrev pub AreFields : Mode → ℕ → List ℕ → Type 0
+AreFields mode cells bytes = tail_from mode cells 0 0 bytes ≡ Ok (record { lead = []; fields = fields_in mode cells bytes })
+
 abbrev pub refusal_in : {A : Type 0} → Result A Refused → Option Refused
 refusal_in (Ok found) = None
 refusal_in (Err e) = Some e
@@ -113,11 +91,16 @@ sent_of slice = record { place = slice.place; characters = characters_in slice.r
 
 -- ---- the whole answer
 
+-- what stands behind the cursor
+abbrev pub long_body : Mode → ℕ → ℕ → ℕ → List ℕ → Result Answer Refused
+long_body mode cells aid cursor body = do
+  tail ← tail_from mode cells 0 3 body
+  Ok (record { aid = aid; cursor = Some cursor; lead = tail.lead; fields = tail.fields })
+
 abbrev pub long_of : Mode → ℕ → ℕ → Result ℕ Why → List ℕ → Result Answer Refused
 long_of mode cells aid cursor body = do
   position ← placed 1 cursor
-  tail ← tail_from mode cells 0 3 body
-  Ok (record { aid = aid; cursor = Some position; lead = tail.lead; fields = tail.fields })
+  long_body mode cells aid position body
 
 -- what follows the attention identifier
 unfoldable pub answer_after : Mode → ℕ → ℕ → List ℕ → Result Answer Refused
