@@ -1,0 +1,5 @@
+pub mod Answer
+pub mod Inbound
+pub mod Characters
+pub mod Reading
+pub mod Refused

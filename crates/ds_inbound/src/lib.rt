@@ -1,0 +1,17 @@
+//! What a terminal sends: the answers to Read Modified and Read Buffer written, and answers read.
+#![tactic(auto)]
+
+mod characters;
+mod field;
+mod fields;
+mod front;
+mod inbound;
+mod item;
+mod key;
+mod refused;
+
+pub use characters::{Characters, chars};
+pub use field::FieldSlice;
+pub use fields::Fields;
+pub use inbound::{Inbound, one_answer};
+pub use refused::{Refused, Why};
