@@ -1,3 +1,4 @@
 pub mod HasField
 pub mod EntryPlaces
 pub mod OpenLaw
+pub mod BoundLaw

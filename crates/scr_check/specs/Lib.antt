@@ -1,3 +1,5 @@
 pub mod Opening
 pub mod Findings
 pub mod Seen
+pub mod Binding
+pub mod Bound

@@ -1,6 +1,7 @@
 //! The screen layout checker: whether records and a layout agree, or exactly what stands against them.
 #![tactic(auto)]
 
+mod binding;
 mod fields;
 mod finding;
 mod opening;
@@ -8,6 +9,7 @@ mod places;
 mod ring;
 mod verdict;
 
+pub use binding::{BindError, BindFault, Bound, bind};
 pub use finding::{Demo, Finding, Refusal};
 pub use verdict::{Verdict, check};
 

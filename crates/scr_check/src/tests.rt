@@ -1,5 +1,6 @@
 //! Worked rows, by hand from the rules of the findings.
 
+mod answers;
 mod openings;
 mod pictures;
 

@@ -1,0 +1,154 @@
+//! An answer's fields, each by its entry in the layout.
+
+ghost use Rattle.std.specs.Prelude.{◌≡◌, ◌==◌, nat_lt, length, map, Ok, IfOk};
+ghost use Rattle.std.specs.List.{list_any};
+ghost use Rattle.ds_inbound.specs.Characters.{characters_in};
+ghost use Rattle.ds_inbound.specs.Reading.{sent_of};
+ghost use Rattle.scr_check.specs.Binding.{is_bound, bound_of};
+ghost use Rattle.scr_check.specs.Bound.{Gives, BindsField, bound_seen};
+
+use ds_inbound::{FieldSlice, Inbound, chars};
+use scr_layout::{Entry, Layout};
+use std::alloc::{AllocError, AllocFailed, Global};
+use thiserror::Error;
+
+/// A field of an answer, and the entry that declares it.
+#[derive(Clone, Copy, Debug, PartialEq, Eq)]
+pub struct Bound<'a> {
+    /// The entry's index in the layout.
+    pub entry: usize,
+    /// The field's characters as they were sent, lent from the answer.
+    pub raw: &'a [u8],
+}
+
+/// Why an answer is not that of a layout's screen.
+#[derive(Clone, Copy, Debug, PartialEq, Eq, Error)]
+pub enum BindFault {
+    /// A field at a place where no entry begins.
+    #[error("B1 NotDeclared")]
+    NotDeclared,
+    /// A field with more characters than declared.
+    #[error("B2 Longer")]
+    Longer,
+    /// A second field at the place of an entry.
+    #[error("B3 Twice")]
+    Twice,
+    /// Characters before the first field.
+    #[error("B4 Lead")]
+    Lead,
+}
+
+/// Why an answer could not be bound.
+#[derive(Clone, Copy, Debug, PartialEq, Eq, Error)]
+pub enum BindError {
+    #[error("{0}")]
+    Refused(BindFault),
+    #[error("out of memory")]
+    OutOfMemory,
+}
+
+impl From<BindFault> for BindError {
+    ghost use Rattle.scr_check.specs.declared.binding.BindError.TheVariants.{Refused};
+
+    ghost from_gives = { λ fault e. e ≡ Refused fault };
+
+    fn from(fault: BindFault) -> BindError {
+        BindError::Refused(fault)
+    }
+}
+
+impl From<AllocError> for BindError {
+    ghost use Rattle.scr_check.specs.declared.binding.BindError.TheVariants.{OutOfMemory};
+
+    ghost from_gives = { λ _ e. e ≡ OutOfMemory };
+
+    fn from(_e: AllocError) -> BindError {
+        BindError::OutOfMemory
+    }
+}
+
+impl<T: Drop> From<AllocFailed<T>> for BindError {
+    ghost use Rattle.scr_check.specs.declared.binding.BindError.TheVariants.{OutOfMemory};
+
+    ghost from_gives = { λ _ e. e ≡ OutOfMemory };
+
+    fn from(_e: AllocFailed<T>) -> BindError {
+        BindError::OutOfMemory
+    }
+}
+
+fn has_entry(index: usize, bound: &[Bound<'_>]) -> bool
+    ensures { result ≡ list_any (λ pair. pair.entry == index) bound.now }
+{
+    bound.iter().any(|pair| pair.entry == index)
+}
+
+/// Whether an entry has its field already.
+fn is_bound(index: usize, bound: &[Bound<'_>]) -> bool
+    ensures { result ≡ is_bound index (map bound_seen bound.now) }
+{
+    has_entry(index, bound)
+}
+
+/// Whether there are more characters than so many; a pair of the graphic escape and a code is one.
+fn is_longer(raw: &[u8], declared: u32) -> bool
+    ensures { result ≡ nat_lt declared (length (characters_in raw.now)) }
+{
+    chars(raw).nth(declared as usize).is_some()
+}
+
+/// The pair of a field and its entry, behind those that are bound.
+fn bind_field<'a>(
+    layout: &Layout,
+    bound: &[Bound<'a>],
+    field: FieldSlice<'a>,
+) -> Result<Bound<'a>, BindFault>
+    ensures { BindsField layout.now.entries bound.now field.entry result }
+{
+    let entries = layout.entries();
+    let Some(index) = layout.entry_at(field.place) else {
+        return Err(BindFault::NotDeclared);
+    };
+    let Some(entry) = entries.get(index) else {
+        return Err(BindFault::NotDeclared);
+    };
+    if is_bound(index, bound) {
+        return Err(BindFault::Twice);
+    }
+    if is_longer(field.raw, entry.length) {
+        return Err(BindFault::Longer);
+    }
+    Ok(Bound {
+        entry: index,
+        raw: field.raw,
+    })
+}
+
+/// The fields of an answer in its order, each with the entry at its place: an answer to Read Modified
+/// that the layout's screen can have given. Looks at each entry for each field, and at each field that
+/// is bound.
+///
+/// # Errors
+///
+/// B4 where characters stand before the first field. Then field by field: B1 where no entry begins at
+/// its place, B3 where that entry has a field already, B2 where it has more characters than declared.
+/// `OutOfMemory` in place of any answer where a request for memory was refused.
+pub fn bind<'a>(
+    alloc: Global,
+    layout: &Layout,
+    inbound: &Inbound<'a>,
+) -> Result<Vec<Bound<'a>>, BindError>
+    ensures { Gives (λ v. map bound_seen v.items) result (bound_of layout.now.entries inbound.now) }
+{
+    if !inbound.lead().is_empty() {
+        return Err(BindError::Refused(BindFault::Lead));
+    }
+    let mut bound = Vec::new(alloc);
+    for field in inbound.fields() {
+        match bind_field(layout, bound.as_slice(), field) {
+            Ok(pair) => bound.push(pair)?,
+            Err(fault) => return Err(BindError::Refused(fault)),
+        }
+    }
+    Ok(bound)
+}
