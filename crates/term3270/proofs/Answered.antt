@@ -1,59 +1,59 @@
 -- What is printed for a reader's bytes, whatever a writer takes.
-use Rattle.std.proofs.Common.{◌≡◌, ℕ, true, ltb, List, [], length, take, refl, sym, ap, ◌∙◌, arith, inl, inr, length-take, append-nil}
-use Rattle.std.specs.Prelude.{Option, Some, None, IfSome, Result}
+use Rattle.std.proofs.Common.{◌≡◌, ℕ, true, ltb, List, [], length, take, Ok, Err, refl, sym, subst, ap, ◌∙◌, arith, inl, inr, length-take, append-nil}
+use Rattle.std.specs.Prelude.{Option, Some, None, IfSome, IfOk, Result}
 use Rattle.std.specs.Io.KnownBytes.{Appends}
 use Rattle.std.proofs.lemmas.Bool.{cases_lt, lt-ltb}
 use Rattle.std.proofs.lemmas.List.{take_all}
 use Rattle.term3270.specs.declared.status.Status.{Status}
 use Rattle.term3270.specs.declared.status.Status.TheVariants.{Done, BadInput, Failed, NoMemory}
 use Rattle.term3270.specs.declared.fault.Fault.{Fault}
-use Rattle.term3270.specs.Input.{Found, found_in}
-use Rattle.term3270.specs.Show.{Printed}
-use Rattle.term3270.specs.Streams.{AppendsFront, IsWantOrFailure, Prints, PrintsAs}
+use Rattle.term3270.specs.declared.answer.Answer.{Answer}
+use Rattle.term3270.specs.Input.{within_limit}
+use Rattle.term3270.specs.Printed.{Printed}
+use Rattle.term3270.specs.Kinds.{answer_seen}
+use Rattle.term3270.specs.Streams.{AppendsFront, IsWantOrFailure, IsWritten, Prints}
 
 -- one byte more than an input can have tells that it is too long
-up_to_limit : (input : List ℕ) → found_in (take 16777217 input) ≡ found_in input
-up_to_limit input =
+up_to_limit : {A : Type 0} (read : List ℕ → Result A Fault) (input : List ℕ) → within_limit read (take 16777217 input) ≡ within_limit read input
+up_to_limit read input =
     elim (cases_lt 16777216 (length input)) [
       | inl long ↦
           let cut : length (take 16777217 input) ≡ 16777217 = omega (arith, length-take 16777217 input) in
           let first : ltb 16777216 (length (take 16777217 input)) ≡ true = rw cut refl in
           rw (first, lt-ltb 16777216 (length input) long) refl
-      | inr short ↦ ap found_in (take_all 16777217 input (omega arith))
+      | inr short ↦ ap (within_limit read) (take_all 16777217 input (omega arith))
     ]
 
 nothing_written : (known : Option (List ℕ)) → Appends known known []
 nothing_written None = tt
 nothing_written (Some bytes) = sym (append-nil bytes)
 
-pub stops : (due : Result Found Fault → Printed) (known old : Option (List ℕ)) (status : Status) → IsWantOrFailure status → IfSome known (λ input. Prints old old status (due (found_in input)))
+pub stops : (due : List ℕ → Printed) (known old : Option (List ℕ)) (status : Status) → IsWantOrFailure status → IfSome known (λ input. Prints old old status (due input))
 stops due None old status want = tt
 stops due (Some input) old Done want = absurd want
 stops due (Some input) old BadInput want = absurd want
-stops due (Some input) old Failed want = ([], (due (found_in input)).text, refl, nothing_written old)
-stops due (Some input) old NoMemory want = ([], (due (found_in input)).text, refl, nothing_written old)
+stops due (Some input) old Failed want = ([], (due input).text, refl, nothing_written old)
+stops due (Some input) old NoMemory want = ([], (due input).text, refl, nothing_written old)
 
 all_is_front : (old new : Option (List ℕ)) (text : List ℕ) → Appends old new text → AppendsFront old new text
 all_is_front old new text all = (text, [], sym (append-nil text), all)
 
-prints_all : (old new : Option (List ℕ)) (status : Status) (due : Printed) → status ≡ due.status → Appends old new due.text → Prints old new status due
-prints_all old new Done due same all = (same, all)
-prints_all old new BadInput due same all = (same, all)
-prints_all old new Failed due same all = all_is_front old new due.text all
-prints_all old new NoMemory due same all = all_is_front old new due.text all
+-- a text that was written as a whole
+pub prints_all : (old new : Option (List ℕ)) (due : Printed) → Appends old new due.text → Prints old new due.status due
+prints_all old new due all = by_status due.status refl
+  where
+    by_status : (status : Status) → status ≡ due.status → Prints old new status due
+    by_status Done same = (same, all)
+    by_status BadInput same = (same, all)
+    by_status Failed same = all_is_front old new due.text all
+    by_status NoMemory same = all_is_front old new due.text all
 
-pub answered : (due : Result Found Fault → Printed) (known old new : Option (List ℕ)) (text out first : List ℕ) (status : Status) → IfSome known (λ input. text ≡ take 16777217 input) → first ≡ [] → PrintsAs first out status (due (found_in text))
-    → Appends old new out → IfSome known (λ input. Prints old new status (due (found_in input)))
-answered due None old new text out first status read empty prints all = tt
-answered due (Some input) old new text out first status read empty (out-is, status-is) all =
-    let same : due (found_in text) ≡ due (found_in input) = ap (λ t. due (found_in t)) read ∙ ap due (up_to_limit input) in
-    let text-is : out ≡ (due (found_in input)).text = out-is ∙ rw (empty, same) refl in
-    prints_all old new status (due (found_in input)) (status-is ∙ ap (λ (p : Printed). p.status) same) (rw (← text-is) all)
-
-pub broken : (due : Result Found Fault → Printed) (known old new : Option (List ℕ)) (text out first : List ℕ) (status : Status) → IfSome known (λ input. text ≡ take 16777217 input) → first ≡ [] → PrintsAs first out status (due (found_in text))
-    → AppendsFront old new out → IfSome known (λ input. Prints old new Failed (due (found_in input)))
-broken due None old new text out first status read empty prints part = tt
-broken due (Some input) old new text out first status read empty (out-is, status-is) part =
-    let same : due (found_in text) ≡ due (found_in input) = ap (λ t. due (found_in t)) read ∙ ap due (up_to_limit input) in
-    let text-is : out ≡ (due (found_in input)).text = out-is ∙ rw (empty, same) refl in
-    rw (← text-is) part
+-- what is answered to the bytes that were read is what is due for all
+pub answered : {A E : Type 0} (read : List ℕ → Result A Fault) (due : Result A Fault → Printed) (known old new : Option (List ℕ)) (text : List ℕ) (answer : Result Answer E) (status : Status)
+    → IfSome known (λ input. text ≡ take 16777217 input) → IfOk answer (λ told. answer_seen told ≡ due (within_limit read text)) → IsWritten old new answer status
+    → IfSome known (λ input. Prints old new status (due (within_limit read input)))
+answered read due None old new text answer status is told written = tt
+answered read due (Some input) old new text (Ok answer) status is told written =
+    let same : answer_seen answer ≡ due (within_limit read input) = told ∙ ap (λ t. due (within_limit read t)) is ∙ ap due (up_to_limit read input) in
+    subst (λ (p : Printed). Prints old new status p) same written
+answered read due (Some input) old new text (Err e) status is told (want, same) = rw (want, same) ([], (due (within_limit read input)).text, refl, nothing_written old)

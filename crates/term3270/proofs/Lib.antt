@@ -1,3 +1,4 @@
 pub mod Rows
 pub mod Prefixes
 pub mod Answered
+pub mod Unwritten

@@ -2,6 +2,7 @@
 use Rattle.std.specs.Prelude.{ℕ, ◌+◌, Bool, true, false, not, ◌||◌, nat_lt, nat_le, List, [], ◌∷◌, ◌++◌, length, Result, Ok, Err, if◌then◌else◌}
 use Rattle.ds_codec.specs.declared.size.Mode.TheVariants.{Bits14}
 use Rattle.ds_codec.specs.Geometry.{Sizes}
+use Rattle.ds_codec.specs.Reading.{◌>>=◌}
 use Rattle.term3270.specs.declared.fault.Fault.{Fault}
 use Rattle.term3270.specs.declared.fault.Fault.TheVariants.{BadLine, TooLong}
 use Rattle.term3270.specs.Lines.{Kind, passed, sized, outbound, bad, kind_of, lines_in}
@@ -32,11 +33,6 @@ after_line number found (outbound bytes) =
     else Ok (record found { begun = true; records = found.records ++ bytes ∷ [] })
 after_line number found bad = Err (BadLine number)
 
-infixl 10 ◌>>=◌
-abbrev pub ◌>>=◌ : {A B E : Type 0} → Result A E → (A → Result B E) → Result B E
-(Ok x) >>= f = f x
-(Err e) >>= f = Err e
-
 -- the lines in turn, the first of which has this number
 abbrev pub after_lines : ℕ → Found → List (List ℕ) → Result Found Fault
 after_lines number found [] = Ok found
@@ -45,5 +41,11 @@ after_lines number found (line ∷ lines) = do
   after_lines (number + 1) next lines
 
 -- at most 16,777,216 bytes of input
+abbrev pub within_limit : {A : Type 0} → (List ℕ → Result A Fault) → List ℕ → Result A Fault
+within_limit read input = if nat_lt 16777216 (length input) then Err TooLong else read input
+
+abbrev pub found_in_lines : List ℕ → Result Found Fault
+found_in_lines input = after_lines 1 nothing_found (lines_in input)
+
 abbrev pub found_in : List ℕ → Result Found Fault
-found_in input = if nat_lt 16777216 (length input) then Err TooLong else after_lines 1 nothing_found (lines_in input)
+found_in input = within_limit found_in_lines input

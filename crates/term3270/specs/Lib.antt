@@ -3,6 +3,9 @@ pub mod Lines
 pub mod Sizes
 pub mod Input
 pub mod Kinds
+pub mod Printed
 pub mod Show
 pub mod Streams
-pub mod OrderLines
+pub mod Convert
+pub mod Drafts
+pub mod Back

@@ -1,10 +1,10 @@
 -- What `show` prints, as a function of its input.
-use Rattle.std.specs.Prelude.{ℕ, ◌+◌, ◌/◌, ◌%◌, List, [], ◌∷◌, ◌++◌, codes, Result, Ok, Err, true}
+use Rattle.std.specs.Prelude.{ℕ, ◌+◌, List, [], ◌∷◌, ◌++◌, codes, Result, Ok, Err}
 use Rattle.std.specs.List.{flat_map, range_with_len}
-use Rattle.std.specs.Fmt.{decimal, digit_glyph}
+use Rattle.std.specs.Fmt.{decimal}
 use Rattle.ds_codec.specs.declared.refused.Refused.{Refused}
 use Rattle.ds_codec.specs.Record.{Message}
-use Rattle.ds_codec.specs.Reading.{read_of}
+use Rattle.ds_codec.specs.Reading.{read_of, ◌>>=◌}
 use Rattle.ds_codec.specs.Refused.{why_words}
 use Rattle.ds_screen.specs.declared.lock.Lock.{Lock}
 use Rattle.ds_screen.specs.declared.lock.Lock.TheVariants.{Free, Waiting, Error}
@@ -16,26 +16,12 @@ use Rattle.ds_screen.specs.Fields.{fields_of}
 use Rattle.ds_screen.specs.Records.{new_picture, shown_of}
 use Rattle.ds_screen.specs.Shown.{printed_row}
 use Rattle.term3270.specs.declared.fault.Fault.{Fault}
-use Rattle.term3270.specs.declared.fault.Fault.TheVariants.{BadLine, TooLong, OutOfMemory}
-use Rattle.term3270.specs.declared.status.Status.{Status}
-use Rattle.term3270.specs.declared.status.Status.TheVariants.{Done, BadInput}
+use Rattle.term3270.specs.declared.status.Status.TheVariants.{Done}
 use Rattle.term3270.specs.Input.{Found, found_in}
-
--- a text, and the status with which the program ends
-pub record Printed : Type 0 where
-  pub text : List ℕ
-  pub status : Status
-
-abbrev pub printed : List ℕ → Status → Printed
-printed text status = record { text = text; status = status }
+use Rattle.term3270.specs.Printed.{Printed, printed, printed_or, Refusal, refusal_line, fault_line}
+use Rattle.order_lines.specs.Print.{hex_byte}
 
 -- ---- the records in turn
-
--- a record that is refused: its number, the place in it, and the words
-pub record Refusal : Type 0 where
-  pub index : ℕ
-  pub at : ℕ
-  pub words : List ℕ
 
 abbrev pub applied : ℕ → Result Picture screen-refused.Refused → Result Picture Refusal
 applied index (Ok v) = Ok v
@@ -45,11 +31,6 @@ abbrev pub shown_by : ℕ → Picture → Result Message Refused → Result Pict
 shown_by index v (Ok message) = applied index (shown_of v message.command message.orders)
 shown_by index v (Err e) = Err (record { index = index; at = e.at; words = why_words e.why })
 
-infixl 10 ◌>>=◌
-abbrev pub ◌>>=◌ : {A B E : Type 0} → Result A E → (A → Result B E) → Result B E
-(Ok x) >>= f = f x
-(Err e) >>= f = Err e
-
 -- the picture after all records, or the first that is refused
 abbrev pub shown_after : ℕ → Picture → List (List ℕ) → Result Picture Refusal
 shown_after index v [] = Ok v
@@ -58,10 +39,6 @@ shown_after index v (bytes ∷ others) = do
   shown_after (index + 1) next others
 
 -- ---- the text
-
--- two digits, in upper case
-abbrev pub hex_byte : ℕ → List ℕ
-hex_byte byte = digit_glyph true (byte / 16) ∷ digit_glyph true (byte % 16) ∷ []
 
 abbrev pub lock_word : Lock → List ℕ
 lock_word Free = codes "free"
@@ -84,21 +61,11 @@ row_line v row = codes "|" ++ (printed_row v row ++ codes "|\n")
 abbrev pub screen_text : Picture → List ℕ
 screen_text v = header_line v ++ (flat_map field_line (fields_of v.cells) ++ flat_map (row_line v) (range_with_len 0 v.size.rows))
 
-abbrev pub refusal_line : Refusal → List ℕ
-refusal_line r = codes "record " ++ (decimal r.index ++ (codes " refused at " ++ (decimal r.at ++ (codes ": " ++ (r.words ++ codes "\n")))))
-
-abbrev pub fault_line : Fault → List ℕ
-fault_line (BadLine number) = codes "line " ++ (decimal number ++ codes " refused\n")
-fault_line TooLong = codes "input too long\n"
-fault_line OutOfMemory = []
-
 abbrev pub printed_picture : Result Picture Refusal → Printed
-printed_picture (Ok v) = printed (screen_text v) Done
-printed_picture (Err refusal) = printed (refusal_line refusal) BadInput
+printed_picture told = printed_or (λ v. printed (screen_text v) Done) refusal_line told
 
 abbrev pub printed_found : Result Found Fault → Printed
-printed_found (Ok found) = printed_picture (shown_after 0 (new_picture found.geometry) found.records)
-printed_found (Err fault) = printed (fault_line fault) BadInput
+printed_found told = printed_or (λ found. printed_picture (shown_after 0 (new_picture found.geometry) found.records)) fault_line told
 
 -- what `show` prints for an input, and its status
 abbrev pub printed_show : List ℕ → Printed

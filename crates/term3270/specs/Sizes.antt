@@ -1,11 +1,11 @@
 -- The line that tells the sizes of the terminal.
-use Rattle.std.specs.Prelude.{ℕ, ◌+◌, ◌-◌, ◌*◌, Bool, ◌&&◌, nat_le, ◌==◌, List, length, take, drop, fold, position, codes, slice_index, Option, Some, None, nat_eq, if◌then◌else◌}
+use Rattle.std.specs.Prelude.{ℕ, ◌+◌, ◌-◌, ◌*◌, Bool, ◌&&◌, nat_le, List, length, drop, fold, codes, slice_index, Option, Some, None, nat_eq, if◌then◌else◌}
 use Rattle.std.specs.List.{list_all, starts_with}
-use Rattle.std.specs.Option.{option_map}
 use Rattle.std.specs.Prelude.{option_and_then}
 use Rattle.ds_codec.specs.declared.size.Size.{Size}
 use Rattle.ds_codec.specs.declared.size.Mode.TheVariants.{Bits14}
 use Rattle.ds_codec.specs.Geometry.{Sizes, geometry_of}
+use Rattle.order_lines.specs.Words.{cut_at}
 
 abbrev pub is_digit : ℕ → Bool
 is_digit byte = nat_le 48 byte && nat_le byte 57
@@ -18,10 +18,6 @@ abbrev pub number_of : List ℕ → Option ℕ
 number_of word =
     if (nat_le 1 (length word) && nat_le (length word) 3) && (list_all is_digit word && nat_le 49 (slice_index word 0)) then Some (value_of word)
     else None
-
--- what stands before the first such byte, and behind it
-abbrev pub cut_at : ℕ → List ℕ → Option (List ℕ × List ℕ)
-cut_at byte bytes = option_map (λ n. (take n bytes, drop (n + 1) bytes)) (position (λ b. b == byte) bytes)
 
 abbrev pub size_from : Option ℕ → Option ℕ → Option Size
 size_from (Some rows) (Some cols) = Some (record { rows = rows; cols = cols })

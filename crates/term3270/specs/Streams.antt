@@ -1,11 +1,13 @@
 -- What is written where a read or a write may fail.
-use Rattle.std.specs.Prelude.{◌≡◌, ℕ, List, ◌++◌, Option}
+use Rattle.std.specs.Prelude.{◌≡◌, ℕ, List, ◌++◌, Option, Result, Ok, Err}
 use Rattle.std.specs.Io.KnownBytes.{Appends}
 use Rattle.std.specs.declared.io.ErrorKind.{ErrorKind}
 use Rattle.std.specs.declared.io.ErrorKind.TheVariants.{OutOfMemory}
 use Rattle.term3270.specs.declared.status.Status.{Status}
 use Rattle.term3270.specs.declared.status.Status.TheVariants.{Done, BadInput, Failed, NoMemory}
-use Rattle.term3270.specs.Show.{Printed}
+use Rattle.term3270.specs.declared.answer.Answer.{Answer}
+use Rattle.term3270.specs.Printed.{Printed}
+use Rattle.term3270.specs.Kinds.{answer_seen}
 
 -- a front of the text was written
 abbrev pub AppendsFront : Option (List ℕ) → Option (List ℕ) → List ℕ → Type 0
@@ -28,6 +30,7 @@ Prints old new Failed due = AppendsFront old new due.text
 Prints old new NoMemory due = AppendsFront old new due.text
 Prints old new status due = (status ≡ due.status) × Appends old new due.text
 
--- a text grew by what is due, and the status is what is due
-abbrev pub PrintsAs : List ℕ → List ℕ → Status → Printed → Type 0
-PrintsAs old new status due = (new ≡ old ++ due.text) × (status ≡ due.status)
+-- what was answered is printed; where memory was refused nothing is, and the status says so
+abbrev pub IsWritten : {E : Type 0} → Option (List ℕ) → Option (List ℕ) → Result Answer E → Status → Type 0
+IsWritten old new (Ok answer) status = Prints old new status (answer_seen answer)
+IsWritten old new (Err e) status = (status ≡ NoMemory) × (new ≡ old)

@@ -12,9 +12,9 @@ use ds_codec::{Geometry, Mode, Size};
 use std::alloc::Global;
 
 /// The most bytes of an input.
-const MOST_BYTES: usize = 16_777_216;
+pub const MOST_BYTES: usize = 16_777_216;
 /// The most records of an input.
-const MOST_RECORDS: usize = 1_000;
+pub const MOST_RECORDS: usize = 1_000;
 /// The most bytes of a record.
 const MOST_RECORD_BYTES: usize = 32_768;
 
@@ -28,7 +28,7 @@ pub struct Input {
 }
 
 /// 24 rows of 80 columns, both sizes.
-fn usual_geometry() -> Geometry
+pub fn usual_geometry() -> Geometry
     ensures { result ≡ usual_sizes }
 {
     let size = Size { rows: 24, cols: 80 };

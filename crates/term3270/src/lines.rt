@@ -23,7 +23,7 @@ pub enum Line {
 }
 
 /// Whether a line is UTF-8.
-fn is_text(line: &[u8]) -> bool
+pub fn is_text(line: &[u8]) -> bool
     ensures { result ≡ is_utf8 line.now }
 {
     match str::from_utf8(line) {

@@ -1,7 +1,10 @@
 //! The program `term3270`: shows outbound records as a terminal does, and prints them as lines.
 #![tactic(auto)]
 
+mod answer;
+mod back;
 mod convert;
+mod drafts;
 mod fault;
 mod input;
 mod lines;
@@ -10,12 +13,13 @@ mod sizes;
 mod status;
 mod stream;
 
+use crate::back::run_convert_back;
 use crate::convert::run_convert;
 use crate::show::run_show;
 use crate::status::Status;
 use crate::stream::failure;
 use clap::error::ErrorKind;
-use clap::{ArgMatches, Command, Error};
+use clap::{Arg, ArgAction, ArgMatches, Command, Error};
 use std::alloc::Global;
 use std::process::ExitCode;
 use std::{env, io};
@@ -25,9 +29,13 @@ fn parsed<'a>(alloc: Global, words: &'a [String]) -> Result<ArgMatches<'a>, Erro
     let show = Command::new(alloc, "show").about(
         "Print the screen that the records leave (also for no word)",
     );
-    let convert = Command::new(alloc, "convert").about(
-        "Print each record as lines: its command and its orders",
-    );
+    let back = Arg::new(alloc, "back")
+        .long("back")
+        .action(ArgAction::SetTrue)
+        .help("Read such lines, and print the records");
+    let convert = Command::new(alloc, "convert")
+        .about("Print each record as lines: its command and its orders")
+        .arg(back)?;
     Command::new(alloc, "term3270")
         .about("Reads 3270 records in hexadecimal, one a line, from standard input")
         .subcommand(show)?
@@ -36,20 +44,23 @@ fn parsed<'a>(alloc: Global, words: &'a [String]) -> Result<ArgMatches<'a>, Erro
 }
 
 /// Runs a command on the standard streams.
-fn run(rt: &HostRuntime, command: Option<&str>) -> Status {
+fn run(rt: &HostRuntime, matches: &ArgMatches<'_>) -> Status {
     let mut reader = rt.stdin();
     let mut writer = rt.stdout();
-    match command {
-        Some("convert") => run_convert(rt.alloc(), &mut reader, &mut writer),
-        _ => run_show(rt.alloc(), &mut reader, &mut writer),
+    match matches.subcommand_matches("convert") {
+        Some(words) if words.get_flag("back") => {
+            run_convert_back(rt.alloc(), &mut reader, &mut writer)
+        }
+        Some(_) => run_convert(rt.alloc(), &mut reader, &mut writer),
+        None => run_show(rt.alloc(), &mut reader, &mut writer),
     }
 }
 
 /// Parses the command line and runs what it asks for.
-fn answer(rt: &HostRuntime) -> io::Result<Status> {
+fn respond(rt: &HostRuntime) -> io::Result<Status> {
     let words: Vec<String> = env::args(rt)?.collect(rt.alloc())?;
     match parsed(rt.alloc(), words.as_slice()) {
-        Ok(matches) => Ok(run(rt, matches.subcommand_name())),
+        Ok(matches) => Ok(run(rt, &matches)),
         Err(error) => {
             error.print(rt)?;
             Ok(match error.kind() {
@@ -62,7 +73,7 @@ fn answer(rt: &HostRuntime) -> io::Result<Status> {
 }
 
 fn main(rt: HostRuntime) -> ExitCode {
-    ExitCode::from(answer(&rt).unwrap_or_else(|error| failure(&error)))
+    ExitCode::from(respond(&rt).unwrap_or_else(|error| failure(&error)))
 }
 
 #[cfg(test)]

@@ -4,26 +4,19 @@ ghost use Rattle.std.specs.Prelude.{◌≡◌, ◌++◌, ◌<◌, OnOk, IfOk, If
 ghost use Rattle.std.specs.String.{string_bytes};
 ghost use Rattle.std.specs.List.{flat_map, range_with_len};
 ghost use Rattle.ds_screen.specs.Fields.{fields_of};
-ghost use Rattle.term3270.specs.Show.{hex_byte, lock_word, header_line, field_line, row_line, screen_text, refusal_line, fault_line, printed_found, printed_show};
-ghost use Rattle.term3270.specs.Kinds.{AppliesTo, AppliesAll, refusal_seen, found_seen};
-ghost use Rattle.term3270.specs.Streams.{Prints, PrintsAs};
+ghost use Rattle.term3270.specs.Show.{lock_word, header_line, field_line, row_line, screen_text, printed_found, printed_show};
+ghost use Rattle.term3270.specs.Kinds.{AppliesTo, AppliesAll, answer_seen, found_seen};
+ghost use Rattle.term3270.specs.Streams.{Prints};
 
-use crate::fault::Fault;
+use crate::answer::{Answer, Refusal, done, faulted, refused};
 use crate::input::{Input, read_input};
 use crate::status::Status;
-use crate::stream::{read_all, write_text};
+use crate::stream::{read_all, write_answer};
 use ds_codec::Record;
 use ds_screen::{FieldAt, Lock, PlainCells, Screen};
+use order_lines::push_hex;
 use std::alloc::{AllocError, Global};
 use std::io::{Read, Write};
-
-/// A record that is refused: its number, the place in it, and the printed words.
-#[derive(Clone, Copy, Debug)]
-pub struct Refusal {
-    pub index: usize,
-    pub at: usize,
-    pub words: &'static str,
-}
 
 fn word_of(lock: Lock) -> &'static str
     ensures { result.now ≡ lock_word lock }
@@ -33,12 +26,6 @@ fn word_of(lock: Lock) -> &'static str
         Lock::Waiting => "waiting",
         Lock::Error => "error",
     }
-}
-
-pub fn push_hex(out: &mut String, byte: u8) -> Result<(), AllocError>
-    ensures { OnOk result (string_bytes out.new ≡ string_bytes out.old ++ hex_byte byte) }
-{
-    write!(out, "{byte:02X}")
 }
 
 fn push_header(out: &mut String, screen: &Screen<PlainCells>) -> Result<(), AllocError>
@@ -116,43 +103,18 @@ fn push_screen(
     push_rows(alloc, out, screen)
 }
 
-pub fn push_refusal(out: &mut String, refusal: Refusal) -> Result<(), AllocError>
-    ensures { OnOk result (string_bytes out.new ≡ string_bytes out.old ++ refusal_line (refusal_seen refusal)) }
-{
-    let Refusal { index, at, words } = refusal;
-    write!(out, "record {index} refused at {at}: {words}\n")
-}
-
-pub fn push_fault(out: &mut String, fault: Fault) -> Result<(), AllocError>
-    ensures { OnOk result (string_bytes out.new ≡ string_bytes out.old ++ fault_line fault) }
-{
-    match fault {
-        Fault::BadLine(number) => write!(out, "line {number} refused\n"),
-        Fault::TooLong => out.push_str("input too long\n"),
-        Fault::OutOfMemory => Ok(()),
-    }
-}
-
-/// Applies one record, or tells where it is refused.
+/// Applies one record, or tells where and why it is refused, by reading or by applying.
 fn apply(screen: &mut Screen<PlainCells>, index: usize, bytes: &[u8]) -> Result<(), Refusal>
     ensures { AppliesTo screen.old screen.new index bytes.now result }
 {
-    let record = match Record::read(screen.geometry().mode(), bytes) {
-        Ok(record) => record,
-        Err(refused) => return Err(Refusal {
-            index,
-            at: refused.at,
-            words: refused.why.words(),
-        }),
+    let (at, words) = match Record::read(screen.geometry().mode(), bytes) {
+        Ok(record) => match screen.apply(&record) {
+            Ok(_) => return Ok(()),
+            Err(refused) => (refused.at, refused.why.words()),
+        },
+        Err(refused) => (refused.at, refused.why.words()),
     };
-    match screen.apply(&record) {
-        Ok(_) => Ok(()),
-        Err(refused) => Err(Refusal {
-            index,
-            at: refused.at,
-            words: refused.why.words(),
-        }),
-    }
+    Err(Refusal { index, at, words })
 }
 
 /// Applies the records in turn, up to the first that is refused.
@@ -165,34 +127,28 @@ fn apply_all(screen: &mut Screen<PlainCells>, records: &[Vec<u8>]) -> Result<(),
     Ok(())
 }
 
-/// The text of an input whose lines are good, and the status.
-fn show_input(alloc: Global, input: &Input, out: &mut String) -> Result<Status, AllocError>
-    ensures { IfOk result (λ status. PrintsAs (string_bytes out.old) (string_bytes out.new) status (printed_found (Ok (found_seen input.now)))) }
+/// What is answered to an input whose lines are good.
+fn show_input(alloc: Global, input: &Input) -> Result<Answer, AllocError>
+    ensures { IfOk result (λ answer. answer_seen answer ≡ printed_found (Ok (found_seen input.now))) }
 {
     let mut screen = Screen::<PlainCells>::new(alloc, input.geometry)?;
     match apply_all(&mut screen, input.records.as_slice()) {
         Ok(()) => {
-            push_screen(alloc, out, &screen)?;
-            Ok(Status::Done)
+            let mut text = String::new(alloc);
+            push_screen(alloc, &mut text, &screen)?;
+            Ok(done(text))
         }
-        Err(refusal) => {
-            push_refusal(out, refusal)?;
-            Ok(Status::BadInput)
-        }
+        Err(refusal) => refused(alloc, refusal),
     }
 }
 
-/// The text of an input, and the status.
-fn show_text(alloc: Global, text: &[u8], out: &mut String) -> Result<Status, AllocError>
-    ensures { IfOk result (λ status. PrintsAs (string_bytes out.old) (string_bytes out.new) status (printed_show text.now)) }
+/// What is answered to an input.
+fn show_text(alloc: Global, text: &[u8]) -> Result<Answer, AllocError>
+    ensures { IfOk result (λ answer. answer_seen answer ≡ printed_show text.now) }
 {
     match read_input(alloc, text) {
-        Ok(input) => show_input(alloc, &input, out),
-        Err(Fault::OutOfMemory) => Err(AllocError),
-        Err(fault) => {
-            push_fault(out, fault)?;
-            Ok(Status::BadInput)
-        }
+        Ok(input) => show_input(alloc, &input),
+        Err(fault) => faulted(alloc, fault),
     }
 }
 
@@ -207,15 +163,5 @@ pub fn run_show<R: Read, W: Write>(alloc: Global, reader: &mut R, writer: &mut W
         Ok(text) => text,
         Err(status) => return status,
     };
-    let mut out = String::new(alloc);
-    match show_text(alloc, text.as_slice(), &mut out) {
-        Ok(status) => {
-            if write_text(writer, out.as_bytes()) {
-                status
-            } else {
-                Status::Failed
-            }
-        }
-        Err(_) => Status::NoMemory,
-    }
+    write_answer(writer, show_text(alloc, text.as_slice()))
 }

@@ -1,11 +1,11 @@
 //! The line that tells the sizes of the terminal.
 
-ghost use Rattle.std.specs.Prelude.{◌≡◌, ◌==◌, ◌<◌, ◌^◌, codes, nat_eq, fold, length, position, IfSome, ◌≤◌, ◌+◌, ◌*◌, ◌-◌};
-ghost use Rattle.std.specs.Option.{option_map};
+ghost use Rattle.std.specs.Prelude.{◌≡◌, ◌==◌, ◌<◌, ◌^◌, codes, nat_eq, fold, length, ◌≤◌, ◌+◌, ◌*◌, ◌-◌};
 ghost use Rattle.std.specs.List.{list_all, starts_with};
-ghost use Rattle.term3270.specs.Sizes.{is_digit, value_of, number_of, cut_at, size_of, size_from, geometry_from, geometry_in, geometry_told};
+ghost use Rattle.term3270.specs.Sizes.{is_digit, value_of, number_of, size_of, size_from, geometry_from, geometry_in, geometry_told};
 
 use ds_codec::{Geometry, Mode, Size};
+use order_lines::cut;
 
 fn is_digit_byte(byte: u8) -> bool
     ensures { result ≡ is_digit byte }
@@ -34,22 +34,6 @@ fn number(word: &[u8]) -> Option<u16>
         }
         _ => None,
     }
-}
-
-/// What stands before the first such byte, and behind it.
-fn cut(bytes: &[u8], byte: u8) -> Option<(&[u8], &[u8])>
-    ensures { option_map (λ parts. (parts.0.now, parts.1.now)) result ≡ cut_at byte bytes.now }
-{
-    let n = place_of(bytes, byte)?;
-    Some((&bytes[..n], &bytes[n + 1..]))
-}
-
-/// Where the first such byte stands.
-fn place_of(bytes: &[u8], byte: u8) -> Option<usize>
-    ensures place { result ≡ position (λ b. b == byte) bytes.now }
-    ensures inside { IfSome result (λ n. n < length bytes.now) }
-{
-    bytes.iter().position(|b| *b == byte)
 }
 
 /// Rows, an `x` and columns.

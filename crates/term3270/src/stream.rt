@@ -4,10 +4,11 @@ ghost use Rattle.std.specs.Prelude.{◌≡◌, IfOk, IfErr, IfSome, take};
 ghost use Rattle.std.specs.Bool.{OnTrue};
 ghost use Rattle.std.specs.Io.KnownBytes.{Appends};
 ghost use Rattle.std.specs.IoError.{error_kind};
-ghost use Rattle.term3270.specs.Streams.{AppendsFront, IsWantOrFailure, failure_of};
+ghost use Rattle.term3270.specs.Streams.{AppendsFront, IsWantOrFailure, IsWritten, failure_of};
 
+use crate::answer::Answer;
 use crate::status::Status;
-use std::alloc::Global;
+use std::alloc::{AllocError, Global};
 use std::io;
 use std::io::{Read, Write};
 
@@ -53,4 +54,21 @@ pub fn write_text<W: Write>(writer: &mut W, text: &[u8]) -> bool
         }
     }
     writer.flush().is_ok()
+}
+
+/// Writes what a command answers, and tells the status: `Failed` where a write failed, and `NoMemory`,
+/// with nothing written, where memory was refused.
+pub fn write_answer<W: Write>(writer: &mut W, answer: Result<Answer, AllocError>) -> Status
+    ensures { IsWritten (W.contents writer.old) (W.contents writer.new) answer result }
+{
+    match answer {
+        Ok(answer) => {
+            if write_text(writer, answer.text.as_bytes()) {
+                answer.status
+            } else {
+                Status::Failed
+            }
+        }
+        Err(_) => Status::NoMemory,
+    }
 }

@@ -1,5 +1,6 @@
 //! `show` over readers and writers in memory, and over ones that fail.
 
+use crate::back::run_convert_back;
 use crate::convert::run_convert;
 use crate::show::run_show;
 use crate::status::Status;
@@ -166,5 +167,14 @@ fn converts_a_record(rt: HostRuntime) -> Result<(), Fail> {
         writer.as_slice(),
         b"EW C2\nSF 20\nTEXT C1\nSF 00\nIC\nSBA 6\nSF 30\n\n".as_slice()
     );
+    Ok(())
+}
+
+/// What `convert --back` writes for order lines, and its status.
+fn back(rt: &impl Abort, alloc: Global, lines: &str, status: Status, text: &str) -> Result<(), Fail> {
+    let mut reader = lines.as_bytes();
+    let mut writer = Vec::new(alloc);
+    assert_eq!(rt; run_convert_back(alloc, &mut reader, &mut writer), status, "{lines}");
+    assert_eq!(rt; writer.as_slice(), text.as_bytes(), "{lines}");
     Ok(())
 }

@@ -1,6 +1,6 @@
 use Rattle.std.proofs.Common.{◌≡◌, map, drop}
 use Rattle.std.specs.String.{string_bytes}
-use Rattle.term3270.specs.OrderLines.{lines_after}
+use Rattle.term3270.specs.Convert.{lines_after}
 use Rattle.term3270.proofs.convert.push_all.Given as goal
 
 abbrev pub invariant-loop-index : goal.invariant-loop-index

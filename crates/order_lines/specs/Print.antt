@@ -1,21 +1,17 @@
 -- A record as lines of words: the command, then an order a line, then an empty line.
-use Rattle.std.specs.Prelude.{ℕ, ◌+◌, List, [], ◌∷◌, ◌++◌, codes, if◌then◌else◌, Result, Ok, Err}
-use Rattle.std.specs.Fmt.{decimal}
+use Rattle.std.specs.Prelude.{ℕ, ◌/◌, ◌%◌, true, List, [], ◌∷◌, ◌++◌, codes, if◌then◌else◌}
+use Rattle.std.specs.Fmt.{decimal, digit_glyph}
 use Rattle.std.specs.List.{flat_map}
 use Rattle.hex.specs.Hex.{encode_upper}
-use Rattle.ds_codec.specs.declared.size.Mode.TheVariants.{Bits14}
 use Rattle.ds_codec.specs.declared.command.Command.{Command}
 use Rattle.ds_codec.specs.declared.command.Command.TheVariants.{Write, EraseWrite, EraseWriteAlternate, EraseAllUnprotected, ReadBuffer, ReadModified, ReadModifiedAll, NoOperation}
-use Rattle.ds_codec.specs.declared.refused.Refused.{Refused}
 use Rattle.ds_codec.specs.Character.{Glyph}
 use Rattle.ds_codec.specs.Order.{Item, text, start_field, start_field_extended, set_buffer_address, set_attribute, modify_field, insert_cursor, program_tab, repeat_to_address, erase_unprotected_to_address, graphic_escape, Site}
 use Rattle.ds_codec.specs.Record.{Message}
-use Rattle.ds_codec.specs.Reading.{read_of}
-use Rattle.ds_codec.specs.Refused.{why_words}
-use Rattle.term3270.specs.declared.fault.Fault.{Fault}
-use Rattle.term3270.specs.declared.status.Status.TheVariants.{Done, BadInput}
-use Rattle.term3270.specs.Input.{Found, found_in}
-use Rattle.term3270.specs.Show.{hex_byte, Printed, printed, Refusal, refusal_line, fault_line, ◌>>=◌}
+
+-- two digits, in upper case
+abbrev pub hex_byte : ℕ → List ℕ
+hex_byte byte = digit_glyph true (byte / 16) ∷ digit_glyph true (byte % 16) ∷ []
 
 -- a type and a value
 abbrev pub pair_word : ℕ → ℕ → List ℕ
@@ -61,28 +57,3 @@ order_line site = order_words site.order ++ codes "\n"
 -- the command, each order, and an empty line
 abbrev pub record_lines : Message → List ℕ
 record_lines message = (command_words message.command ++ codes "\n") ++ (flat_map order_line message.orders ++ codes "\n")
-
--- ---- records in turn
-
-abbrev pub lines_or_refusal : ℕ → Result Message Refused → Result (List ℕ) Refusal
-lines_or_refusal index (Ok message) = Ok (record_lines message)
-lines_or_refusal index (Err e) = Err (record { index = index; at = e.at; words = why_words e.why })
-
--- the lines of all records after those that stand already, or the first record that is refused
-abbrev pub lines_after : List ℕ → ℕ → List (List ℕ) → Result (List ℕ) Refusal
-lines_after before index [] = Ok before
-lines_after before index (bytes ∷ others) = do
-  lines ← lines_or_refusal index (read_of Bits14 bytes)
-  lines_after (before ++ lines) (index + 1) others
-
-abbrev pub printed_lines : Result (List ℕ) Refusal → Printed
-printed_lines (Ok lines) = printed lines Done
-printed_lines (Err refusal) = printed (refusal_line refusal) BadInput
-
-abbrev pub printed_records : Result Found Fault → Printed
-printed_records (Ok found) = printed_lines (lines_after [] 0 found.records)
-printed_records (Err fault) = printed (fault_line fault) BadInput
-
--- what `convert` prints for an input, and its status
-abbrev pub printed_convert : List ℕ → Printed
-printed_convert input = printed_records (found_in input)

@@ -1,6 +1,6 @@
 use Rattle.std.proofs.Common.{◌<◌, true, arith}
 use Rattle.std.proofs.lemmas.Fmt.{hex_byte}
-use Rattle.term3270.proofs.show.push_hex.Goals as goal
+use Rattle.order_lines.proofs.print.push_hex.Goals as goal
 
 pub returns : goal.returns
 returns c =

@@ -1,0 +1,4 @@
+pub mod Words
+pub mod Print
+pub mod Told
+pub mod Draft

@@ -1,0 +1,142 @@
+//! A record as lines of words.
+
+ghost use Rattle.std.specs.Prelude.{◌≡◌, ◌++◌, ◌<◌, OnOk, codes};
+ghost use Rattle.std.specs.String.{string_bytes};
+ghost use Rattle.std.specs.List.{flat_map};
+ghost use Rattle.std.specs.Fmt.{decimal};
+ghost use Rattle.hex.specs.Hex.{encode_upper};
+ghost use Rattle.ds_codec.specs.Order.{item_of, site_of};
+ghost use Rattle.order_lines.specs.Print.{hex_byte, pair_word, pair_words, character_word, order_words, command_words, order_line, record_lines};
+
+use ds_codec::{Char, Command, Order, Placed, Record};
+use std::alloc::{AllocError, Global};
+
+/// A byte as two upper-case hexadecimal digits.
+pub fn push_hex(out: &mut String, byte: u8) -> Result<(), AllocError>
+    ensures { OnOk result (string_bytes out.new ≡ string_bytes out.old ++ hex_byte byte) }
+{
+    write!(out, "{byte:02X}")
+}
+
+/// Bytes in upper-case hexadecimal.
+pub fn push_bytes(alloc: Global, out: &mut String, bytes: &[u8]) -> Result<(), AllocError>
+    ensures { OnOk result (string_bytes out.new ≡ string_bytes out.old ++ encode_upper bytes.now) }
+{
+    let text = hex::encode_upper(alloc, bytes)?;
+    out.push_str(text.as_str())
+}
+
+fn push_pair(out: &mut String, kind: u8, value: u8) -> Result<(), AllocError>
+    ensures { OnOk result (string_bytes out.new ≡ string_bytes out.old ++ pair_word kind value) }
+{
+    push_hex(out, kind)?;
+    out.push_str("=")?;
+    push_hex(out, value)
+}
+
+fn push_pairs(out: &mut String, pairs: &[u8]) -> Result<(), AllocError>
+    ensures { OnOk result (string_bytes out.new ≡ string_bytes out.old ++ pair_words pairs.now) }
+{
+    let mut rest = pairs;
+    while let [kind, value, others @ ..] = rest {
+        out.push_str(" ")?;
+        push_pair(out, *kind, *value)?;
+        rest = others;
+    }
+    Ok(())
+}
+
+fn push_named(out: &mut String, name: &str, byte: u8) -> Result<(), AllocError>
+    ensures { OnOk result (string_bytes out.new ≡ string_bytes out.old ++ (name.now ++ hex_byte byte)) }
+{
+    out.push_str(name)?;
+    push_hex(out, byte)
+}
+
+fn push_character(out: &mut String, character: Char) -> Result<(), AllocError>
+    ensures { OnOk result (string_bytes out.new ≡ string_bytes out.old ++ character_word character) }
+{
+    if character.alt() {
+        push_named(out, "GE ", character.code())
+    } else {
+        push_hex(out, character.code())
+    }
+}
+
+fn push_repeat(out: &mut String, address: u32, character: Char) -> Result<(), AllocError>
+    ensures { OnOk result (string_bytes out.new ≡ string_bytes out.old ++ (codes "RA " ++ (decimal address ++ (codes " " ++ character_word character)))) }
+{
+    write!(out, "RA {address} ")?;
+    push_character(out, character)
+}
+
+fn push_order(alloc: Global, out: &mut String, order: &Order<'_>) -> Result<(), AllocError>
+    ensures { OnOk result (string_bytes out.new ≡ string_bytes out.old ++ order_words (item_of order.now)) }
+{
+    match order {
+        Order::Text(run) => {
+            out.push_str("TEXT ")?;
+            push_bytes(alloc, out, run)
+        }
+        Order::Sf(attribute) => push_named(out, "SF ", attribute.bits()),
+        Order::Sfe(pairs) => {
+            out.push_str("SFE")?;
+            push_pairs(out, pairs)
+        }
+        Order::Sba(address) => write!(out, "SBA {address}"),
+        Order::Sa(kind, value) => {
+            out.push_str("SA ")?;
+            push_pair(out, *kind, *value)
+        }
+        Order::Mf(pairs) => {
+            out.push_str("MF")?;
+            push_pairs(out, pairs)
+        }
+        Order::Ic => out.push_str("IC"),
+        Order::Pt => out.push_str("PT"),
+        Order::Ra(address, character) => push_repeat(out, *address, *character),
+        Order::Eua(address) => write!(out, "EUA {address}"),
+        Order::Ge(code) => push_named(out, "GE ", *code),
+    }
+}
+
+fn push_command(out: &mut String, command: Command) -> Result<(), AllocError>
+    ensures { OnOk result (string_bytes out.new ≡ string_bytes out.old ++ command_words command) }
+{
+    match command {
+        Command::Write(wcc) => push_named(out, "W ", wcc),
+        Command::EraseWrite(wcc) => push_named(out, "EW ", wcc),
+        Command::EraseWriteAlternate(wcc) => push_named(out, "EWA ", wcc),
+        Command::EraseAllUnprotected => out.push_str("EAU"),
+        Command::ReadBuffer => out.push_str("RB"),
+        Command::ReadModified => out.push_str("RM"),
+        Command::ReadModifiedAll => out.push_str("RMA"),
+        Command::NoOperation => out.push_str("NOP"),
+    }
+}
+
+fn push_order_line(alloc: Global, out: &mut String, placed: &Placed<'_>) -> Result<(), AllocError>
+    ensures { OnOk result (string_bytes out.new ≡ string_bytes out.old ++ order_line (site_of placed.now)) }
+{
+    push_order(alloc, out, &placed.order)?;
+    out.push_str("\n")
+}
+
+fn push_orders(alloc: Global, out: &mut String, record: &Record<'_>) -> Result<(), AllocError>
+    ensures { OnOk result (string_bytes out.new ≡ string_bytes out.old ++ flat_map order_line record.now.orders) }
+{
+    for placed in record.orders() {
+        push_order_line(alloc, out, &placed)?;
+    }
+    Ok(())
+}
+
+/// The lines of a record: its command, an order a line, and an empty line.
+pub fn push_record(alloc: Global, out: &mut String, record: &Record<'_>) -> Result<(), AllocError>
+    ensures { OnOk result (string_bytes out.new ≡ string_bytes out.old ++ record_lines record.now) }
+{
+    push_command(out, record.command())?;
+    out.push_str("\n")?;
+    push_orders(alloc, out, record)?;
+    out.push_str("\n")
+}

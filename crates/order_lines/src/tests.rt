@@ -1,0 +1,1 @@
+//! Lines printed and read.

@@ -1,0 +1,146 @@
+//! Words of a line: bytes in hexadecimal, pairs, numbers.
+
+ghost use Rattle.std.specs.Prelude.{◌≡◌, ◌==◌, ◌<◌, ◌+◌, ◌-◌, ◌*◌, not, true, length, position, IfSome, OnOk, IfOk};
+ghost use Rattle.std.specs.Option.{option_map};
+ghost use Rattle.std.specs.Char.{is_ascii_digit};
+ghost use Rattle.std.specs.List.{list_all};
+ghost use Rattle.std.specs.Str.Parse.{digits_value};
+ghost use Rattle.hex.specs.Hex.{hex_digit_value};
+ghost use Rattle.order_lines.specs.Words.{byte_from, byte_told, pair_from, pair_told, first_pair_of, pairs_told, is_numeral, number_from, number_told, cut_at};
+
+use std::alloc::{AllocError, Global};
+
+/// The value of a hexadecimal digit, in either case.
+fn digit_value(digit: u8) -> Option<u8>
+    ensures value { result ≡ hex_digit_value digit }
+    ensures small { IfSome result (λ value. value < 16) }
+{
+    match digit {
+        b'A'..=b'F' => Some(digit - 55),
+        b'a'..=b'f' => Some(digit - 87),
+        b'0'..=b'9' => Some(digit - 48),
+        _ => None,
+    }
+}
+
+/// The byte of two digits.
+fn byte_of(high: u8, low: u8) -> Option<u8>
+    ensures { result ≡ byte_from (hex_digit_value high) (hex_digit_value low) }
+{
+    let high = digit_value(high)?;
+    let low = digit_value(low)?;
+    Some(16 * high + low)
+}
+
+/// A byte: two hexadecimal digits, of either case.
+pub fn byte(word: &[u8]) -> Option<u8>
+    ensures { result ≡ byte_told word.now }
+{
+    match word {
+        [high, low] => byte_of(*high, *low),
+        _ => None,
+    }
+}
+
+/// A type and a value with `=` between them.
+pub fn pair(word: &[u8]) -> Option<(u8, u8)>
+    ensures { result ≡ pair_told word.now }
+{
+    match word {
+        [a, b, b'=', c, d] => {
+            let kind = byte_of(*a, *b)?;
+            let value = byte_of(*c, *d)?;
+            Some((kind, value))
+        }
+        _ => None,
+    }
+}
+
+/// The pair at the front, with a space before it, and what follows.
+fn first_pair(words: &[u8]) -> Option<(u8, u8, &[u8])>
+    ensures told { option_map (λ first. (first.0, first.1, first.2.now)) result ≡ first_pair_of words.now }
+    ensures shorter { IfSome result (λ first. length first.2.now < length words.now) }
+{
+    match words {
+        [b' ', a, b, b'=', c, d, others @ ..] => {
+            let kind = byte_of(*a, *b)?;
+            let value = byte_of(*c, *d)?;
+            Some((kind, value, others))
+        }
+        _ => None,
+    }
+}
+
+/// The types and values of pairs, each with a space before it, up to the end of the line.
+pub fn pairs(alloc: Global, words: &[u8]) -> Result<Option<Vec<u8>>, AllocError>
+    ensures { IfOk result (λ pairs. option_map (λ bytes. bytes.items) pairs ≡ pairs_told words.now) }
+{
+    let mut bytes = Vec::new(alloc);
+    let mut rest = words;
+    while !rest.is_empty() {
+        let Some((kind, value, others)) = first_pair(rest) else {
+            return Ok(None);
+        };
+        bytes.push(kind)?;
+        bytes.push(value)?;
+        rest = others;
+    }
+    Ok(Some(bytes))
+}
+
+/// Whether digits write a number in its one form: without a zero before another digit.
+fn is_numeral(word: &[u8]) -> bool
+    ensures { result ≡ is_numeral word.now }
+{
+    match word {
+        [] => false,
+        [digit] => digit.is_ascii_digit(),
+        [digit, ..] => *digit != b'0' && are_digits(word),
+    }
+}
+
+fn are_digits(word: &[u8]) -> bool
+    ensures { result ≡ list_all is_ascii_digit word.now }
+{
+    word.iter().all(|byte| byte.is_ascii_digit())
+}
+
+/// The number that digits write, unless it is above 4,294,967,295.
+fn value(digits: &[u8]) -> Option<u32>
+    requires { list_all is_ascii_digit digits.now ≡ true }
+    ensures { result ≡ number_from (digits_value 10 digits.now) }
+{
+    let mut value: u64 = 0;
+    let mut rest = digits;
+    while let [digit, others @ ..] = rest {
+        value = value * 10 + u64::from(*digit - b'0');
+        if 0xFFFF_FFFF < value {
+            return None;
+        }
+        rest = others;
+    }
+    Some(value as u32)
+}
+
+/// A number of up to 4,294,967,295 in decimal digits, without leading zeros.
+pub fn number(word: &[u8]) -> Option<u32>
+    ensures { result ≡ number_told word.now }
+{
+    if is_numeral(word) { value(word) } else { None }
+}
+
+/// What stands before the first such byte, and behind it.
+pub fn cut(bytes: &[u8], byte: u8) -> Option<(&[u8], &[u8])>
+    ensures { option_map (λ parts. (parts.0.now, parts.1.now)) result ≡ cut_at byte bytes.now }
+{
+    let n = place_of(bytes, byte)?;
+    Some((&bytes[..n], &bytes[n + 1..]))
+}
+
+/// Where the first such byte stands.
+fn place_of(bytes: &[u8], byte: u8) -> Option<usize>
+    ensures place { result ≡ position (λ b. b == byte) bytes.now }
+    ensures inside { IfSome result (λ n. n < length bytes.now) }
+{
+    bytes.iter().position(|b| *b == byte)
+}
