@@ -15,6 +15,11 @@ abbrev pub findings_in : Verdict → List Finding
 findings_in Yes = []
 findings_in (No findings) = findings.items
 
+-- a verdict that is no yes tells something
+abbrev pub TellsSome : Verdict → Type 0
+TellsSome Yes = Unit {0}
+TellsSome (No findings) = findings.items ≡ [] → ⊥
+
 abbrev pub opening_seen : Opening → Result Picture Finding
 opening_seen (Leads screen) = Ok screen
 opening_seen (Stands finding) = Err finding

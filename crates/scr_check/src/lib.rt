@@ -10,7 +10,7 @@ mod ring;
 mod verdict;
 
 pub use binding::{BindError, BindFault, Bound, bind};
-pub use finding::{Demo, Finding, Refusal};
+pub use finding::{Demo, Finding, Overlong, Refusal};
 pub use verdict::{Verdict, check};
 
 #[cfg(test)]

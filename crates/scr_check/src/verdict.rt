@@ -2,7 +2,7 @@
 
 ghost use Rattle.std.specs.Prelude.{◌≡◌, ◌↔◌, [], map, IfOk};
 ghost use Rattle.scr_check.specs.Findings.{answer_of, Conforms};
-ghost use Rattle.scr_check.specs.Seen.{findings_in};
+ghost use Rattle.scr_check.specs.Seen.{findings_in, TellsSome};
 
 use crate::fields::findings_of;
 use crate::finding::Finding;
@@ -22,6 +22,7 @@ pub enum Verdict {
 fn verdict_of(findings: Vec<Finding>) -> Verdict
     ensures listed { findings_in result ≡ findings.items }
     ensures yes { result ≡ Verdict.Yes ↔ findings.items ≡ [] }
+    ensures some { TellsSome result }
 {
     if findings.is_empty() {
         Verdict::Yes
@@ -41,6 +42,7 @@ fn verdict_of(findings: Vec<Finding>) -> Verdict
 pub fn check(alloc: Global, records: &[&[u8]], layout: &Layout) -> Result<Verdict, AllocError>
     ensures yes { IfOk result (λ verdict. verdict ≡ Verdict.Yes ↔ Conforms layout.now (map (λ bytes. bytes.now) records.now)) }
     ensures listed { IfOk result (λ verdict. findings_in verdict ≡ answer_of layout.now (map (λ bytes. bytes.now) records.now)) }
+    ensures some { IfOk result TellsSome }
 {
     match open(alloc, records, layout)? {
         Opening::Leads(screen) => Ok(verdict_of(findings_of(alloc, &screen, layout)?)),

@@ -5,7 +5,7 @@ use Rattle.std.specs.Io.KnownBytes.{Appends}
 use Rattle.std.proofs.lemmas.Bool.{cases_lt, lt-ltb}
 use Rattle.std.proofs.lemmas.List.{take_all}
 use Rattle.term3270.specs.declared.status.Status.{Status}
-use Rattle.term3270.specs.declared.status.Status.TheVariants.{Done, BadInput, Failed, NoMemory}
+use Rattle.term3270.specs.declared.status.Status.TheVariants.{Done, Findings, BadInput, Failed, NoMemory}
 use Rattle.term3270.specs.declared.fault.Fault.{Fault}
 use Rattle.term3270.specs.declared.answer.Answer.{Answer}
 use Rattle.term3270.specs.Input.{within_limit}
@@ -14,7 +14,7 @@ use Rattle.term3270.specs.Kinds.{answer_seen}
 use Rattle.term3270.specs.Streams.{AppendsFront, IsWantOrFailure, IsWritten, Prints}
 
 -- one byte more than an input can have tells that it is too long
-up_to_limit : {A : Type 0} (read : List ℕ → Result A Fault) (input : List ℕ) → within_limit read (take 16777217 input) ≡ within_limit read input
+pub up_to_limit : {A : Type 0} (read : List ℕ → Result A Fault) (input : List ℕ) → within_limit read (take 16777217 input) ≡ within_limit read input
 up_to_limit read input =
     elim (cases_lt 16777216 (length input)) [
       | inl long ↦
@@ -31,6 +31,7 @@ nothing_written (Some bytes) = sym (append-nil bytes)
 pub stops : (due : List ℕ → Printed) (known old : Option (List ℕ)) (status : Status) → IsWantOrFailure status → IfSome known (λ input. Prints old old status (due input))
 stops due None old status want = tt
 stops due (Some input) old Done want = absurd want
+stops due (Some input) old Findings want = absurd want
 stops due (Some input) old BadInput want = absurd want
 stops due (Some input) old Failed want = ([], (due input).text, refl, nothing_written old)
 stops due (Some input) old NoMemory want = ([], (due input).text, refl, nothing_written old)
@@ -44,6 +45,7 @@ prints_all old new due all = by_status due.status refl
   where
     by_status : (status : Status) → status ≡ due.status → Prints old new status due
     by_status Done same = (same, all)
+    by_status Findings same = (same, all)
     by_status BadInput same = (same, all)
     by_status Failed same = all_is_front old new due.text all
     by_status NoMemory same = all_is_front old new due.text all

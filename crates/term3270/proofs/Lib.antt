@@ -1,4 +1,5 @@
 pub mod Rows
 pub mod Prefixes
 pub mod Answered
+pub mod Checked
 pub mod Unwritten

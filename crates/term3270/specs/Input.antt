@@ -47,5 +47,12 @@ within_limit read input = if nat_lt 16777216 (length input) then Err TooLong els
 abbrev pub found_in_lines : List ℕ → Result Found Fault
 found_in_lines input = after_lines 1 nothing_found (lines_in input)
 
+-- the records of an input whose sizes are told elsewhere: a line of sizes is bad
+abbrev pub records_in_lines : List ℕ → Result Found Fault
+records_in_lines input = after_lines 1 (record nothing_found { begun = true }) (lines_in input)
+
+abbrev pub records_in : List ℕ → Result Found Fault
+records_in input = within_limit records_in_lines input
+
 abbrev pub found_in : List ℕ → Result Found Fault
 found_in input = within_limit found_in_lines input

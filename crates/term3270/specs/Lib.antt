@@ -5,6 +5,9 @@ pub mod Input
 pub mod Kinds
 pub mod Printed
 pub mod Show
+pub mod FindingLines
+pub mod Check
+pub mod CheckSeen
 pub mod Streams
 pub mod Convert
 pub mod Drafts

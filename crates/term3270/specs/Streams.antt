@@ -4,7 +4,7 @@ use Rattle.std.specs.Io.KnownBytes.{Appends}
 use Rattle.std.specs.declared.io.ErrorKind.{ErrorKind}
 use Rattle.std.specs.declared.io.ErrorKind.TheVariants.{OutOfMemory}
 use Rattle.term3270.specs.declared.status.Status.{Status}
-use Rattle.term3270.specs.declared.status.Status.TheVariants.{Done, BadInput, Failed, NoMemory}
+use Rattle.term3270.specs.declared.status.Status.TheVariants.{Done, Findings, BadInput, Failed, NoMemory}
 use Rattle.term3270.specs.declared.answer.Answer.{Answer}
 use Rattle.term3270.specs.Printed.{Printed}
 use Rattle.term3270.specs.Kinds.{answer_seen}
@@ -20,6 +20,7 @@ failure_of kind = Failed
 
 abbrev pub IsWantOrFailure : Status → Type 0
 IsWantOrFailure Done = ⊥
+IsWantOrFailure Findings = ⊥
 IsWantOrFailure BadInput = ⊥
 IsWantOrFailure Failed = Unit {0}
 IsWantOrFailure NoMemory = Unit {0}

@@ -1,7 +1,7 @@
 //! The records of an input.
 
 ghost use Rattle.std.specs.Prelude.{◌≡◌, ◌≤◌, length};
-ghost use Rattle.term3270.specs.Input.{usual_sizes, nothing_found, after_line, after_lines, found_in};
+ghost use Rattle.term3270.specs.Input.{usual_sizes, nothing_found, after_line, after_lines, found_in, records_in};
 ghost use Rattle.term3270.specs.Lines.{lines_in};
 ghost use Rattle.term3270.specs.Kinds.{Gives, found_seen, kind_seen};
 
@@ -61,13 +61,13 @@ fn take_line(mut input: Input, number: usize, line: Line) -> Result<Input, Fault
     }
 }
 
-/// The lines in turn.
-fn take_lines(alloc: Global, text: &[u8]) -> Result<Input, Fault>
+/// The lines in turn; none of them may tell sizes where `begun`.
+fn take_lines(alloc: Global, begun: bool, text: &[u8]) -> Result<Input, Fault>
     requires { length text.now ≤ 16777216 }
-    ensures { Gives found_seen result (after_lines 1 nothing_found (lines_in text.now)) }
+    ensures { Gives found_seen result (after_lines 1 (record nothing_found { begun = begun }) (lines_in text.now)) }
 {
     let mut input = Input {
-        begun: false,
+        begun,
         geometry: usual_geometry(),
         records: Vec::new(alloc),
     };
@@ -88,5 +88,15 @@ pub fn read_input(alloc: Global, text: &[u8]) -> Result<Input, Fault>
     if MOST_BYTES < text.len() {
         return Err(Fault::TooLong);
     }
-    take_lines(alloc, text)
+    take_lines(alloc, false, text)
+}
+
+/// Judges the lines of an input whose sizes are told elsewhere, so that a line of sizes is bad.
+pub fn read_records(alloc: Global, text: &[u8]) -> Result<Input, Fault>
+    ensures { Gives found_seen result (records_in text.now) }
+{
+    if MOST_BYTES < text.len() {
+        return Err(Fault::TooLong);
+    }
+    take_lines(alloc, true, text)
 }

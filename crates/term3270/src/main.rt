@@ -3,9 +3,11 @@
 
 mod answer;
 mod back;
+mod check;
 mod convert;
 mod drafts;
 mod fault;
+mod findings;
 mod input;
 mod lines;
 mod show;

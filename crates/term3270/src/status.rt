@@ -9,6 +9,8 @@ use std::process::ExitCode;
 pub enum Status {
     /// 0: done.
     Done,
+    /// 1: there are findings.
+    Findings,
     /// 2: the input is bad.
     BadInput,
     /// 3: a read or a write failed.
@@ -26,6 +28,7 @@ impl Status {
     {
         match self {
             Status::Done => 0,
+            Status::Findings => 1,
             Status::BadInput => 2,
             Status::Failed => 3,
             Status::NoMemory => 4,

@@ -7,6 +7,6 @@ use Rattle.term3270.proofs.input.take_lines.Given as goal
 abbrev pub invariant-loop-line : goal.invariant-loop-line
 invariant-loop-line l =
     record {
-      told : after_lines l.number (found_seen l.input) l.line-iterator ≡ after_lines 1 nothing_found (lines_in l.fn.text);
+      told : after_lines l.number (found_seen l.input) l.line-iterator ≡ after_lines 1 (record nothing_found { begun = l.fn.begun }) (lines_in l.fn.text);
       few : l.number + length l.line-iterator ≤ 16777217;
     }
