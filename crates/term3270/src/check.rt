@@ -15,9 +15,9 @@ ghost use Rattle.scr_check.specs.Seen.{findings_in, TellsSome};
 ghost use Rattle.scr_layout.specs.Results.{Gives};
 
 use crate::answer::{Answer, done, faulted};
+use crate::fault::Fault;
 use crate::findings::push_findings;
 use crate::input::{MOST_BYTES, read_records};
-use crate::fault::Fault;
 use crate::status::Status;
 use crate::stream::{read_all, write_answer};
 use scr_check::{Finding, Verdict, check};

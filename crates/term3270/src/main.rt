@@ -16,6 +16,7 @@ mod status;
 mod stream;
 
 use crate::back::run_convert_back;
+use crate::check::run_check;
 use crate::convert::run_convert;
 use crate::show::run_show;
 use crate::status::Status;
@@ -24,7 +25,7 @@ use clap::error::ErrorKind;
 use clap::{Arg, ArgAction, ArgMatches, Command, Error};
 use std::alloc::Global;
 use std::process::ExitCode;
-use std::{env, io};
+use std::{env, fs, io};
 
 /// What the command line asks for.
 fn parsed<'a>(alloc: Global, words: &'a [String]) -> Result<ArgMatches<'a>, Error> {
@@ -38,17 +39,38 @@ fn parsed<'a>(alloc: Global, words: &'a [String]) -> Result<ArgMatches<'a>, Erro
     let convert = Command::new(alloc, "convert")
         .about("Print each record as lines: its command and its orders")
         .arg(back)?;
+    let layout = Arg::new(alloc, "LAYOUT")
+        .required(true)
+        .help("The file of the layout, in TOML");
+    let check = Command::new(alloc, "check")
+        .about("Print what stands against records and a layout, or yes")
+        .arg(layout)?;
     Command::new(alloc, "term3270")
         .about("Reads 3270 records in hexadecimal, one a line, from standard input")
         .subcommand(show)?
         .subcommand(convert)?
+        .subcommand(check)?
         .try_get_matches_from(words)
+}
+
+/// Runs `check` on a file and the standard streams.
+fn check_file(rt: &HostRuntime, path: &str) -> Status {
+    match fs::open(rt, path) {
+        Ok(mut layout) => { run_check(rt.alloc(), &mut layout, &mut rt.stdin(), &mut rt.stdout()) }
+        Err(error) => failure(&error),
+    }
 }
 
 /// Runs a command on the standard streams.
 fn run(rt: &HostRuntime, matches: &ArgMatches<'_>) -> Status {
     let mut reader = rt.stdin();
     let mut writer = rt.stdout();
+    if let Some(path) = matches
+        .subcommand_matches("check")
+        .and_then(|words| words.get_str("LAYOUT"))
+    {
+        return check_file(rt, path);
+    }
     match matches.subcommand_matches("convert") {
         Some(words) if words.get_flag("back") => {
             run_convert_back(rt.alloc(), &mut reader, &mut writer)

@@ -171,10 +171,20 @@ fn converts_a_record(rt: HostRuntime) -> Result<(), Fail> {
 }
 
 /// What `convert --back` writes for order lines, and its status.
-fn back(rt: &impl Abort, alloc: Global, lines: &str, status: Status, text: &str) -> Result<(), Fail> {
+fn back(
+    rt: &impl Abort,
+    alloc: Global,
+    lines: &str,
+    status: Status,
+    text: &str,
+) -> Result<(), Fail> {
     let mut reader = lines.as_bytes();
     let mut writer = Vec::new(alloc);
-    assert_eq!(rt; run_convert_back(alloc, &mut reader, &mut writer), status, "{lines}");
+    assert_eq!(rt;
+        run_convert_back(alloc, &mut reader, &mut writer),
+        status,
+        "{lines}"
+    );
     assert_eq!(rt; writer.as_slice(), text.as_bytes(), "{lines}");
     Ok(())
 }
