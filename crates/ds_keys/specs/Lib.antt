@@ -1,0 +1,5 @@
+pub mod Moves
+pub mod KeyStep
+pub mod KeyRuns
+pub mod Touched
+pub mod Laws
