@@ -1,21 +1,20 @@
 -- Worked rows, computed: the definitions say what the rules of the keys say.
-use Rattle.std.proofs.Common.{◌≡◌, ℕ, List, [], ◌∷◌, ◌++◌, true, false, replicate, refl}
+use Rattle.std.proofs.Common.{◌≡◌, ℕ, List, [], ◌∷◌, ◌++◌, false, replicate, refl}
 use Rattle.ds_codec.specs.declared.cell.Cell.{Cell}
 use Rattle.ds_codec.specs.declared.cell.Cell.TheVariants.{Field, Char}
 use Rattle.ds_codec.specs.declared.size.Mode.TheVariants.{Bits14}
 use Rattle.ds_codec.specs.Character.{glyph}
-use Rattle.ds_screen.specs.declared.lock.Lock.TheVariants.{Waiting, Free, Error}
+use Rattle.ds_screen.specs.declared.lock.Lock.TheVariants.{Waiting, Free}
 use Rattle.ds_screen.specs.Ring.{ring_on, ring_back, ring_distance, least}
 use Rattle.ds_screen.specs.Picture.{Picture, blank, ruled}
 use Rattle.ds_screen.specs.Fields.{attribute_before}
 use Rattle.ds_screen.specs.Records.{cleared_cell}
 use Rattle.ds_keys.specs.declared.key.Key.{Key}
-use Rattle.ds_keys.specs.declared.key.Key.TheVariants.{Typed, Left, Right, Up, Down, Tab, BackTab, NewLine, Home, EraseEof, EraseInput, Delete, Reset, Attention}
-use Rattle.ds_keys.specs.declared.pressed.Pressed.{Pressed}
+use Rattle.ds_keys.specs.declared.key.Key.TheVariants.{Typed, Left, Right, Up, Tab, BackTab, NewLine, Home, EraseEof, EraseInput, Delete, Reset, Attention}
 use Rattle.ds_keys.specs.declared.pressed.Pressed.TheVariants.{Done, Inhibited, Ignored, Sent}
 use Rattle.ds_keys.specs.Moves.{start_ahead, start_back, first_open, settled, next_row}
 use Rattle.ds_keys.specs.KeyStep.{typed_cell, end_erased_cell, run_end, deleted_cell, typed_step, erase_eof_step, delete_step, erase_input_step, attention_step, free_step, step_of}
-use Rattle.ds_keys.specs.KeyRuns.{after_key, after, answers, is_quiet}
+use Rattle.ds_keys.specs.KeyRuns.{after_key, after, answers}
 
 abbrev plain : ℕ → Cell
 plain code = Char (glyph code false)

@@ -3,3 +3,4 @@ pub mod KeyStep
 pub mod KeyRuns
 pub mod Touched
 pub mod Laws
+pub mod Kept

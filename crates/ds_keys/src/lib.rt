@@ -2,8 +2,15 @@
 //! identifier of a screen.
 #![tactic(auto)]
 
+mod edits;
+mod fields;
 mod key;
+mod keyboard;
+mod moves;
 mod pressed;
+mod ring;
+mod runs;
 
 pub use key::Key;
+pub use keyboard::press;
 pub use pressed::Pressed;
