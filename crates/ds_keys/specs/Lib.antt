@@ -3,4 +3,5 @@ pub mod KeyStep
 pub mod KeyRuns
 pub mod Touched
 pub mod Laws
+pub mod Lines
 pub mod Kept

@@ -6,6 +6,7 @@ mod edits;
 mod fields;
 mod key;
 mod keyboard;
+mod line;
 mod moves;
 mod pressed;
 mod ring;
@@ -13,4 +14,5 @@ mod runs;
 
 pub use key::Key;
 pub use keyboard::press;
+pub use line::key_of_line;
 pub use pressed::Pressed;
