@@ -6,6 +6,7 @@ mod edits;
 mod fields;
 mod key;
 mod keyboard;
+mod laws;
 mod line;
 mod moves;
 mod pressed;
@@ -14,5 +15,6 @@ mod runs;
 
 pub use key::Key;
 pub use keyboard::press;
+pub use laws::{keep_law, one_step, quiet_keep_law};
 pub use line::key_of_line;
 pub use pressed::Pressed;
