@@ -1,7 +1,7 @@
 -- What a key may do to a cell.
-use Rattle.std.proofs.Common.{◌≡◌, ℕ, zero, suc, ◌+◌, ◌-◌, ◌/◌, ◌%◌, ◌<◌, ◌≤◌, ◌⊎◌, ◌&&◌, Bool, true, false, not, ◌==◌, cond, eqb, ltb, leb, List, length, Option, Some, None, refl, sym, ◌∙◌, ap, subst, arith, inl, inr}
+use Rattle.std.proofs.Common.{◌≡◌, ℕ, zero, suc, ◌+◌, ◌-◌, ◌/◌, ◌%◌, ◌<◌, ◌≤◌, ◌&&◌, Bool, true, false, not, ◌==◌, cond, List, length, Option, Some, None, refl, sym, ◌∙◌, ap, arith, inl, inr}
 use Rattle.std.specs.Option.{option_map}
-use Rattle.std.proofs.lemmas.Bool.{cond-true, cond-false, cases_eq, cases_lt, cases_Bool, false≢true, not-true, not-false, and_parts, eqb-true, eq-eqb, leb-true}
+use Rattle.std.proofs.lemmas.Bool.{cond-true, cond-false, cases_lt, cases_Bool, false≢true, not-true, and_parts, eqb-true, eq-eqb}
 use Rattle.std.proofs.lemmas.List.{get_or_past}
 use Rattle.ds_codec.specs.declared.cell.Cell.{Cell}
 use Rattle.ds_codec.specs.declared.cell.Cell.TheVariants.{Field, Char}

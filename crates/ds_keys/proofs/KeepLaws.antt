@@ -1,15 +1,15 @@
 -- The keep law, key by key and along keys.
-use Rattle.std.proofs.Common.{◌≡◌, ℕ, zero, suc, ◌+◌, ◌-◌, ◌<◌, ◌≤◌, ◌&&◌, Bool, true, false, not, ◌==◌, cond, eqb, ltb, leb, List, [], ◌∷◌, length, Option, Some, None, refl, sym, ◌∙◌, ap, subst, arith, inl, inr}
+use Rattle.std.proofs.Common.{◌≡◌, ℕ, zero, suc, ◌+◌, ◌-◌, ◌<◌, ◌≤◌, ◌&&◌, true, false, not, ◌==◌, eqb, ltb, leb, List, [], ◌∷◌, length, Option, Some, None, refl, sym, ◌∙◌, ap, subst, arith, inl, inr}
 use Rattle.std.specs.Option.{unwrap_or}
-use Rattle.std.proofs.lemmas.Bool.{cond-true, cond-false, cond_both, cases_eq, cases_lt, cases_Bool, false≢true, not-true, and_parts, eqb-true, eq-eqb, ne_eqb, leb-true, ltb-true}
+use Rattle.std.proofs.lemmas.Bool.{cond-true, cond-false, cond_both, cases_eq, cases_Bool, false≢true, not-true, and_parts, eqb-true, eq-eqb, ne_eqb, leb-true, ltb-true}
 use Rattle.ds_codec.specs.declared.cell.Cell.{Cell}
-use Rattle.ds_codec.specs.declared.cell.Cell.TheVariants.{Field, Char}
+use Rattle.ds_codec.specs.declared.cell.Cell.TheVariants.{Char}
 use Rattle.ds_codec.specs.Attribute.{is_protected}
 use Rattle.ds_codec.specs.Character.{glyph, is_graphic}
 use Rattle.ds_screen.specs.declared.lock.Lock.{Lock}
 use Rattle.ds_screen.specs.declared.lock.Lock.TheVariants.{Free, Waiting, Error}
-use Rattle.ds_screen.specs.Ring.{ring_back, ring_distance, least}
-use Rattle.ds_screen.specs.Picture.{Picture, blank, cell_at, ruled}
+use Rattle.ds_screen.specs.Ring.{ring_back, ring_distance}
+use Rattle.ds_screen.specs.Picture.{Picture, blank, cell_at}
 use Rattle.ds_screen.specs.Fields.{is_attribute, is_character, attribute_before, is_at, bits_at, governs, is_open}
 use Rattle.ds_screen.specs.Records.{unprotected_unmodified, erased, cleared_cell}
 use Rattle.ds_screen.proofs.RingLaws.{IsFound, search_cases, least_found, least_none, back_cases, distance_cases, back_inside}
@@ -18,7 +18,7 @@ use Rattle.ds_screen.proofs.FieldLaws.{before_found, before_none, before_back}
 use Rattle.ds_keys.specs.declared.key.Key.{Key}
 use Rattle.ds_keys.specs.declared.key.Key.TheVariants.{Typed, Left, Right, Up, Down, Tab, BackTab, NewLine, Home, EraseEof, EraseInput, Delete, Reset, Attention}
 use Rattle.ds_keys.specs.Moves.{row_end}
-use Rattle.ds_keys.specs.KeyStep.{Step, ignored, sent, marked_cell, typed_cell, is_in_rest, end_erased_cell, run_end, deleted_cell, typed_step, erase_eof_step, delete_step, erase_input_step, attention_step, free_step, error_step, step_under, step_of}
+use Rattle.ds_keys.specs.KeyStep.{Step, sent, marked_cell, typed_cell, is_in_rest, end_erased_cell, run_end, deleted_cell, typed_step, erase_eof_step, delete_step, erase_input_step, attention_step, free_step, error_step, step_under, step_of}
 use Rattle.ds_keys.specs.KeyRuns.{after_key, answer_of, after, is_sent, is_quiet}
 use Rattle.ds_keys.specs.Kept.{moved_back, AreCharacters}
 use Rattle.ds_keys.specs.Laws.{Keeps, is_clear, KeyKeeps, QuietKeysKeep}

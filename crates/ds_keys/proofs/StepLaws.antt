@@ -1,6 +1,5 @@
 -- One picture and one answer for each key.
-use Rattle.std.proofs.Common.{◌≡◌, refl, sym, ◌∙◌, ap}
-use Rattle.ds_screen.specs.Picture.{Picture}
+use Rattle.std.proofs.Common.{sym, ◌∙◌, ap}
 use Rattle.ds_keys.specs.KeyStep.{Step}
 use Rattle.ds_keys.specs.Laws.{HasOneStep}
 

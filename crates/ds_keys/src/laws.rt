@@ -17,3 +17,9 @@ pub fn quiet_keep_law()
 pub fn one_step()
     ensures { HasOneStep }
 {}
+
+/// Along a list of keys of which none sends, of any length, an attribute is modified exactly where it is
+/// touched by the history of keys.
+pub fn touched_law()
+    ensures { ModifiedIsTouched }
+{}
