@@ -1,6 +1,6 @@
 -- Which attribute is nearest.
-use Rattle.std.proofs.Common.{◌≡◌, ℕ, zero, suc, ◌+◌, ◌<◌, ◌≤◌, true, false, List, length, Some, None, refl, sym, ◌∙◌, ap, subst, arith, inl, inr, add-one}
-use Rattle.std.specs.Option.{option_map}
+use Rattle.std.proofs.Common.{◌≡◌, ℕ, zero, suc, ◌+◌, ◌<◌, ◌≤◌, true, false, List, length, Option, Some, None, refl, sym, ◌∙◌, ap, subst, arith, inl, inr, add-one}
+use Rattle.std.specs.Option.{option_map, IfSome}
 use Rattle.std.proofs.lemmas.Bool.{cases_lt, cases_Bool, false≢true}
 use Rattle.ds_codec.specs.declared.cell.Cell.{Cell}
 use Rattle.ds_codec.specs.declared.cell.Cell.TheVariants.{Field, Char}
@@ -111,3 +111,35 @@ ruling_more cells at inside =
       | inl some ↦ ap (bits_at cells) (before_here cells at inside some) ∙ has_bits before (cell_at cells at) some
       | inr none ↦ ap (bits_at cells) (before_back cells at inside none) ∙ keeps_bits before (cell_at cells at) none
     ]
+
+-- ---- what a search finds is an attribute
+same_place : (a b : ℕ) → Some a ≡ Some b → a ≡ b
+same_place a b e = cc
+
+pub before_there : (cells : List Cell) (p q : ℕ) → Some q ≡ attribute_before cells p → is_attribute (cell_at cells q) ≡ true
+before_there cells p q e =
+    let n : ℕ = length cells in
+    elim (search_cases n (λ d. is_attribute (cell_at cells (ring_back n p d)))) [
+      | inl found ↦
+          let at : ℕ = ring_back n p found.0 in
+          ap (λ z. is_attribute (cell_at cells z)) (same_place q at (e ∙ sym (before_found cells n p found.0 at refl found.1.inside refl found.1.misses found.1.hit))) ∙ found.1.hit
+      | inr none ↦ let both = e ∙ sym (before_none cells n p refl none) in cc
+    ]
+
+pub from_there : (cells : List Cell) (p q : ℕ) → Some q ≡ attribute_from cells p → is_attribute (cell_at cells q) ≡ true
+from_there cells p q e =
+    let n : ℕ = length cells in
+    elim (search_cases n (λ d. is_attribute (cell_at cells (ring_on n p d)))) [
+      | inl found ↦
+          let at : ℕ = ring_on n p found.0 in
+          ap (λ z. is_attribute (cell_at cells z)) (same_place q at (e ∙ sym (from_found cells n p found.0 at refl found.1.inside refl found.1.misses found.1.hit))) ∙ found.1.hit
+      | inr none ↦ let both = e ∙ sym (from_none cells n p refl none) in cc
+    ]
+
+pub each_before_there : (cells : List Cell) (p : ℕ) (o : Option ℕ) → o ≡ attribute_before cells p → IfSome o (λ q. is_attribute (cell_at cells q) ≡ true)
+each_before_there cells p None e = tt
+each_before_there cells p (Some q) e = before_there cells p q e
+
+pub each_from_there : (cells : List Cell) (p : ℕ) (o : Option ℕ) → o ≡ attribute_from cells p → IfSome o (λ q. is_attribute (cell_at cells q) ≡ true)
+each_from_there cells p None e = tt
+each_from_there cells p (Some q) e = from_there cells p q e

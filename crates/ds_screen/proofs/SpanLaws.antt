@@ -27,7 +27,7 @@ attributes_end cells p far =
     ap (λ k. filter (λ q. is_attribute (cell_at cells q)) (range_with_len p k)) none
 
 -- ---- ring steps
-back_on : (n q i e : ℕ) → q < n → i < n → e ≤ i → ring_back n (ring_on n q i) e ≡ ring_on n q (i - e)
+pub back_on : (n q i e : ℕ) → q < n → i < n → e ≤ i → ring_back n (ring_on n q i) e ≡ ring_on n q (i - e)
 back_on n q i e inside few less =
     elim (on_cases n q i) [
       | inl a ↦ elim (back_cases n (ring_on n q i) e) [
@@ -40,7 +40,7 @@ back_on n q i e inside few less =
       ]
     ]
 
-on_on : (n q k : ℕ) → q < n → k < n → ring_on n (ring_on n q 1) k ≡ ring_on n q (k + 1)
+pub on_on : (n q k : ℕ) → q < n → k < n → ring_on n (ring_on n q 1) k ≡ ring_on n q (k + 1)
 on_on n q k inside few =
     elim (on_cases n q 1) [
       | inl a ↦ elim (on_cases n (ring_on n q 1) k) [
@@ -69,7 +69,7 @@ pub record IsNext (cells : List Cell) (q k : ℕ) : Type 0 where
   pub characters : (i : ℕ) → 0 < i → i ≤ k → is_attribute (cell_at cells (ring_on (length cells) q i)) ≡ false
   pub stop : is_attribute (cell_at cells (ring_on (length cells) q (k + 1))) ≡ true
 
-ruled_by : (cells : List Cell) (q k i : ℕ) → q < length cells → is_attribute (cell_at cells q) ≡ true → IsNext cells q k → 0 < i → i ≤ k
+pub ruled_by : (cells : List Cell) (q k i : ℕ) → q < length cells → is_attribute (cell_at cells q) ≡ true → IsNext cells q k → 0 < i → i ≤ k
     → governs cells q (ring_on (length cells) q i) ≡ true
 ruled_by cells q k i inside there next some few =
     let n : ℕ = length cells in
@@ -86,7 +86,7 @@ both_false : (t u : Bool) → u ≡ false → (t && u) ≡ false
 both_false true u e = e
 both_false false u e = refl
 
-not_ruled_by : (cells : List Cell) (q k i : ℕ) → q < length cells → IsNext cells q k → k < i → i < length cells
+pub not_ruled_by : (cells : List Cell) (q k i : ℕ) → q < length cells → IsNext cells q k → k < i → i < length cells
     → governs cells q (ring_on (length cells) q i) ≡ false
 not_ruled_by cells q k i inside next far lt =
     let n : ℕ = length cells in
@@ -125,7 +125,7 @@ length-span_of cells q k inside there next =
     (λ i from below. not_ruled_by cells q k i inside next (omega arith) (omega arith))
 
 -- the next attribute, as a search on from the place behind q finds it
-next_from : (cells : List Cell) (q k : ℕ) → q < length cells → IsFound (length cells) (λ d. is_attribute (cell_at cells (ring_on (length cells) (ring_on (length cells) q 1) d))) k
+pub next_from : (cells : List Cell) (q k : ℕ) → q < length cells → IsFound (length cells) (λ d. is_attribute (cell_at cells (ring_on (length cells) (ring_on (length cells) q 1) d))) k
     → IsNext cells q k
 next_from cells q k inside found =
     let n : ℕ = length cells in

@@ -40,11 +40,11 @@ impl<C: Cells> Model for Screen<C> {
 }
 
 impl<C: Cells> Screen<C> {
-    ghost use Rattle.std.specs.Prelude.{◌≡◌, ◌<◌, true, length, slice_set, string_bytes, IfOk, IfErr, OnOk, OnErr};
+    ghost use Rattle.std.specs.Prelude.{◌≡◌, ◌<◌, true, length, slice_set, string_bytes, IfOk, IfErr, OnOk, OnErr, IfSome};
     ghost use Rattle.ds_codec.specs.declared.cell.Cell.{Cell};
     ghost use Rattle.ds_codec.specs.Geometry.{cells_of};
     ghost use Rattle.ds_screen.specs.Picture.{Picture, IsSound, cell_at};
-    ghost use Rattle.ds_screen.specs.Fields.{is_attribute, fields_of};
+    ghost use Rattle.ds_screen.specs.Fields.{is_attribute, attribute_before, attribute_from, fields_of};
     ghost use Rattle.ds_screen.specs.Shown.{printed_row};
     ghost use Rattle.ds_screen.specs.Records.{new_picture, erased, told_of, RecordShows, IsRefusedBy};
 
@@ -132,10 +132,33 @@ impl<C: Cells> Screen<C> {
         row_text(alloc, &self.cells, u32::from(row) * columns, columns)
     }
 
+    /// The position of the attribute at the least distance going back round the buffer, `p` itself
+    /// first; `None` where there is no attribute.
+    pub fn attr_before(&self, p: u32) -> Option<u32>
+        requires { p < length self.now.cells }
+        ensures nearest { result ≡ attribute_before self.now.cells p }
+        ensures inside { IfSome result (λ q. q < length self.now.cells) }
+        ensures there { IfSome result (λ q. is_attribute (cell_at self.now.cells q) ≡ true) }
+    {
+        self.cells.attr_before(p)
+    }
+
+    /// The position of the attribute at the least distance going on round the buffer, `p` itself
+    /// first; `None` where there is no attribute.
+    pub fn attr_from(&self, p: u32) -> Option<u32>
+        requires { p < length self.now.cells }
+        ensures nearest { result ≡ attribute_from self.now.cells p }
+        ensures inside { IfSome result (λ q. q < length self.now.cells) }
+        ensures there { IfSome result (λ q. is_attribute (cell_at self.now.cells q) ≡ true) }
+    {
+        self.cells.attr_from(p)
+    }
+
     /// Stores a character.
     pub fn put_char(&mut self, p: u32, character: Char)
         requires { p < length self.old.cells }
-        ensures { self.new ≡ record self.old { cells = slice_set self.old.cells p (Cell.Char character) } }
+        ensures changed { self.new ≡ record self.old { cells = slice_set self.old.cells p (Cell.Char character) } }
+        ensures sound { IsSound self.new }
     {
         self.cells.put(p, Cell::Char(character));
     }
@@ -144,7 +167,8 @@ impl<C: Cells> Screen<C> {
     pub fn set_attr(&mut self, p: u32, attribute: Attr)
         requires inside { p < length self.old.cells }
         requires there { is_attribute (cell_at self.old.cells p) ≡ true }
-        ensures { self.new ≡ record self.old { cells = slice_set self.old.cells p (Cell.Field attribute) } }
+        ensures changed { self.new ≡ record self.old { cells = slice_set self.old.cells p (Cell.Field attribute) } }
+        ensures sound { IsSound self.new }
     {
         self.cells.put(p, Cell::Field(attribute));
     }
@@ -152,28 +176,32 @@ impl<C: Cells> Screen<C> {
     /// Puts the cursor at a position.
     pub fn move_cursor(&mut self, p: u32)
         requires { p < length self.old.cells }
-        ensures { self.new ≡ record self.old { cursor = p } }
+        ensures changed { self.new ≡ record self.old { cursor = p } }
+        ensures sound { IsSound self.new }
     {
         self.cursor = p;
     }
 
     /// Sets the keyboard's lock.
     pub fn set_lock(&mut self, lock: Lock)
-        ensures { self.new ≡ record self.old { lock = lock } }
+        ensures changed { self.new ≡ record self.old { lock = lock } }
+        ensures sound { IsSound self.new }
     {
         self.lock = lock;
     }
 
     /// Sets the attention identifier.
     pub fn set_aid(&mut self, aid: Aid)
-        ensures { self.new ≡ record self.old { aid = aid } }
+        ensures changed { self.new ≡ record self.old { aid = aid } }
+        ensures sound { IsSound self.new }
     {
         self.aid = aid;
     }
 
     /// Makes it nulls of the default size, with the cursor at 0.
     pub fn erase_default(&mut self)
-        ensures { self.new ≡ erased self.old.geometry.default self.old }
+        ensures nulls { self.new ≡ erased self.old.geometry.default self.old }
+        ensures sound { IsSound self.new }
     {
         let size = self.geometry.default_size();
         self.cells.clear(size.cells());

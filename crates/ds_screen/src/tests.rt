@@ -1,7 +1,7 @@
 //! Worked rows, by hand from the data stream's rules.
 
 use crate::{Cells, Effect, FieldAt, Lock, PlainCells, Refused, Screen, Why};
-use ds_codec::{Attr, Cell, Char, Geometry, Mode, Record, Size};
+use ds_codec::{Aid, Attr, Cell, Char, Geometry, Mode, Record, Size};
 use std::alloc::Global;
 use std::test::Fail;
 
@@ -628,12 +628,55 @@ fn keys_change_one_thing(rt: HostRuntime) -> Result<(), Fail> {
     screen.set_lock(Lock::Error);
     assert_eq!(rt; screen.lock(), Lock::Error);
     assert_eq!(rt; screen.cursor(), 1);
+    let enter = Aid::from_byte(0x7D).ok_or("Enter")?;
+    screen.set_aid(enter);
+    assert_eq!(rt; screen.aid(), enter);
     let text = text_of(alloc, &screen)?;
     assert!(rt; text.as_str() == "@A@B..@.............", "{text}");
     screen.erase_default();
     let text = text_of(alloc, &screen)?;
     assert!(rt; text.as_str() == "....................", "{text}");
     assert_eq!(rt; screen.cursor(), 0);
+    Ok(())
+}
+
+/// The attribute that governs a position, and the next one.
+#[test]
+fn attributes_are_searched(rt: HostRuntime) -> Result<(), Fail> {
+    let rows: [(u32, u32, u32); 6] = [
+        (0, 0, 0),
+        (1, 0, 2),
+        (2, 2, 2),
+        (5, 2, 6),
+        (7, 6, 0),
+        (19, 6, 0),
+    ];
+    let screen = screen_after(rt.alloc(), &[FORM])?;
+    let count = screen.size().cells();
+    for (place, before, from) in rows {
+        if place < count {
+            assert_eq!(rt; screen.attr_before(place), Some(before), "before {place}");
+            assert_eq!(rt; screen.attr_from(place), Some(from), "from {place}");
+        }
+    }
+    let empty = new_screen(rt.alloc(), SMALL, SMALL)?;
+    if 3 < empty.size().cells() {
+        assert_eq!(rt; empty.attr_before(3), None);
+        assert_eq!(rt; empty.attr_from(3), None);
+    }
+    Ok(())
+}
+
+#[test]
+fn attributes_are_set(rt: HostRuntime) -> Result<(), Fail> {
+    let mut screen = screen_after(rt.alloc(), &[FORM])?;
+    if 4 < screen.size().cells() {
+        if let Some(place) = screen.attr_before(4) {
+            screen.set_attr(place, Attr::new(0x01));
+            let expected = field(2, 0x01, 3, 3);
+            assert_eq!(rt; screen.fields().nth(1), Some(expected));
+        }
+    }
     Ok(())
 }
 

@@ -1,0 +1,107 @@
+-- Loops that store cells one after the other.
+use Rattle.std.proofs.Common.{◌≡◌, ℕ, ◌+◌, ◌-◌, ◌<◌, ◌≤◌, true, false, cond, eqb, ltb, List, length, set, Some, None, refl, sym, ◌∙◌, ap, arith, inl, inr}
+use Rattle.std.specs.Option.{unwrap_or}
+use Rattle.std.proofs.lemmas.Bool.{cond-true, cond-false, cases_eq, cases_Bool, le-ltb, eq-eqb, ne_eqb}
+use Rattle.ds_codec.specs.declared.cell.Cell.{Cell}
+use Rattle.ds_codec.specs.declared.cell.Cell.TheVariants.{Field, Char}
+use Rattle.ds_codec.specs.Attribute.{with_modified}
+use Rattle.ds_screen.specs.Ring.{ring_on, ring_distance, least}
+use Rattle.ds_screen.specs.Picture.{Picture, blank, cell_at, ruled}
+use Rattle.ds_screen.specs.Fields.{is_attribute, is_at, attribute_before, is_open_under, ruling_bits}
+use Rattle.ds_screen.specs.Records.{cleared_cell}
+use Rattle.ds_screen.proofs.RingLaws.{least_at, least_none, on_cases, distance_ahead}
+use Rattle.ds_screen.proofs.RuledLaws.{as_ruled, cell_at-ruled, length-ruled, set-ruled, walk_step, walk_none}
+use Rattle.ds_keys.specs.Moves.{row_end}
+use Rattle.ds_keys.specs.KeyStep.{modified, marked_cell, run_end}
+use Rattle.ds_keys.specs.Kept.{so_far, moved_back, cleared_under}
+
+abbrev pub with_cells : Picture → List Cell → Picture
+with_cells v cells = record v { cells = cells }
+
+-- ---- a step of a loop
+pub store_none : (v : Picture) (b : ℕ) (f : ℕ → Cell) → v ≡ with_cells v (ruled (length v.cells) (so_far v.cells b 0 f))
+store_none v b f = ap (with_cells v) (walk_none v.cells b f)
+
+pub store_more : (v now new : Picture) (b k at : ℕ) (f : ℕ → Cell) (x : Cell) → b < length v.cells → k < length v.cells → at ≡ ring_on (length v.cells) b k
+    → now ≡ with_cells v (ruled (length v.cells) (so_far v.cells b k f)) → f at ≡ x → new ≡ with_cells now (set now.cells at x)
+    → new ≡ with_cells v (ruled (length v.cells) (so_far v.cells b (k + 1) f))
+store_more v now new b k at f x inside few here stored says writes =
+    let before : List Cell = ruled (length v.cells) (so_far v.cells b k f) in
+    writes ∙ ap (λ (w : Picture). with_cells w (set w.cells at x)) stored
+    ∙ ap (with_cells v) (walk_step v.cells b k at f true x before (set before at x) inside few here refl says refl)
+
+pub length_stored : (v now : Picture) (rule : ℕ → Cell) → now ≡ with_cells v (ruled (length v.cells) rule) → length now.cells ≡ length v.cells
+length_stored v now rule stored = ap (λ (w : Picture). length w.cells) stored ∙ length-ruled (length v.cells) rule
+
+-- from b on, not round the end
+pub on_from : (n b p : ℕ) → b ≤ p → p < n → p ≡ ring_on n b (p - b)
+on_from n b p from lt = elim (on_cases n b (p - b)) [ inl a ↦ omega arith | inr a ↦ omega arith ]
+
+-- ---- the run that Delete moves
+pub run_hit : (cells : List Cell) (cols c p : ℕ) → c ≤ p → p < row_end cols c → ((q : ℕ) → c ≤ q → q < p → is_attribute (cell_at cells q) ≡ false)
+    → is_attribute (cell_at cells p) ≡ true → p ≡ run_end cells cols c
+unfolding run_end
+run_hit cells cols c p from lt misses hit =
+    let there : c + (p - c) ≡ p = omega arith in
+    let found : least (row_end cols c - c) (λ d. is_attribute (cell_at cells (c + d))) ≡ Some (p - c) =
+    least_at (row_end cols c - c) (p - c) (λ d. is_attribute (cell_at cells (c + d))) (omega arith)
+    (λ d below. misses (c + d) (omega arith) (omega arith)) (ap (λ q. is_attribute (cell_at cells q)) there ∙ hit) in
+    sym (ap (λ o. c + unwrap_or o (row_end cols c - c)) found ∙ there)
+
+pub run_miss : (cells : List Cell) (cols c : ℕ) → c ≤ row_end cols c → ((q : ℕ) → c ≤ q → q < row_end cols c → is_attribute (cell_at cells q) ≡ false)
+    → row_end cols c ≡ run_end cells cols c
+unfolding run_end
+run_miss cells cols c from misses =
+    let none = least_none (row_end cols c - c) (λ d. is_attribute (cell_at cells (c + d))) (λ d below. misses (c + d) (omega arith) (omega arith)) in
+    let whole : c + (row_end cols c - c) ≡ row_end cols c = omega arith in
+    sym (ap (λ o. c + unwrap_or o (row_end cols c - c)) none ∙ whole)
+
+pub moved_same : (old now : List Cell) (end p : ℕ) → p < end → (p + 1 < end → cell_at now (p + 1) ≡ cell_at old (p + 1)) → moved_back now end p ≡ moved_back old end p
+moved_same old now end p below same =
+    elim (cases_eq (p + 1) end) [
+      | inl last ↦ cond-true (eqb (p + 1) end) _ _ (eq-eqb (p + 1) end last) ∙ sym (cond-true (eqb (p + 1) end) _ _ (eq-eqb (p + 1) end last))
+      | inr more ↦ ap (cond (eqb (p + 1) end) blank) (same (omega arith))
+    ]
+
+-- what lies behind the place where a loop stands is as it was
+pub still_there : (v now : Picture) (b k p : ℕ) (f : ℕ → Cell) → b + k ≤ p → p < length v.cells → now ≡ with_cells v (ruled (length v.cells) (so_far v.cells b k f))
+    → cell_at now.cells p ≡ cell_at v.cells p
+still_there v now b k p f behind lt stored =
+    ap (λ (w : Picture). cell_at w.cells p) stored ∙ cell_at-ruled (length v.cells) (so_far v.cells b k f) p lt
+    ∙ cond-false (ltb (ring_distance (length v.cells) b p) k) _ _ (le-ltb _ _ (omega (arith, distance_ahead (length v.cells) b p (omega arith))))
+
+-- ---- what Erase Input makes of a cell
+pub cleared_kind : (bits : ℕ) (c : Cell) → is_attribute (cleared_under bits c) ≡ true → is_attribute c ≡ true
+cleared_kind bits (Field attribute) is = refl
+cleared_kind bits (Char character) is = elim (cases_Bool (is_open_under bits (Char character))) [
+  | inl opens ↦ absurd (blank_no (sym (ap is_attribute (cond-true (is_open_under bits (Char character)) _ _ opens)) ∙ is))
+  | inr shut ↦ absurd (blank_no (sym (ap is_attribute (cond-false (is_open_under bits (Char character)) _ _ shut)) ∙ is))
+]
+  where
+    blank_no : false ≡ true → ⊥
+    blank_no e = cc
+
+-- ---- marking
+mark_all : (cells : List Cell) → cells ≡ ruled (length cells) (cell_at cells)
+mark_all cells = as_ruled cells (length cells) (cell_at cells) refl (λ p lt. refl)
+
+pub mark_none : (cells : List Cell) (c : ℕ) → None ≡ attribute_before cells c → cells ≡ ruled (length cells) (marked_cell cells c)
+mark_none cells c none =
+    as_ruled cells (length cells) (marked_cell cells c) refl
+    (λ p lt. ap (λ o. cond (is_at o p) (modified (cell_at cells p)) (cell_at cells p)) none)
+
+pub mark_some : (cells : List Cell) (c q bits : ℕ) → q < length cells → Some q ≡ attribute_before cells c → cell_at cells q ≡ Field bits
+    → set cells q (Field (with_modified bits true)) ≡ ruled (length cells) (marked_cell cells c)
+mark_some cells c q bits lt found there =
+    ap (λ xs. set xs q (Field (with_modified bits true))) (mark_all cells)
+    ∙ set-ruled (length cells) (cell_at cells) (marked_cell cells c) q (Field (with_modified bits true)) lt
+    (ap (λ o. cond (is_at o q) (modified (cell_at cells q)) (cell_at cells q)) (sym found)
+    ∙ cond-true (eqb q q) _ _ (eq-eqb q q refl) ∙ ap modified there)
+    (λ p below apart. ap (λ o. cond (is_at o p) (modified (cell_at cells p)) (cell_at cells p)) (sym found)
+    ∙ cond-false (eqb q p) _ _ (ne_eqb q p (λ same. apart (sym same))))
+
+pub clears_here : (cells : List Cell) (p bits : ℕ) (here result : Cell) → bits ≡ ruling_bits cells p → here ≡ cell_at cells p → result ≡ cleared_under bits here
+    → cleared_cell cells p ≡ result
+unfolding cleared_cell
+clears_here cells p bits here result rules reads is =
+    sym (is ∙ ap (λ b. cleared_under b here) rules ∙ ap (cleared_under (ruling_bits cells p)) reads)

@@ -1,0 +1,7 @@
+pub mod Moves
+pub mod KeyStep
+pub mod KeyRuns
+pub mod Touched
+pub mod Laws
+pub mod Lines
+pub mod Kept

@@ -1,0 +1,144 @@
+//! Runs of cells that keys erase or move.
+
+ghost use Rattle.std.specs.Prelude.{◌≡◌, ◌+◌, ◌-◌, ◌<◌, ◌≤◌, true, false, length, slice_set};
+ghost use Rattle.ds_codec.specs.declared.cell.Cell.{Cell};
+ghost use Rattle.ds_screen.specs.Picture.{blank, cell_at, ruled};
+ghost use Rattle.ds_screen.specs.Fields.{is_attribute, attribute_from};
+ghost use Rattle.ds_screen.specs.Records.{cleared_cell};
+ghost use Rattle.ds_keys.specs.Moves.{row_end};
+ghost use Rattle.ds_keys.specs.KeyStep.{run_end};
+ghost use Rattle.ds_keys.specs.Kept.{so_far, steps_to, moved_back, cleared_under, AreCharacters};
+
+use crate::fields::{is_open_cell, position_count, ruled_on, ruling};
+use crate::ring::{distance, forward};
+use ds_codec::{Cell, Char};
+use ds_screen::{Cells, Screen};
+
+/// How many positions lie from `p` up to the next attribute, round the ring; up to the last position where
+/// there is none.
+pub(crate) fn positions_to_end<C: Cells>(screen: &Screen<C>, n: u32, p: u32) -> u32
+    requires count { n ≡ length screen.now.cells }
+    requires inside { p < length screen.now.cells }
+    ensures steps { result ≡ steps_to (length screen.now.cells) p (attribute_from screen.now.cells p) }
+    ensures within { result ≤ length screen.now.cells }
+{
+    match screen.attr_from(p) {
+        Some(stop) => distance(n, p, stop),
+        None => n - p,
+    }
+}
+
+/// Makes so many positions from `from` on nulls, round the ring.
+pub(crate) fn null_on<C: Cells>(screen: &mut Screen<C>, from: u32, count: u32)
+    requires inside { from < length screen.old.cells }
+    requires few { count ≤ length screen.old.cells }
+    ensures { screen.new ≡ record screen.old { cells = ruled (length screen.old.cells) (so_far screen.old.cells from count (λ p. blank)) } }
+{
+    let n = position_count(screen);
+    let mut at = from;
+    'steps: for steps in 0..count {
+        screen.put_char(at, Char::null());
+        at = forward(n, at, 1);
+    }
+}
+
+/// The position behind the last one of a row.
+fn end_of_row<C: Cells>(screen: &Screen<C>, p: u32) -> u32
+    requires { p < length screen.now.cells }
+    ensures end { result ≡ row_end screen.now.size.cols p }
+    ensures within { result ≤ length screen.now.cells }
+    ensures ahead { p < result }
+{
+    let _count = position_count(screen);
+    let cols = u32::from(screen.size().cols);
+    p - p % cols + cols
+}
+
+/// Where the run ends that Delete moves: before the next attribute in the row, else with the row.
+pub(crate) fn end_of_run<C: Cells>(screen: &Screen<C>, from: u32) -> u32
+    requires { from < length screen.now.cells }
+    ensures end { result ≡ run_end screen.now.cells screen.now.size.cols from }
+    ensures ahead { from ≤ result }
+    ensures within { result ≤ length screen.now.cells }
+    ensures characters { AreCharacters screen.now.cells from result }
+{
+    let end = end_of_row(screen, from);
+    'places: for p in from..end {
+        if let Cell::Field(_) = screen.cell(p) {
+            return p;
+        }
+    }
+    end
+}
+
+/// The character that comes to a position of a run that moves one place back: that of the next position, a
+/// null at the run's last one.
+fn character_behind<C: Cells>(screen: &Screen<C>, p: u32, end: u32) -> Char
+    requires before_end { p < end }
+    requires within { end ≤ length screen.now.cells }
+    requires character { p + 1 < end → is_attribute (cell_at screen.now.cells (p + 1)) ≡ false }
+    ensures { Cell.Char result ≡ moved_back screen.now.cells end p }
+{
+    if p + 1 == end {
+        return Char::null();
+    }
+    match screen.cell(p + 1) {
+        Cell::Char(character) => character,
+        Cell::Field(_) => unreachable!(),
+    }
+}
+
+/// Moves the characters behind `from` one place back, up to `end`, where a null takes the last place.
+pub(crate) fn shift_back<C: Cells>(screen: &mut Screen<C>, from: u32, end: u32)
+    requires ahead { from ≤ end }
+    requires within { end ≤ length screen.old.cells }
+    requires characters { AreCharacters screen.old.cells from end }
+    ensures { screen.new ≡ record screen.old { cells = ruled (length screen.old.cells) (so_far screen.old.cells from (end - from) (moved_back screen.old.cells end)) } }
+{
+    'places: for p in from..end {
+        let character = character_behind(screen, p, end);
+        screen.put_char(p, character);
+    }
+}
+
+/// What Erase Input makes of a cell, by the bits that rule it.
+fn cleared(bits: u8, cell: &Cell) -> Cell
+    ensures { result ≡ cleared_under bits cell.now }
+{
+    if is_open_cell(bits, cell) {
+        return Cell::Char(Char::null());
+    }
+    match cell {
+        Cell::Field(attribute) if !attribute.protected() => {
+            Cell::Field(attribute.with_modified(false))
+        }
+        Cell::Field(attribute) => Cell::Field(*attribute),
+        Cell::Char(character) => Cell::Char(*character),
+    }
+}
+
+/// Stores a cell: an attribute where one stands.
+fn store<C: Cells>(screen: &mut Screen<C>, p: u32, cell: Cell)
+    requires inside { p < length screen.old.cells }
+    requires kind { is_attribute cell ≡ true → is_attribute (cell_at screen.old.cells p) ≡ true }
+    ensures { screen.new ≡ record screen.old { cells = slice_set screen.old.cells p cell } }
+{
+    match cell {
+        Cell::Field(attribute) => screen.set_attr(p, attribute),
+        Cell::Char(character) => screen.put_char(p, character),
+    }
+}
+
+/// Makes open characters nulls and resets the modified data tag of unprotected attributes, in one pass over
+/// the buffer.
+pub(crate) fn clear_open<C: Cells>(screen: &mut Screen<C>)
+    ensures { screen.new ≡ record screen.old { cells = ruled (length screen.old.cells) (cleared_cell screen.old.cells) } }
+{
+    let n = position_count(screen);
+    let mut bits = ruling(screen, n - 1);
+    'places: for p in 0..n {
+        let cell = screen.cell(p);
+        bits = ruled_on(bits, &cell);
+        store(screen, p, cleared(bits, &cell));
+    }
+}
