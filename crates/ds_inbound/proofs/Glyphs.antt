@@ -174,7 +174,7 @@ then_written (character ∷ characters) rest good =
       (
         parts.0,
         ap (λ b. b ++ rest) (flat_map-cons written_character character characters) ∙ append_assoc (written_character character) (written_characters characters) rest
-        ∙ sym (one_written character (written_characters characters ++ rest)),
+            ∙ sym (one_written character (written_characters characters ++ rest)),
       ),
       then_written characters rest parts.1,
     )

@@ -112,7 +112,13 @@ fn check_tail(mode: Mode, cells: u32, body: &[u8]) -> Result<(), Refused>
 }
 
 /// What stands behind the cursor.
-fn read_tail<'a>(mode: Mode, cells: u32, aid: Aid, cursor: u32, body: &'a [u8]) -> Result<Inbound<'a>, Refused>
+fn read_tail<'a>(
+    mode: Mode,
+    cells: u32,
+    aid: Aid,
+    cursor: u32,
+    body: &'a [u8],
+) -> Result<Inbound<'a>, Refused>
     ensures { result ≡ long_body mode cells aid cursor body.now }
 {
     check_tail(mode, cells, body)?;

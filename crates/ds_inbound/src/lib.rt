@@ -9,9 +9,11 @@ mod inbound;
 mod item;
 mod key;
 mod refused;
+mod write;
 
 pub use characters::{Characters, chars};
 pub use field::FieldSlice;
 pub use fields::Fields;
 pub use inbound::{Inbound, one_answer};
 pub use refused::{Refused, Why};
+pub use write::{write_buffer, write_inbound};
