@@ -85,13 +85,7 @@ impl<'a> Inbound<'a> {
 
 ghost use Rattle.std.specs.Prelude.{◌≡◌};
 ghost use Rattle.ds_codec.specs.Address.{address_at};
-ghost use Rattle.ds_inbound.specs.Inbound.{HasOneAnswer};
 ghost use Rattle.ds_inbound.specs.Reading.{refusal_in, inside, tail_from, long_body, long_of, answer_after, read_of};
-
-/// No bytes say two answers.
-pub fn one_answer()
-    ensures { HasOneAnswer }
-{}
 
 /// Looks at every character and every field of what stands behind the cursor.
 fn check_tail(mode: Mode, cells: u32, body: &[u8]) -> Result<(), Refused>
