@@ -36,7 +36,7 @@ impl<'a> Inbound<'a> {
     ghost use Rattle.std.specs.Prelude.{◌≡◌, ℕ, IfOk, IfErr, Ok, Err};
     ghost use Rattle.ds_inbound.specs.declared.refused.Why.{Why};
     ghost use Rattle.ds_inbound.specs.Answer.{Answer, written_characters};
-    ghost use Rattle.ds_inbound.specs.Inbound.{SpellsInbound, IsRefusedAt};
+    ghost use Rattle.ds_inbound.specs.Inbound.{SpellsInbound, IsRefusedAt, IsLaidOut};
     ghost use Rattle.ds_inbound.specs.Characters.{characters_in};
     ghost use Rattle.ds_inbound.specs.Reading.{read_of};
 
@@ -49,6 +49,7 @@ impl<'a> Inbound<'a> {
         ensures refused_only { (at : ℕ) (why : Why) → IsRefusedAt mode cells bytes.now at why
             → result ≡ Err (record { at = at; why = why }) }
         ensures exact { result ≡ read_of mode cells bytes.now }
+        ensures laid { IfOk result (IsLaidOut bytes.now) }
     {
         read_all(mode, cells, bytes)
     }

@@ -48,8 +48,8 @@ fn told(alloc: Global, cells: u32, bytes: &[u8]) -> Result<String, AllocError> {
 }
 
 #[test]
-fn answers_are_read(rt: HostRuntime) -> Result<(), Fail> {
-    let rows: [(&[u8], &str); 21] = [
+fn keys_and_cursors_are_read(rt: HostRuntime) -> Result<(), Fail> {
+    let rows: [(&[u8], &str); 11] = [
         (&[0x6C], "6C"),
         (&[0x6E], "6E"),
         (&[0x6B], "6B"),
@@ -61,6 +61,17 @@ fn answers_are_read(rt: HostRuntime) -> Result<(), Fail> {
         (&[0x7D, 0x00, 0x13], "7D cursor 19"),
         (&[0x7D, 0xC0, 0xC3], "7D cursor 3"),
         (&[0x7D, 0x40, 0x03], "7D cursor 3"),
+    ];
+    for (bytes, want) in rows {
+        let text = told(rt.alloc(), 20, bytes)?;
+        assert!(rt; text.as_str() == want, "{text}, not {want}");
+    }
+    Ok(())
+}
+
+#[test]
+fn fields_are_read(rt: HostRuntime) -> Result<(), Fail> {
+    let rows: [(&[u8], &str); 10] = [
         (
             &[0x7D, 0x40, 0xC4, 0x11, 0x40, 0xC3, 0xC2],
             "7D cursor 4, 3 C2 of 1",
@@ -114,8 +125,8 @@ fn answers_are_read(rt: HostRuntime) -> Result<(), Fail> {
 }
 
 #[test]
-fn answers_are_refused(rt: HostRuntime) -> Result<(), Fail> {
-    let rows: [(&[u8], &str); 25] = [
+fn heads_are_refused(rt: HostRuntime) -> Result<(), Fail> {
+    let rows: [(&[u8], &str); 7] = [
         (&[], "I1 Empty at 0"),
         (&[0x00], "I2 UnknownAid at 0"),
         (&[0x7E, 0x40, 0x40], "I2 UnknownAid at 0"),
@@ -123,6 +134,19 @@ fn answers_are_refused(rt: HostRuntime) -> Result<(), Fail> {
         (&[0x60], "I3 Truncated at 1"),
         (&[0x6C, 0x40], "I3 Truncated at 1"),
         (&[0x7D, 0x80], "I3 Truncated at 1"),
+    ];
+    for (bytes, want) in rows {
+        let text = told(rt.alloc(), 20, bytes)?;
+        assert!(rt; text.as_str() == want, "{text}, not {want}");
+    }
+    let empty = told(rt.alloc(), 1_920, &[])?;
+    assert!(rt; empty.as_str() == "I1 Empty at 0", "{empty}");
+    Ok(())
+}
+
+#[test]
+fn fields_are_refused(rt: HostRuntime) -> Result<(), Fail> {
+    let rows: [(&[u8], &str); 9] = [
         (&[0x7D, 0x40, 0xC4, 0x11], "I3 Truncated at 3"),
         (&[0x7D, 0x40, 0xC4, 0x11, 0x80], "I3 Truncated at 3"),
         (
@@ -141,6 +165,17 @@ fn answers_are_refused(rt: HostRuntime) -> Result<(), Fail> {
             &[0x7D, 0x40, 0xC4, 0x11, 0x00, 0x14, 0x00],
             "I4 BadAddress at 3",
         ),
+    ];
+    for (bytes, want) in rows {
+        let text = told(rt.alloc(), 20, bytes)?;
+        assert!(rt; text.as_str() == want, "{text}, not {want}");
+    }
+    Ok(())
+}
+
+#[test]
+fn characters_are_refused(rt: HostRuntime) -> Result<(), Fail> {
+    let rows: [(&[u8], &str); 9] = [
         (
             &[0x7D, 0x40, 0xC4, 0x11, 0x40, 0xC3, 0x0E],
             "I5 BadCharacter at 6",
@@ -167,8 +202,6 @@ fn answers_are_refused(rt: HostRuntime) -> Result<(), Fail> {
         let text = told(rt.alloc(), 20, bytes)?;
         assert!(rt; text.as_str() == want, "{text}, not {want}");
     }
-    let empty = told(rt.alloc(), 1_920, &[])?;
-    assert!(rt; empty.as_str() == "I1 Empty at 0", "{empty}");
     Ok(())
 }
 
