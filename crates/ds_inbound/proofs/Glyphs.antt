@@ -174,7 +174,7 @@ then_written (character ∷ characters) rest good =
       (
         parts.0,
         ap (λ b. b ++ rest) (flat_map-cons written_character character characters) ∙ append_assoc (written_character character) (written_characters characters) rest
-        ∙ sym (one_written character (written_characters characters ++ rest)),
+            ∙ sym (one_written character (written_characters characters ++ rest)),
       ),
       then_written characters rest parts.1,
     )
@@ -211,3 +211,22 @@ characters_written characters good =
     ap characters_in (sym (append-nil (written_characters characters)))
     ∙ characters_again characters (written_characters characters ++ []) [] (then_written characters [] good)
     ∙ ap (λ cs. characters ++ cs) no_characters ∙ append-nil characters
+
+-- ---- no more characters than bytes
+
+few_within : (n : ℕ) (bytes : List ℕ) → length bytes ≤ n → length (characters_in bytes) ≤ length bytes
+few_within n [] short = rw no_characters (omega arith)
+few_within zero (byte ∷ rest) short = absurd (omega arith)
+few_within (suc n) (byte ∷ rest) short =
+    elim (front_character (byte ∷ rest)) as (λ r. front_character (byte ∷ rest) ≡ r → length (characters_in (byte ∷ rest)) ≤ length (byte ∷ rest)) [
+      | Err why ↦ λ read. rw (characters_stop (byte ∷ rest) why read) (omega arith)
+      | Ok found ↦ λ read.
+          let takes = glyph_taken (byte ∷ rest) found read in
+          let some : 0 < found.1 = takes.some in
+          let behind : length (drop found.1 (byte ∷ rest)) ≤ n = omega (arith, length-drop found.1 (byte ∷ rest)) in
+          let fewer : length (characters_in (drop found.1 (byte ∷ rest))) ≤ length (drop found.1 (byte ∷ rest)) = few_within n (drop found.1 (byte ∷ rest)) behind in
+          rw (characters_step (byte ∷ rest) found read) (omega (arith, fewer, length-drop found.1 (byte ∷ rest)))
+    ] refl
+
+pub characters_few : (bytes : List ℕ) → length (characters_in bytes) ≤ length bytes
+characters_few bytes = few_within (length bytes) bytes (omega arith)

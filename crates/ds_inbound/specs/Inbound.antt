@@ -1,6 +1,6 @@
 -- The inbound grammar: what an answer's bytes say, and the leftmost fault of an answer. Each part is told as 'the bytes
 -- are this, then a rest'.
-use Rattle.std.specs.Prelude.{◌≡◌, ℕ, ◌+◌, ◌<◌, ◌≤◌, ◌⊎◌, Bool, true, false, not, ◌&&◌, List, [], ◌∷◌, length, Option, Some, None, if◌then◌else◌}
+use Rattle.std.specs.Prelude.{◌≡◌, ℕ, ◌+◌, ◌<◌, ◌≤◌, ◌⊎◌, Bool, true, false, not, ◌&&◌, List, [], ◌∷◌, length, take, drop, Option, Some, None, if◌then◌else◌}
 use Rattle.ds_codec.specs.declared.size.Mode.{Mode}
 use Rattle.ds_codec.specs.declared.order.OrderCode.TheVariants.{Sba, Ge}
 use Rattle.ds_codec.specs.Address.{SpellsAddress, IsReserved}
@@ -9,7 +9,7 @@ use Rattle.ds_codec.specs.Character.{Glyph, is_text, is_graphic, is_glyph}
 use Rattle.ds_codec.specs.Order.{code_of}
 use Rattle.ds_inbound.specs.declared.refused.Why.{Why}
 use Rattle.ds_inbound.specs.declared.refused.Why.TheVariants.{Empty, UnknownAid, Truncated, BadAddress, BadCharacter, Null}
-use Rattle.ds_inbound.specs.Answer.{Sent, Answer, is_short_aid, is_null}
+use Rattle.ds_inbound.specs.Answer.{Sent, Answer, is_short_aid, is_null, written_characters}
 
 -- a character that can be sent: any but the null
 abbrev pub is_sendable : Glyph → Bool
@@ -117,3 +117,18 @@ IsRefusedAt mode cells bytes at UnknownAid = (at ≡ 0) × (byte : ℕ) × (rest
 IsRefusedAt mode cells bytes at Truncated = IsCut bytes at ⊎ FaultsAt mode cells Truncated bytes at
 IsRefusedAt mode cells bytes at BadAddress = IsLost mode cells bytes at ⊎ FaultsAt mode cells BadAddress bytes at
 IsRefusedAt mode cells bytes at why = FaultsAt mode cells why bytes at
+
+-- ---- where the parts lie
+
+-- the bytes of each field's characters stand behind its mark and its place, and behind them the next field
+abbrev pub LieFrom : List ℕ → List Sent → Type 0
+LieFrom rest [] = rest ≡ []
+LieFrom rest (field ∷ fields) =
+    (take (length (written_characters field.characters)) (drop 3 rest) ≡ written_characters field.characters)
+    × LieFrom (drop (length (written_characters field.characters)) (drop 3 rest)) fields
+
+-- the bytes of the lead stand behind the attention identifier and the cursor, and behind them the fields
+abbrev pub IsLaidOut : List ℕ → Answer → Type 0
+IsLaidOut bytes answer =
+    (take (length (written_characters answer.lead)) (drop 3 bytes) ≡ written_characters answer.lead)
+    × LieFrom (drop (length (written_characters answer.lead)) (drop 3 bytes)) answer.fields

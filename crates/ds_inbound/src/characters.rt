@@ -1,6 +1,6 @@
 //! The characters of a field, one after the other.
 
-ghost use Rattle.std.specs.Prelude.{◌≡◌};
+ghost use Rattle.std.specs.Prelude.{◌≡◌, ◌≤◌, length};
 ghost use Rattle.ds_inbound.specs.Characters.{characters_in};
 
 use crate::front::front_char;
@@ -47,7 +47,8 @@ impl<'a> Iterator for Characters<'a> {
 /// The characters of a field or of a lead, from its first byte up to one that begins none: text bytes but 00, and
 /// 08 and a code from 40 to FE, which are one character of the alternate set. Takes no memory.
 pub fn chars(raw: &[u8]) -> Characters<'_>
-    ensures { result ≡ characters_in raw.now }
+    ensures all { result ≡ characters_in raw.now }
+    ensures few { length (characters_in raw.now) ≤ length raw.now }
 {
     Characters { rest: raw }
 }

@@ -36,7 +36,7 @@ impl<'a> Inbound<'a> {
     ghost use Rattle.std.specs.Prelude.{◌≡◌, ℕ, IfOk, IfErr, Ok, Err};
     ghost use Rattle.ds_inbound.specs.declared.refused.Why.{Why};
     ghost use Rattle.ds_inbound.specs.Answer.{Answer, written_characters};
-    ghost use Rattle.ds_inbound.specs.Inbound.{SpellsInbound, IsRefusedAt};
+    ghost use Rattle.ds_inbound.specs.Inbound.{SpellsInbound, IsRefusedAt, IsLaidOut};
     ghost use Rattle.ds_inbound.specs.Characters.{characters_in};
     ghost use Rattle.ds_inbound.specs.Reading.{read_of};
 
@@ -49,6 +49,7 @@ impl<'a> Inbound<'a> {
         ensures refused_only { (at : ℕ) (why : Why) → IsRefusedAt mode cells bytes.now at why
             → result ≡ Err (record { at = at; why = why }) }
         ensures exact { result ≡ read_of mode cells bytes.now }
+        ensures laid { IfOk result (IsLaidOut bytes.now) }
     {
         read_all(mode, cells, bytes)
     }
@@ -85,13 +86,7 @@ impl<'a> Inbound<'a> {
 
 ghost use Rattle.std.specs.Prelude.{◌≡◌};
 ghost use Rattle.ds_codec.specs.Address.{address_at};
-ghost use Rattle.ds_inbound.specs.Inbound.{HasOneAnswer};
 ghost use Rattle.ds_inbound.specs.Reading.{refusal_in, inside, tail_from, long_body, long_of, answer_after, read_of};
-
-/// No bytes say two answers.
-pub fn one_answer()
-    ensures { HasOneAnswer }
-{}
 
 /// Looks at every character and every field of what stands behind the cursor.
 fn check_tail(mode: Mode, cells: u32, body: &[u8]) -> Result<(), Refused>
@@ -112,7 +107,13 @@ fn check_tail(mode: Mode, cells: u32, body: &[u8]) -> Result<(), Refused>
 }
 
 /// What stands behind the cursor.
-fn read_tail<'a>(mode: Mode, cells: u32, aid: Aid, cursor: u32, body: &'a [u8]) -> Result<Inbound<'a>, Refused>
+fn read_tail<'a>(
+    mode: Mode,
+    cells: u32,
+    aid: Aid,
+    cursor: u32,
+    body: &'a [u8],
+) -> Result<Inbound<'a>, Refused>
     ensures { result ≡ long_body mode cells aid cursor body.now }
 {
     check_tail(mode, cells, body)?;

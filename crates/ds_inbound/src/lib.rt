@@ -8,10 +8,17 @@ mod front;
 mod inbound;
 mod item;
 mod key;
+mod laws;
 mod refused;
+mod write;
 
 pub use characters::{Characters, chars};
 pub use field::FieldSlice;
 pub use fields::Fields;
-pub use inbound::{Inbound, one_answer};
+pub use inbound::Inbound;
+pub use laws::{answers_say_themselves, one_answer};
 pub use refused::{Refused, Why};
+pub use write::{write_buffer, write_inbound};
+
+#[cfg(test)]
+mod tests;

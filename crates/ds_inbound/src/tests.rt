@@ -1,0 +1,4 @@
+//! Worked values, taken from the protocol by hand.
+
+mod reading;
+mod writing;

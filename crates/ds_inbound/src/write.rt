@@ -1,0 +1,234 @@
+//! Answers written (GA23-0059, "Read operations").
+
+ghost use Rattle.std.specs.Prelude.{◌≡◌, ◌++◌, ◌∷◌, ◌<◌, ◌≤◌, true, not, ◌&&◌, length, Some, Ok, IfOk, OnOk};
+ghost use Rattle.std.specs.List.{list_all};
+ghost use Rattle.ds_codec.specs.Address.{six_bit_code, written_address};
+ghost use Rattle.ds_codec.specs.Attribute.{is_modified};
+ghost use Rattle.ds_codec.specs.Character.{is_glyph};
+ghost use Rattle.ds_codec.specs.Writing.{written_character};
+ghost use Rattle.ds_screen.specs.Ring.{ring_on};
+ghost use Rattle.ds_screen.specs.Fields.{attributes_from};
+ghost use Rattle.ds_inbound.specs.Answer.{is_short_aid, is_null, characters_at, field_sent, fields_sent, lead_sent, answer_of, written_characters, written_field, written_fields, bytes_sent, written_cell, buffer_of};
+ghost use Rattle.ds_inbound.specs.Inbound.{is_sendable, SaysOnly};
+ghost use Rattle.ds_inbound.specs.Reading.{read_of};
+ghost use Rattle.ds_inbound.specs.Sending.{sent_in, places_on, has_places, is_field_sendable, IsFieldOf, IsSendable};
+
+use crate::key::is_short;
+use ds_codec::{Aid, Attr, Cell, Char, Mode, encode_address};
+use ds_screen::{Cells, FieldAt, Screen};
+use std::alloc::{AllocError, Global};
+
+/// The bytes that answer Read Modified; with `all` Read Modified All, which answers no attention identifier alone
+/// (GA23-0059, "Read Modified" and "Read Modified All"). After PA1 to PA3 and Clear Read Modified sends the attention
+/// identifier alone. Else it and the cursor's address are sent, and then on a formatted screen each modified
+/// field, protected or not, in rising order of the attributes: 11, the address behind the attribute and the field's
+/// characters without nulls; on an unformatted screen all characters without nulls. Addresses are written for the
+/// number of cells of the size in use. Takes time linear in the cells.
+pub fn write_inbound<C: Cells>(
+    alloc: Global,
+    screen: &Screen<C>,
+    all: bool,
+) -> Result<Vec<u8>, AllocError>
+    ensures written { IfOk result (λ bytes. bytes.items ≡ bytes_sent screen.now all) }
+    ensures again { IfOk result (λ bytes. read_of screen.now.geometry.mode (length screen.now.cells) bytes.items ≡ Ok (answer_of screen.now all)) }
+    ensures only { IfOk result (λ bytes. SaysOnly screen.now.geometry.mode (length screen.now.cells) (answer_of screen.now all) bytes.items) }
+{
+    write_answer(alloc, screen, all)
+}
+
+/// The bytes that answer Read Buffer (GA23-0059, "Read Buffer"): the attention identifier, the cursor's address and
+/// every cell, an attribute as 1D and its six bits, a character as its code, behind 08 where it is of the alternate
+/// set. Takes time linear in the cells.
+pub fn write_buffer<C: Cells>(alloc: Global, screen: &Screen<C>) -> Result<Vec<u8>, AllocError>
+    ensures { IfOk result (λ bytes. bytes.items ≡ buffer_of screen.now) }
+{
+    let n = screen.size().cells();
+    let mut out = Vec::with_capacity(alloc, 2 * n as usize + 3)?;
+    out.push(screen.aid().byte())?;
+    push_address(&mut out, screen, screen.cursor())?;
+    'places: for p in 0..n {
+        push_cell(&mut out, screen.cell(p))?;
+    }
+    Ok(out)
+}
+
+/// The position after `p`, of `n`.
+#[tactic(auto, unfolding(ds_screen::specs::Ring::ring_on))]
+fn next(n: u32, p: u32) -> u32
+    requires { p < n }
+    ensures on { result ≡ ring_on n p 1 }
+    ensures inside { result < n }
+{
+    if p + 1 < n { p + 1 } else { 0 }
+}
+
+/// Whether a character is the null.
+fn is_null(character: Char) -> bool
+    ensures value { result ≡ is_null character }
+    ensures real { is_glyph character ≡ true }
+{
+    !character.alt() && character.code() == 0
+}
+
+/// A character, behind the graphic escape where it is of the alternate set.
+fn push_character(out: &mut Vec<u8>, character: Char) -> Result<(), AllocError>
+    ensures { OnOk result (out.new.items ≡ out.old.items ++ written_character character) }
+{
+    if character.alt() {
+        out.push(0x08)?;
+    }
+    out.push(character.code())?;
+    Ok(())
+}
+
+/// What is sent of a cell: its character, nothing of a null or an attribute.
+fn push_sent(out: &mut Vec<u8>, cell: Cell) -> Result<(), AllocError>
+    ensures written { OnOk result (out.new.items ≡ out.old.items ++ written_characters (sent_in cell)) }
+    ensures sendable { list_all is_sendable (sent_in cell) ≡ true }
+{
+    match cell {
+        Cell::Field(_) => Ok(()),
+        Cell::Char(character) => {
+            if is_null(character) {
+                Ok(())
+            } else {
+                push_character(out, character)
+            }
+        }
+    }
+}
+
+/// What is sent of so many cells, from one on round the buffer.
+fn push_run<C: Cells>(
+    out: &mut Vec<u8>,
+    screen: &Screen<C>,
+    place: u32,
+    count: u32,
+) -> Result<(), AllocError>
+    requires inside { place < length screen.now.cells }
+    requires few { count ≤ length screen.now.cells }
+    ensures written { OnOk result (out.new.items ≡ out.old.items
+        ++ written_characters (characters_at screen.now.cells (places_on (length screen.now.cells) place count))) }
+    ensures sendable { OnOk result (list_all is_sendable (characters_at screen.now.cells (places_on (length screen.now.cells) place count)) ≡ true) }
+{
+    let n = screen.size().cells();
+    let mut p = place;
+    'places: for steps in 0..count {
+        push_sent(out, screen.cell(p))?;
+        p = next(n, p);
+    }
+    Ok(())
+}
+
+/// An address.
+fn push_address<C: Cells>(
+    out: &mut Vec<u8>,
+    screen: &Screen<C>,
+    address: u32,
+) -> Result<(), AllocError>
+    requires { address < length screen.now.cells }
+    ensures { OnOk result (out.new.items ≡ out.old.items ++ written_address screen.now.geometry.mode (length screen.now.cells) address) }
+{
+    let n = screen.size().cells();
+    out.extend_from_slice(&encode_address(screen.geometry().mode(), n, address))
+}
+
+/// A field: its mark, its place and its characters.
+fn push_field<C: Cells>(
+    out: &mut Vec<u8>,
+    screen: &Screen<C>,
+    field: &FieldAt,
+) -> Result<(), AllocError>
+    requires { IsFieldOf screen.now.cells field.now }
+    ensures written { OnOk result (out.new.items ≡ out.old.items
+        ++ written_field screen.now.geometry.mode (length screen.now.cells) (field_sent screen.now.cells field.now.at)) }
+    ensures sendable { OnOk result (is_field_sendable (length screen.now.cells) (field_sent screen.now.cells field.now.at) ≡ true) }
+{
+    out.push(0x11)?;
+    push_address(out, screen, field.place)?;
+    push_run(out, screen, field.place, field.length)?;
+    Ok(())
+}
+
+/// The modified fields.
+fn push_fields<C: Cells>(out: &mut Vec<u8>, screen: &Screen<C>) -> Result<(), AllocError>
+    ensures written { OnOk result (out.new.items ≡ out.old.items
+        ++ written_fields screen.now.geometry.mode (length screen.now.cells) (fields_sent screen.now.cells (attributes_from screen.now.cells 0))) }
+    ensures sendable { OnOk result (list_all (is_field_sendable (length screen.now.cells)) (fields_sent screen.now.cells (attributes_from screen.now.cells 0)) ≡ true) }
+{
+    'fields: for field in screen.fields() {
+        if field.attr.modified() {
+            push_field(out, screen, &field)?;
+        }
+    }
+    Ok(())
+}
+
+/// Whether there is an attribute.
+fn is_formatted<C: Cells>(screen: &Screen<C>) -> bool
+    ensures { result ≡ has_places (attributes_from screen.now.cells 0) }
+{
+    let mut fields = screen.fields();
+    match fields.next() {
+        Some(_) => true,
+        None => false,
+    }
+}
+
+/// The characters of an unformatted screen.
+fn push_lead<C: Cells>(out: &mut Vec<u8>, screen: &Screen<C>) -> Result<(), AllocError>
+    ensures written { OnOk result (out.new.items ≡ out.old.items ++ written_characters (lead_sent screen.now.cells (attributes_from screen.now.cells 0))) }
+    ensures sendable { OnOk result (list_all is_sendable (lead_sent screen.now.cells (attributes_from screen.now.cells 0)) ≡ true) }
+{
+    if !is_formatted(screen) {
+        push_run(out, screen, 0, screen.size().cells())?;
+    }
+    Ok(())
+}
+
+/// Whether nothing but the attention identifier is sent.
+fn is_sent_alone(aid: Aid, all: bool) -> bool
+    ensures { result ≡ (is_short_aid aid && not all) }
+{
+    is_short(aid) && !all
+}
+
+fn write_answer<C: Cells>(
+    alloc: Global,
+    screen: &Screen<C>,
+    all: bool,
+) -> Result<Vec<u8>, AllocError>
+    ensures written { IfOk result (λ bytes. bytes.items ≡ bytes_sent screen.now all) }
+    ensures sendable { OnOk result (IsSendable screen.now.geometry.mode (length screen.now.cells) (answer_of screen.now all)) }
+{
+    let n = screen.size().cells();
+    let aid = screen.aid();
+    if is_sent_alone(aid, all) {
+        let mut out = Vec::with_capacity(alloc, 1)?;
+        out.push(aid.byte())?;
+        return Ok(out);
+    }
+    let mut out = Vec::with_capacity(alloc, 3 * n as usize + 3)?;
+    out.push(aid.byte())?;
+    push_address(&mut out, screen, screen.cursor())?;
+    push_lead(&mut out, screen)?;
+    push_fields(&mut out, screen)?;
+    Ok(out)
+}
+
+/// The six bits of an attribute as they are written: the code of the low half of an address below 64.
+fn attribute_code(attribute: Attr) -> u8
+    ensures { result ≡ six_bit_code attribute }
+{
+    encode_address(Mode::Bits14, 64, u32::from(attribute.bits()))[1]
+}
+
+/// A cell, whatever it holds.
+fn push_cell(out: &mut Vec<u8>, cell: Cell) -> Result<(), AllocError>
+    ensures { OnOk result (out.new.items ≡ out.old.items ++ written_cell cell) }
+{
+    match cell {
+        Cell::Field(attribute) => out.extend_from_slice(&[0x1D, attribute_code(attribute)]),
+        Cell::Char(character) => push_character(out, character),
+    }
+}
