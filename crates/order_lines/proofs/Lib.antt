@@ -1,3 +1,5 @@
 pub mod Digits
 pub mod Pairs
 pub mod Drafts
+pub mod Plain
+pub mod ToldAgain
