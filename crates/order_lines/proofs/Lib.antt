@@ -3,3 +3,4 @@ pub mod Pairs
 pub mod Drafts
 pub mod Plain
 pub mod ToldAgain
+pub mod Spelled
