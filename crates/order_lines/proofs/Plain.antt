@@ -14,13 +14,8 @@ use Rattle.hex.specs.Hex.{IsBytes, encode_with, encode_upper, upper_digits, hex_
 use Rattle.hex.proofs.HexLemmas.{IsDigits-upper_digits}
 use Rattle.ds_codec.specs.Character.{Glyph}
 use Rattle.ds_codec.proofs.Below.{each_below, both_true}
-use Rattle.order_lines.specs.Print.{hex_byte, pair_word, pair_words}
-
-abbrev pub is_plain : ℕ → Bool
-is_plain c = nat_le 32 c && nat_lt c 128
-
-abbrev pub are_plain : List ℕ → Bool
-are_plain words = list_all is_plain words
+use Rattle.order_lines.specs.Print.{hex_byte, pair_word, pair_words, character_word}
+use Rattle.order_lines.specs.Laws.{is_plain, are_plain}
 
 pub and_true : (a b : Bool) → a ≡ true → b ≡ true → (a && b) ≡ true
 and_true true b first second = second

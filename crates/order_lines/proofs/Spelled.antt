@@ -20,7 +20,7 @@ use Rattle.ds_codec.proofs.Written.{is_read_again}
 use Rattle.order_lines.specs.Draft.{written_of}
 use Rattle.order_lines.specs.Laws.{IsInside, AreInside, AreToldAgain, IsToldAgain, LinesTellAgain, draft_of, IsWrittenAgain, RecordsAreWrittenAgain}
 use Rattle.order_lines.proofs.Drafts.{none_before}
-use Rattle.order_lines.proofs.ToldAgain.{IsLineItem, order_line_again, IsLineCommand, command_line_again}
+use Rattle.order_lines.proofs.ToldAgain.{IsLineItem, order_line_again, IsLineCommand, command_line_again, plain_order, plain_command}
 
 -- ---- parts of bytes are bytes
 
@@ -103,7 +103,8 @@ told_again : (mode : Mode) (at : ℕ) (sites : List Site) (bytes : List ℕ) →
 told_again mode at [] bytes spelled all = tt
 told_again mode at (site ∷ sites) bytes (part, rest, is, here, first, may, others) all =
     let both : IsBytes (part ++ rest) = rw is at all in
-    (order_line_again site.order (line_item mode site.order part first (left_bytes part rest both)), told_again mode (at + length part) sites rest others (right_bytes part rest both))
+    let line = line_item mode site.order part first (left_bytes part rest both) in
+    ((order_line_again site.order line, plain_order site.order line), told_again mode (at + length part) sites rest others (right_bytes part rest both))
 
 are_valid : (mode : Mode) (at : ℕ) (sites : List Site) (bytes : List ℕ) → AreSpelled mode at sites bytes → AreValid (items sites)
 are_valid mode at [] bytes spelled k = tt
@@ -184,7 +185,7 @@ read_good mode bytes message all read = good_record mode bytes message (is_spell
 pub lines_tell_again : LinesTellAgain
 lines_tell_again mode bytes message all read =
     let good = read_good mode bytes message all read in
-    record { its_command = command_line_again message.command good.small; its_orders = good.told }
+    record { its_command = (command_line_again message.command good.small, plain_command message.command good.small); its_orders = good.told }
 
 pub written_again : RecordsAreWrittenAgain
 written_again mode other cells bytes message all read few inside =

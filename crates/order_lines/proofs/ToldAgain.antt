@@ -23,7 +23,8 @@ use Rattle.ds_codec.proofs.TextRuns.{begins, prefix-append}
 use Rattle.order_lines.specs.Words.{on_word, byte_from, byte_told, pair_from, pair_told, pairs_more, pairs_told, is_numeral, number_from, number_told, cut_at}
 use Rattle.order_lines.specs.Print.{hex_byte, pair_word, pair_words, character_word, order_words, command_words}
 use Rattle.order_lines.specs.Told.{command, order, told_of, first_told, command_told, order_told, short_told, address_told, repeat_from, repeat_told, character_from, character_told, text_from, attribute_from, set_from}
-use Rattle.order_lines.proofs.Plain.{digits_model}
+use Rattle.order_lines.specs.Laws.{are_plain}
+use Rattle.order_lines.proofs.Plain.{digits_model, plain-append, plain-decimal, plain-hex_byte, plain-encode, plain-pair_word, plain-pair_words}
 
 -- ---- bytes and pairs
 
@@ -202,3 +203,33 @@ command_again commands.NoOperation small = refl
 
 pub command_line_again : (told : Command) → IsLineCommand (wcc_of told) → told_of (command_words told) ≡ Some (command told)
 command_line_again told small = rw (command_again told small) refl
+
+-- ---- their characters
+
+plain_character : (code : ℕ) (alt : Bool) → code < 256 → are_plain (character_word (glyph code alt)) ≡ true
+plain_character code true small = plain-hex_byte code small
+plain_character code false small = plain-hex_byte code small
+
+pub plain_order : (item : Item) → IsLineItem item → are_plain (order_words item) ≡ true
+plain_order (text run) (some, bytes) = plain-encode run bytes
+plain_order (start_field attribute) six = plain-hex_byte attribute (omega arith)
+plain_order (start_field_extended pairs) (count, even, bytes) = plain-pair_words pairs bytes
+plain_order (set_buffer_address address) near = plain-decimal address (omega arith)
+plain_order (set_attribute kind value) (first, second) = plain-pair_word kind value first second
+plain_order (modify_field pairs) (count, even, bytes) = plain-pair_words pairs bytes
+plain_order insert_cursor is = refl
+plain_order program_tab is = refl
+plain_order (repeat_to_address address character) (near, small, exists) =
+    plain-append (decimal address) (32 ∷ character_word character) (plain-decimal address (omega arith)) (plain_character character.code character.alt small)
+plain_order (erase_unprotected_to_address address) near = plain-decimal address (omega arith)
+plain_order (graphic_escape code) small = plain-hex_byte code small
+
+pub plain_command : (told : Command) → IsLineCommand (wcc_of told) → are_plain (command_words told) ≡ true
+plain_command (commands.Write wcc) small = plain-hex_byte wcc small
+plain_command (commands.EraseWrite wcc) small = plain-hex_byte wcc small
+plain_command (commands.EraseWriteAlternate wcc) small = plain-hex_byte wcc small
+plain_command commands.EraseAllUnprotected small = refl
+plain_command commands.ReadBuffer small = refl
+plain_command commands.ReadModified small = refl
+plain_command commands.ReadModifiedAll small = refl
+plain_command commands.NoOperation small = refl

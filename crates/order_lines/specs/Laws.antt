@@ -1,5 +1,6 @@
 -- Laws on what is printed, told and written.
-use Rattle.std.specs.Prelude.{◌≡◌, ℕ, ◌<◌, ◌≤◌, List, [], ◌∷◌, Some, Ok}
+use Rattle.std.specs.Prelude.{◌≡◌, ℕ, ◌<◌, ◌≤◌, Bool, true, ◌&&◌, nat_le, nat_lt, List, [], ◌∷◌, Some, Ok}
+use Rattle.std.specs.List.{list_all}
 use Rattle.hex.specs.Hex.{IsBytes}
 use Rattle.ds_codec.specs.declared.size.Mode.{Mode}
 use Rattle.ds_codec.specs.Geometry.{limit_of}
@@ -8,17 +9,28 @@ use Rattle.ds_codec.specs.Record.{Message}
 use Rattle.ds_codec.specs.Reading.{read_of}
 use Rattle.ds_codec.specs.Writing.{orders_in, IsReadAgain}
 use Rattle.order_lines.specs.Print.{command_words, order_words}
-use Rattle.order_lines.specs.Told.{command, order, told_of}
+use Rattle.order_lines.specs.Told.{Told, command, order, told_of}
 use Rattle.order_lines.specs.Draft.{Draft, written_of}
+
+-- from the space up to the last character of ASCII
+abbrev pub is_plain : ℕ → Bool
+is_plain c = nat_le 32 c && nat_lt c 128
+
+abbrev pub are_plain : List ℕ → Bool
+are_plain words = list_all is_plain words
+
+-- words of plain characters that say this
+abbrev pub SayAgain : List ℕ → Told → Type 0
+SayAgain words told = (told_of words ≡ Some told) × (are_plain words ≡ true)
 
 -- the line of each order says that order
 abbrev pub AreToldAgain : List Site → Type 0
 AreToldAgain [] = Unit {0}
-AreToldAgain (site ∷ sites) = (told_of (order_words site.order) ≡ Some (order site.order)) × AreToldAgain sites
+AreToldAgain (site ∷ sites) = SayAgain (order_words site.order) (order site.order) × AreToldAgain sites
 
 -- the lines of a record say its command and its orders
 pub record IsToldAgain (message : Message) : Type 0 where
-  pub its_command : told_of (command_words message.command) ≡ Some (command message.command)
+  pub its_command : SayAgain (command_words message.command) (command message.command)
   pub its_orders : AreToldAgain message.orders
 
 -- the lines of each record that can be read say the same
