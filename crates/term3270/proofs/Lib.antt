@@ -2,3 +2,5 @@ pub mod Rows
 pub mod Prefixes
 pub mod Answered
 pub mod Unwritten
+pub mod PlainLines
+pub mod Converted

@@ -9,3 +9,4 @@ pub mod Streams
 pub mod Convert
 pub mod Drafts
 pub mod Back
+pub mod Law

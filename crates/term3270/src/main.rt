@@ -7,6 +7,7 @@ mod convert;
 mod drafts;
 mod fault;
 mod input;
+mod law;
 mod lines;
 mod show;
 mod sizes;
