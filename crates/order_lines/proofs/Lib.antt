@@ -4,3 +4,4 @@ pub mod Drafts
 pub mod Plain
 pub mod ToldAgain
 pub mod Spelled
+pub mod Inside

@@ -61,3 +61,8 @@ abbrev pub RecordsAreWrittenAgain : Type 0
 RecordsAreWrittenAgain =
     (mode other : Mode) (cells : ℕ) (bytes : List ℕ) (message : Message) → IsBytes bytes → read_of mode bytes ≡ Ok message
     → cells ≤ limit_of other → AreInside cells message.orders → IsWrittenAgain other cells message
+
+-- and for no other buffer
+abbrev pub OnlyInsideIsWritten : Type 0
+OnlyInsideIsWritten =
+    (mode : Mode) (cells : ℕ) (message : Message) (bytes : List ℕ) → written_of mode cells (draft_of message) ≡ Ok bytes → AreInside cells message.orders

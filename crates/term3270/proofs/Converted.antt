@@ -32,7 +32,8 @@ use Rattle.term3270.specs.Printed.{printed, Refusal}
 use Rattle.term3270.specs.Convert.{lines_or_refusal, lines_after}
 use Rattle.term3270.specs.Drafts.{Said, nothing, comment, words, sized, bad, sized_or_told, text_said, said_of, Drafts, no_drafts, after_said, drafts_after, drafts_in_lines, finished, finished_or}
 use Rattle.term3270.specs.Back.{size_after, bytes_line, bytes_after, printed_back}
-use Rattle.term3270.specs.Law.{AreBytes, SayTheSame, AreTheSame, AllInside, TellsSizes, AreAddressed, ConvertsBack}
+use Rattle.term3270.specs.Law.{AreBytes, SayTheSame, AreTheSame, AllInside, TellsSizes, ConvertsBack}
+use Rattle.term3270.proofs.ToldSizes.{AreAddressed, are_addressed}
 use Rattle.term3270.proofs.PlainLines.{plain_utf8, first_line, no_lines}
 
 -- ---- what is said by the lines
@@ -219,7 +220,8 @@ sizes_taken told geometry records messages (inr (line, is, one, said)) read byte
     (rest.0, rw (front, said) rest.1)
 
 pub converts_back : ConvertsBack
-converts_back told geometry records lines sizes good bytes few done inside short =
+converts_back told geometry records lines sizes bytes few done inside short =
+    let good = are_addressed told geometry sizes in
     let printed = printed_lines records [] 0 lines done in
     let taken = sizes_taken told geometry records printed.0 sizes printed.1 bytes few in
     let written = all_written records printed.0 geometry [] geometry.default 0 printed.1 bytes good good.0 inside in

@@ -3,4 +3,5 @@ pub mod Prefixes
 pub mod Answered
 pub mod Unwritten
 pub mod PlainLines
+pub mod ToldSizes
 pub mod Converted

@@ -5,7 +5,7 @@ use Rattle.hex.specs.Hex.{IsBytes}
 use Rattle.ds_codec.specs.declared.size.Mode.{Mode}
 use Rattle.ds_codec.specs.declared.size.Mode.TheVariants.{Bits14}
 use Rattle.ds_codec.specs.declared.size.Size.{Size}
-use Rattle.ds_codec.specs.Geometry.{Sizes, cells_of, limit_of}
+use Rattle.ds_codec.specs.Geometry.{Sizes, cells_of}
 use Rattle.ds_codec.specs.Record.{Message}
 use Rattle.ds_codec.specs.Reading.{read_of}
 use Rattle.ds_codec.specs.Writing.{orders_in, IsReadAgain}
@@ -47,16 +47,12 @@ TellsSizes told geometry =
     ((told ≡ []) × (geometry ≡ usual_sizes))
     ⊎ ((line : List ℕ) × (told ≡ line ++ codes "\n") × (lines_in told ≡ line ∷ []) × (said_of true line ≡ sized geometry))
 
--- both sizes can be addressed
-abbrev pub AreAddressed : Sizes → Type 0
-AreAddressed geometry = (cells_of geometry.default ≤ limit_of geometry.mode) × (cells_of geometry.alternate ≤ limit_of geometry.mode)
-
 -- The lines to which records are converted, behind a line of sizes or none, are converted back to records
 -- that are read as the same commands and orders: all records that can be read, whose addresses are below
 -- the cells of the size for which they are written, up to the limits of an input.
 abbrev pub ConvertsBack : Type 0
 ConvertsBack =
     (told : List ℕ) (geometry : Sizes) (records : List (List ℕ)) (lines : List ℕ)
-    → TellsSizes told geometry → AreAddressed geometry → AreBytes records → length records ≤ 1000 → lines_after [] 0 records ≡ Ok lines
+    → TellsSizes told geometry → AreBytes records → length records ≤ 1000 → lines_after [] 0 records ≡ Ok lines
     → AllInside geometry geometry.default records → length (told ++ lines) ≤ 16777216
     → (others : List (List ℕ)) × (printed_back (told ++ lines) ≡ printed (flat_map bytes_line others) Done) × AreTheSame geometry.mode records others

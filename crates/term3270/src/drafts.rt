@@ -83,7 +83,12 @@ fn end(mut drafts: Drafts) -> Result<Drafts, Fault>
 }
 
 /// A record begins.
-fn begin(alloc: Global, mut drafts: Drafts, number: usize, command: Command) -> Result<Drafts, Fault>
+fn begin(
+    alloc: Global,
+    mut drafts: Drafts,
+    number: usize,
+    command: Command,
+) -> Result<Drafts, Fault>
     ensures { Gives drafts_seen result (after_command number (drafts_seen drafts) command (drafts_seen drafts).current) }
 {
     if drafts.current.is_some() {

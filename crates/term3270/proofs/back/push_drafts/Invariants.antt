@@ -9,6 +9,6 @@ abbrev pub invariant-loop-index : goal.invariant-loop-index
 invariant-loop-index l =
     record {
       told : bytes_after l.geometry (string_bytes l.out) l.size l.index (map draft_held (drop l.index l.drafts))
-      ≡ bytes_after l.geometry (string_bytes l.fn.out) l.geometry.default 0 (map draft_held l.drafts);
+          ≡ bytes_after l.geometry (string_bytes l.fn.out) l.geometry.default 0 (map draft_held l.drafts);
       good : IsGood l.geometry.mode l.size;
     }
