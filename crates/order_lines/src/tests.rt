@@ -89,7 +89,8 @@ fn each_command_is_read(rt: HostRuntime) -> Result<(), Fail> {
 }
 
 /// Lines that say neither a command nor an order, parted by bars.
-const OTHERS: &str = "| |#|IC | IC|ic|Ic|PT 0|ICPT|NOPE|WSF 00|W|W |W C|W C2C3|W C2 C3|EW  C2|EW C2 |EWA|\
+const OTHERS: &str =
+    "| |#|IC | IC|ic|Ic|PT 0|ICPT|NOPE|WSF 00|W|W |W C|W C2C3|W C2 C3|EW  C2|EW C2 |EWA|\
     EAU 00|RB |rm|TEXT|TEXT |TEXT C|TEXT C1 C2|TEXT  C1|TEXT G1|TEXTC1|SF|SF 40|SF FF|\
     SF 1|SF 020|SF 20 20|SF2020|SFE 42|SFE 42=F|SFE 42=F2F|SFE  42=F2|SFE 42=F2 |\
     SFE 42-F2|SFE42=F2|SFE 42=F2  C0=F0|SBA|SBA |SBA 01|SBA 00|SBA -1|SBA +1|SBA 1 |\
