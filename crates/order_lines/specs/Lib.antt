@@ -2,3 +2,4 @@ pub mod Words
 pub mod Print
 pub mod Told
 pub mod Draft
+pub mod Laws

@@ -2,12 +2,14 @@
 #![tactic(auto)]
 
 mod draft;
+mod law;
 mod owned_order;
 mod print;
 mod told;
 mod words;
 
 pub use draft::Draft;
+pub use law::{line_law, record_law};
 pub use owned_order::OwnedOrder;
 pub use print::{push_bytes, push_hex, push_record};
 pub use told::{Told, read_line};

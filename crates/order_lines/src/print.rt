@@ -122,21 +122,21 @@ fn push_order_line(alloc: Global, out: &mut String, placed: &Placed<'_>) -> Resu
     out.push_str("\n")
 }
 
-fn push_orders(alloc: Global, out: &mut String, record: &Record<'_>) -> Result<(), AllocError>
-    ensures { OnOk result (string_bytes out.new ≡ string_bytes out.old ++ flat_map order_line record.now.orders) }
+fn push_orders(alloc: Global, out: &mut String, message: &Record<'_>) -> Result<(), AllocError>
+    ensures { OnOk result (string_bytes out.new ≡ string_bytes out.old ++ flat_map order_line message.now.orders) }
 {
-    for placed in record.orders() {
+    for placed in message.orders() {
         push_order_line(alloc, out, &placed)?;
     }
     Ok(())
 }
 
 /// The lines of a record: its command, an order a line, and an empty line.
-pub fn push_record(alloc: Global, out: &mut String, record: &Record<'_>) -> Result<(), AllocError>
-    ensures { OnOk result (string_bytes out.new ≡ string_bytes out.old ++ record_lines record.now) }
+pub fn push_record(alloc: Global, out: &mut String, message: &Record<'_>) -> Result<(), AllocError>
+    ensures { OnOk result (string_bytes out.new ≡ string_bytes out.old ++ record_lines message.now) }
 {
-    push_command(out, record.command())?;
+    push_command(out, message.command())?;
     out.push_str("\n")?;
-    push_orders(alloc, out, record)?;
+    push_orders(alloc, out, message)?;
     out.push_str("\n")
 }

@@ -12,3 +12,4 @@ pub mod Streams
 pub mod Convert
 pub mod Drafts
 pub mod Back
+pub mod Law

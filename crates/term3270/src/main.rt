@@ -9,6 +9,7 @@ mod drafts;
 mod fault;
 mod findings;
 mod input;
+mod law;
 mod lines;
 mod show;
 mod sizes;

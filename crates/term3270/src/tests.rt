@@ -1,12 +1,13 @@
-//! `show` over readers and writers in memory, and over ones that fail.
+//! Commands over readers and writers in memory, and over ones that fail.
 
-use crate::back::run_convert_back;
 use crate::convert::run_convert;
 use crate::show::run_show;
 use crate::status::Status;
 use std::io;
 use std::io::{Read, Write};
 use std::test::Fail;
+
+mod back;
 
 const INPUT: &str = "size 2x10\nF5C21D60C11D40131140C61DF0\n";
 
@@ -20,10 +21,10 @@ field 6 attr 30 place 7 length 13
 
 /// Gives one byte a read, and fails at the read of a number.
 #[derive(Drop)]
-struct Slow<'a> {
-    rest: &'a [u8],
-    reads: usize,
-    fails_at: usize,
+pub struct Slow<'a> {
+    pub rest: &'a [u8],
+    pub reads: usize,
+    pub fails_at: usize,
 }
 
 impl Read for Slow<'_> {
@@ -45,11 +46,11 @@ impl Read for Slow<'_> {
 
 /// Takes a few bytes a write, and fails at the write of a number.
 #[derive(Drop)]
-struct Narrow {
-    taken: Vec<u8>,
-    width: usize,
-    writes: usize,
-    fails_at: usize,
+pub struct Narrow {
+    pub taken: Vec<u8>,
+    pub width: usize,
+    pub writes: usize,
+    pub fails_at: usize,
 }
 
 impl Write for Narrow {
@@ -167,24 +168,5 @@ fn converts_a_record(rt: HostRuntime) -> Result<(), Fail> {
         writer.as_slice(),
         b"EW C2\nSF 20\nTEXT C1\nSF 00\nIC\nSBA 6\nSF 30\n\n".as_slice()
     );
-    Ok(())
-}
-
-/// What `convert --back` writes for order lines, and its status.
-fn back(
-    rt: &impl Abort,
-    alloc: Global,
-    lines: &str,
-    status: Status,
-    text: &str,
-) -> Result<(), Fail> {
-    let mut reader = lines.as_bytes();
-    let mut writer = Vec::new(alloc);
-    assert_eq!(rt;
-        run_convert_back(alloc, &mut reader, &mut writer),
-        status,
-        "{lines}"
-    );
-    assert_eq!(rt; writer.as_slice(), text.as_bytes(), "{lines}");
     Ok(())
 }

@@ -5,4 +5,4 @@ use Rattle.order_lines.specs.Print.{order_line}
 use Rattle.order_lines.proofs.print.push_orders.Given as goal
 
 abbrev pub invariant-loop-placed : goal.invariant-loop-placed
-invariant-loop-placed l = string_bytes l.out ++ flat_map order_line l.placed-iterator ≡ string_bytes l.fn.out ++ flat_map order_line l.record.orders
+invariant-loop-placed l = string_bytes l.out ++ flat_map order_line l.placed-iterator ≡ string_bytes l.fn.out ++ flat_map order_line l.message.orders

@@ -1,0 +1,78 @@
+-- Words consist of plain characters: from the space up to the last of ASCII.
+use Rattle.std.proofs.Common.{◌≡◌, ◌<◌, ◌≤◌, ℕ, suc, ◌+◌, ◌/◌, ◌%◌, ◌^◌, Bool, true, false, ◌&&◌, nat_le, nat_lt, ◌==◌, List, [], ◌∷◌, ◌++◌, length, slice_index, Option, Some, None, refl, sym, ap, ◌∙◌, arith}
+use Rattle.std.specs.Fmt.{decimal, digit_glyph}
+use Rattle.std.specs.List.{list_all}
+use Rattle.std.specs.Char.{is_ascii_digit}
+use Rattle.std.specs.Str.{all_ascii_digits}
+use Rattle.std.proofs.lemmas.Bool.{and_parts, eqb-true}
+use Rattle.std.proofs.lemmas.Bool.Decides.{nat_tests}
+use Rattle.std.proofs.lemmas.Fmt.{digits_decimal}
+use Rattle.std.proofs.lemmas.Str.Parse.{numerals_by_value, tells_all_ascii_digits, IsNumeralModel}
+use Rattle.std.specs.Str.Parse.{digits_value}
+use Rattle.std.proofs.lemmas.List.Folds.{list_all-append}
+use Rattle.hex.specs.Hex.{IsBytes, encode_with, encode_upper, upper_digits, hex_digit_value}
+use Rattle.hex.proofs.HexLemmas.{IsDigits-upper_digits}
+use Rattle.ds_codec.specs.Character.{Glyph}
+use Rattle.ds_codec.proofs.Below.{each_below, both_true}
+use Rattle.order_lines.specs.Print.{hex_byte, pair_word, pair_words, character_word}
+use Rattle.order_lines.specs.Laws.{is_plain, are_plain}
+
+pub and_true : (a b : Bool) → a ≡ true → b ≡ true → (a && b) ≡ true
+and_true true b first second = second
+and_true false b first second = absurd cc
+
+pub plain-append : (xs ys : List ℕ) → are_plain xs ≡ true → are_plain ys ≡ true → are_plain (xs ++ ys) ≡ true
+plain-append xs ys first second = list_all-append is_plain xs ys ∙ and_true _ _ first second
+
+plain-digit : (c : ℕ) → is_ascii_digit c ≡ true → is_plain c ≡ true
+plain-digit c h = grind (arith, nat_tests)
+
+plain-digits : (ds : List ℕ) → all_ascii_digits ds ≡ true → are_plain ds ≡ true
+plain-digits [] h = refl
+plain-digits (c ∷ cs) h =
+    let parts = both_true (is_ascii_digit c) (all_ascii_digits cs) h in
+    and_true _ _ (plain-digit c parts.0) (plain-digits cs parts.1)
+
+pub digits_model : IsNumeralModel (λ ds. all_ascii_digits ds ≡ true) (digits_value 10)
+digits_model = numerals_by_value _ tells_all_ascii_digits
+
+pub plain-decimal : (n : ℕ) → n < 2 ^ 64 → are_plain (decimal n) ≡ true
+plain-decimal n small = plain-digits (decimal n) (digits_decimal digits_model n small)
+
+-- the digits of hexadecimal, by trying all sixteen
+abbrev glyph_test : ℕ → Bool
+glyph_test d = is_plain (digit_glyph true d)
+
+pub plain-glyph : (d : ℕ) → d < 16 → is_plain (digit_glyph true d) ≡ true
+plain-glyph d lt = each_below glyph_test 16 d refl lt
+
+abbrev table_test : ℕ → Bool
+table_test d = is_plain (slice_index upper_digits d)
+
+plain-table : (d : ℕ) → d < 16 → is_plain (slice_index upper_digits d) ≡ true
+plain-table d lt = each_below table_test 16 d refl lt
+
+pub plain-hex_byte : (b : ℕ) → b < 256 → are_plain (hex_byte b) ≡ true
+plain-hex_byte b small =
+    let high : b / 16 < 16 = omega arith in
+    let low : b % 16 < 16 = omega arith in
+    rw (plain-glyph (b / 16) high, plain-glyph (b % 16) low) refl
+
+pub plain-encode : (bytes : List ℕ) → IsBytes bytes → are_plain (encode_upper bytes) ≡ true
+unfolding encode_with
+plain-encode [] h = refl
+plain-encode (b ∷ bs) h =
+    let small : b < 256 = h 0 in
+    let high : b / 16 < 16 = omega arith in
+    let low : b % 16 < 16 = omega arith in
+    and_true _ _ (plain-table (b / 16) high) (and_true _ _ (plain-table (b % 16) low) (plain-encode bs (λ i. h (suc i))))
+
+pub plain-pair_word : (kind value : ℕ) → kind < 256 → value < 256 → are_plain (pair_word kind value) ≡ true
+plain-pair_word kind value first second =
+    plain-append (hex_byte kind) (61 ∷ hex_byte value) (plain-hex_byte kind first) (plain-hex_byte value second)
+
+pub plain-pair_words : (pairs : List ℕ) → IsBytes pairs → are_plain (pair_words pairs) ≡ true
+plain-pair_words [] h = refl
+plain-pair_words (kind ∷ []) h = refl
+plain-pair_words (kind ∷ value ∷ pairs) h =
+    plain-append (pair_word kind value) (pair_words pairs) (plain-pair_word kind value (h 0) (h 1)) (plain-pair_words pairs (λ i. h (suc (suc i))))

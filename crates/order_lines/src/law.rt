@@ -1,0 +1,16 @@
+//! Laws on the lines of records.
+
+ghost use Rattle.order_lines.specs.Laws.{LinesTellAgain, RecordsAreWrittenAgain, OnlyInsideIsWritten};
+
+/// The lines that are printed of a record say its command and its orders again, whatever record can be
+/// read. It does nothing: its contract is the law.
+pub fn line_law()
+    ensures { LinesTellAgain }
+{}
+
+/// A record that can be read is written again exactly for the buffers that have all its addresses, and
+/// what is written is read as the same command and orders. It does nothing: its contract is the law.
+pub fn record_law()
+    ensures again { RecordsAreWrittenAgain }
+    ensures only { OnlyInsideIsWritten }
+{}
