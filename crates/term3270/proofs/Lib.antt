@@ -6,3 +6,5 @@ pub mod Unwritten
 pub mod PlainLines
 pub mod ToldSizes
 pub mod Converted
+pub mod Texts
+pub mod TwoInputs

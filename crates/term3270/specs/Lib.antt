@@ -8,6 +8,9 @@ pub mod Show
 pub mod FindingLines
 pub mod Check
 pub mod CheckSeen
+pub mod KeyLines
+pub mod Press
+pub mod PressSeen
 pub mod Streams
 pub mod Convert
 pub mod Drafts

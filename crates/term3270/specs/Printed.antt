@@ -2,7 +2,7 @@
 use Rattle.std.specs.Prelude.{ℕ, List, [], ◌++◌, codes, Result, Ok, Err}
 use Rattle.std.specs.Fmt.{decimal}
 use Rattle.term3270.specs.declared.fault.Fault.{Fault}
-use Rattle.term3270.specs.declared.fault.Fault.TheVariants.{BadLine, TooLong, OutOfMemory}
+use Rattle.term3270.specs.declared.fault.Fault.TheVariants.{BadLine, BadKeyLine, TooLong, OutOfMemory}
 use Rattle.term3270.specs.declared.status.Status.{Status}
 use Rattle.term3270.specs.declared.status.Status.TheVariants.{BadInput}
 
@@ -30,5 +30,6 @@ refusal_line r = codes "record " ++ (decimal r.index ++ (codes " refused at " ++
 
 abbrev pub fault_line : Fault → List ℕ
 fault_line (BadLine number) = codes "line " ++ (decimal number ++ codes " refused\n")
+fault_line (BadKeyLine number) = codes "keys line " ++ (decimal number ++ codes " refused\n")
 fault_line TooLong = codes "input too long\n"
 fault_line OutOfMemory = []

@@ -53,6 +53,7 @@ pub fn faulted(alloc: Global, fault: Fault) -> Result<Answer, AllocError>
 {
     let text = match fault {
         Fault::BadLine(number) => format!(in alloc; "line {number} refused\n")?,
+        Fault::BadKeyLine(number) => format!(in alloc; "keys line {number} refused\n")?,
         Fault::TooLong => String::from_str(alloc, "input too long\n")?,
         Fault::OutOfMemory => return Err(AllocError),
     };

@@ -10,7 +10,10 @@ use std::alloc::{AllocError, AllocFailed};
 pub enum Fault {
     /// The line of this number, counted from 1, is neither a record nor passed over.
     BadLine(usize),
-    /// More than 16,777,216 bytes, more than 1,000 records, or a record of more than 32,768 bytes.
+    /// The line of keys of this number, counted from 1, is neither a key nor passed over.
+    BadKeyLine(usize),
+    /// More than 16,777,216 bytes, more than 1,000 records or 100,000 keys, or a record of more than
+    /// 32,768 bytes.
     TooLong,
     /// A request for memory was refused.
     OutOfMemory,

@@ -118,7 +118,7 @@ fn apply(screen: &mut Screen<PlainCells>, index: usize, bytes: &[u8]) -> Result<
 }
 
 /// Applies the records in turn, up to the first that is refused.
-fn apply_all(screen: &mut Screen<PlainCells>, records: &[Vec<u8>]) -> Result<(), Refusal>
+pub fn apply_all(screen: &mut Screen<PlainCells>, records: &[Vec<u8>]) -> Result<(), Refusal>
     ensures { AppliesAll screen.old screen.new records.now result }
 {
     for (index, bytes) in records.iter().enumerate() {
