@@ -7,6 +7,7 @@ mod check;
 mod convert;
 mod drafts;
 mod fault;
+mod file;
 mod findings;
 mod input;
 mod keys;
@@ -21,6 +22,8 @@ mod stream;
 use crate::back::run_convert_back;
 use crate::check::run_check;
 use crate::convert::run_convert;
+use crate::file::FileAt;
+use crate::press::run_press;
 use crate::show::run_show;
 use crate::status::Status;
 use crate::stream::failure;
@@ -28,7 +31,7 @@ use clap::error::ErrorKind;
 use clap::{Arg, ArgAction, ArgMatches, Command, Error};
 use std::alloc::Global;
 use std::process::ExitCode;
-use std::{env, fs, io};
+use std::{env, io};
 
 /// What the command line asks for.
 fn parsed<'a>(alloc: Global, words: &'a [String]) -> Result<ArgMatches<'a>, Error> {
@@ -48,31 +51,32 @@ fn parsed<'a>(alloc: Global, words: &'a [String]) -> Result<ArgMatches<'a>, Erro
     let check = Command::new(alloc, "check")
         .about("Print what stands against records and a layout, or yes")
         .arg(layout)?;
+    let keys = Arg::new(alloc, "KEYS")
+        .required(true)
+        .help("The file of the keys, one a line");
+    let press = Command::new(alloc, "press")
+        .about("Press keys on the screen that the records leave, and print what is sent")
+        .arg(keys)?;
     Command::new(alloc, "term3270")
         .about("Reads 3270 records in hexadecimal, one a line, from standard input")
         .subcommand(show)?
         .subcommand(convert)?
         .subcommand(check)?
+        .subcommand(press)?
         .try_get_matches_from(words)
 }
 
-/// Runs `check` on a file and the standard streams.
-fn check_file(rt: &HostRuntime, path: &str) -> Status {
-    match fs::open(rt, path) {
-        Ok(mut layout) => { run_check(rt.alloc(), &mut layout, &mut rt.stdin(), &mut rt.stdout()) }
-        Err(error) => failure(&error),
-    }
-}
-
-/// Runs a command on the standard streams.
+/// Runs a command on the standard streams, and on the file that it names.
 fn run(rt: &HostRuntime, matches: &ArgMatches<'_>) -> Status {
     let mut reader = rt.stdin();
     let mut writer = rt.stdout();
-    if let Some(path) = matches
-        .subcommand_matches("check")
-        .and_then(|words| words.get_str("LAYOUT"))
-    {
-        return check_file(rt, path);
+    if let Some(path) = file_named(matches, "check", "LAYOUT") {
+        let mut layout = FileAt::new(rt, path);
+        return run_check(rt.alloc(), &mut layout, &mut reader, &mut writer);
+    }
+    if let Some(path) = file_named(matches, "press", "KEYS") {
+        let mut keys = FileAt::new(rt, path);
+        return run_press(rt.alloc(), &mut reader, &mut keys, &mut writer);
     }
     match matches.subcommand_matches("convert") {
         Some(words) if words.get_flag("back") => {
@@ -81,6 +85,13 @@ fn run(rt: &HostRuntime, matches: &ArgMatches<'_>) -> Status {
         Some(_) => run_convert(rt.alloc(), &mut reader, &mut writer),
         None => run_show(rt.alloc(), &mut reader, &mut writer),
     }
+}
+
+/// The path that a command was given.
+fn file_named<'a>(matches: &ArgMatches<'a>, command: &str, word: &str) -> Option<&'a str> {
+    matches
+        .subcommand_matches(command)
+        .and_then(|words| words.get_str(word))
 }
 
 /// Parses the command line and runs what it asks for.

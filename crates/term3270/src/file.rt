@@ -1,0 +1,36 @@
+//! A file that is opened where it is first read: its place in the order of inputs.
+
+use std::fs;
+use std::fs::File;
+use std::io;
+use std::io::Read;
+
+/// The file of a path, as a reader. That it can't be opened is the error of the first read.
+#[derive(Drop)]
+pub struct FileAt<'a> {
+    rt: &'a HostRuntime,
+    path: &'a str,
+    file: Option<File>,
+}
+
+impl<'a> FileAt<'a> {
+    pub fn new(rt: &'a HostRuntime, path: &'a str) -> FileAt<'a> {
+        FileAt {
+            rt,
+            path,
+            file: None,
+        }
+    }
+}
+
+impl Read for FileAt<'_> {
+    fn read(&mut self, buf: &mut [u8]) -> io::Result<usize> {
+        if self.file.is_none() {
+            self.file = Some(fs::open(self.rt, self.path)?);
+        }
+        match &mut self.file {
+            Some(file) => file.read(buf),
+            None => Ok(0),
+        }
+    }
+}
