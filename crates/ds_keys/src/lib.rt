@@ -18,3 +18,6 @@ pub use keyboard::press;
 pub use laws::{keep_law, one_step, quiet_keep_law, touched_law};
 pub use line::key_of_line;
 pub use pressed::Pressed;
+
+#[cfg(test)]
+mod tests;
