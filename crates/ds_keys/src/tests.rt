@@ -1,6 +1,8 @@
 //! Worked rows, by hand from the rules of the keys.
 
-use crate::{Pressed, keep_law, key_of_line, one_step, press, quiet_keep_law, touched_law};
+use crate::{
+    Pressed, keep_law, key_of_line, one_step, press, quiet_keep_law, sound_law, touched_law,
+};
 use ds_codec::{Geometry, Mode, Record, Size};
 use ds_screen::{Lock, PlainCells, Screen};
 use std::alloc::Global;
@@ -454,5 +456,6 @@ fn laws_do_nothing(rt: HostRuntime) {
     quiet_keep_law();
     touched_law();
     one_step();
+    sound_law();
     let _ = rt;
 }
