@@ -2,7 +2,7 @@
 use Rattle.std.specs.Prelude.{◌≡◌, ℕ, ◌==◌, ◌↔◌, Bool, true, false, List, length}
 use Rattle.ds_codec.specs.declared.cell.Cell.{Cell}
 use Rattle.ds_codec.specs.Attribute.{is_modified}
-use Rattle.ds_screen.specs.Picture.{Picture, cell_at}
+use Rattle.ds_screen.specs.Picture.{Picture, IsSound, cell_at}
 use Rattle.ds_screen.specs.Fields.{is_attribute, is_character, bits_of, is_open}
 use Rattle.ds_screen.specs.Records.{unprotected_unmodified}
 use Rattle.ds_keys.specs.declared.key.Key.{Key}
@@ -43,3 +43,7 @@ abbrev pub HasOneStep : Type 0
 HasOneStep =
     (v after other : Picture) (key : Key) (pressed told : Pressed) → KeyStep v key after pressed → KeyStep v key other told
     → (after ≡ other) × (pressed ≡ told)
+
+-- keys leave a sound picture sound, Clear too
+abbrev pub KeysStaySound : Type 0
+KeysStaySound = (v : Picture) (keys : List Key) → IsSound v → IsSound (after v keys)

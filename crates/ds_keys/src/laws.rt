@@ -1,6 +1,6 @@
 //! Laws on what keys do. These functions do nothing: their contracts are the laws.
 
-ghost use Rattle.ds_keys.specs.Laws.{KeyKeeps, QuietKeysKeep, ModifiedIsTouched, HasOneStep};
+ghost use Rattle.ds_keys.specs.Laws.{KeyKeeps, QuietKeysKeep, ModifiedIsTouched, HasOneStep, KeysStaySound};
 
 /// An accepted key other than Clear changes characters of open cells and the modified data tag of
 /// unprotected attributes, and no other cell.
@@ -22,4 +22,9 @@ pub fn one_step()
 /// touched by the history of keys.
 pub fn touched_law()
     ensures { ModifiedIsTouched }
+{}
+
+/// Keys leave a sound picture sound: its length is its size's, and the cursor is inside.
+pub fn sound_law()
+    ensures { KeysStaySound }
 {}

@@ -15,6 +15,9 @@ mod runs;
 
 pub use key::Key;
 pub use keyboard::press;
-pub use laws::{keep_law, one_step, quiet_keep_law, touched_law};
+pub use laws::{keep_law, one_step, quiet_keep_law, sound_law, touched_law};
 pub use line::key_of_line;
 pub use pressed::Pressed;
+
+#[cfg(test)]
+mod tests;
