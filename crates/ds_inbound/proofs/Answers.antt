@@ -1,8 +1,8 @@
 -- Reading a whole answer: the laws of the inbound grammar.
-use Rattle.std.proofs.Common.{◌≡◌, ℕ, ◌+◌, ◌<◌, ◌≤◌, ◌⊎◌, Bool, true, false, cond, ltb, List, [], ◌∷◌, length, Option, Some, None, Result, Ok, Err, refl, sym, ap, subst, ◌∙◌, arith, inl, inr}
+use Rattle.std.proofs.Common.{◌≡◌, ℕ, ◌+◌, ◌<◌, true, false, cond, List, [], ◌∷◌, length, Option, Some, None, Result, Ok, Err, refl, sym, ap, subst, ◌∙◌, arith, inl, inr}
 use Rattle.std.specs.Prelude.{IfOk, IfErr}
 use Rattle.ds_codec.specs.declared.size.Mode.{Mode}
-use Rattle.ds_codec.specs.Address.{SpellsAddress, address_at}
+use Rattle.ds_codec.specs.Address.{SpellsAddress}
 use Rattle.ds_codec.specs.Aid.{is_aid}
 use Rattle.ds_codec.specs.Character.{Glyph}
 use Rattle.ds_codec.specs.Reading.{◌>>=◌}
@@ -11,8 +11,8 @@ use Rattle.ds_inbound.specs.declared.refused.Refused.{Refused}
 use Rattle.ds_inbound.specs.declared.refused.Why.{Why}
 use Rattle.ds_inbound.specs.declared.refused.Why.TheVariants.{Empty, UnknownAid, Truncated, BadAddress, BadCharacter, Null}
 use Rattle.ds_inbound.specs.Answer.{Sent, Answer, is_short_aid, short_answer}
-use Rattle.ds_inbound.specs.Inbound.{IsAddressThen, IsTailThen, SpellsAfter, SpellsInbound, HasOneAnswer, SaysOnly, IsBadAddress, HasFault, FaultsAt, IsCut, IsLost, IsRefusedAt}
-use Rattle.ds_inbound.specs.Reading.{inside, placed, Tail, tail_from, long_of, answer_after, read_of}
+use Rattle.ds_inbound.specs.Inbound.{SpellsAfter, SpellsInbound, HasOneAnswer, SaysOnly, FaultsAt, IsCut, IsLost, IsRefusedAt}
+use Rattle.ds_inbound.specs.Reading.{Tail, long_of, answer_after, read_of}
 use Rattle.ds_inbound.proofs.Fronts.{AddressSays, address_says, inside_again, outside_again}
 use Rattle.ds_inbound.proofs.Walk.{WalkSays, walk, tail_again, tail_refused}
 

@@ -1,12 +1,12 @@
 -- The item at the front of an answer's bytes: a character, or the beginning of a field.
-use Rattle.std.proofs.Common.{◌≡◌, ◌≢◌, ℕ, zero, suc, ◌+◌, ◌-◌, ◌<◌, ◌≤◌, ◌⊎◌, Bool, true, false, cond, not, eqb, ltb, ◌&&◌, List, [], ◌∷◌, length, drop, Option, Some, None, Result, Ok, Err, refl, sym, ap, subst, ◌∙◌, arith, inl, inr}
+use Rattle.std.proofs.Common.{◌≡◌, ◌≢◌, ℕ, ◌<◌, ◌≤◌, true, false, cond, eqb, ltb, List, [], ◌∷◌, length, drop, Some, None, Result, Ok, Err, refl, sym, ap, subst, ◌∙◌, arith, inl, inr}
 use Rattle.std.specs.Prelude.{IfOk}
 use Rattle.std.proofs.lemmas.Bool.{eqb-true, eqb-false, ltb-true, ltb-false, lt-ltb, le-ltb}
 use Rattle.ds_codec.specs.declared.size.Mode.{Mode}
-use Rattle.ds_codec.specs.Address.{SpellsAddress, IsReserved, address_at}
-use Rattle.ds_codec.specs.Character.{Glyph, glyph, is_text, is_graphic}
+use Rattle.ds_codec.specs.Address.{SpellsAddress, address_at}
+use Rattle.ds_codec.specs.Character.{Glyph, is_text, is_graphic}
 use Rattle.ds_codec.specs.Reading.{◌>>=◌}
-use Rattle.ds_codec.proofs.Steps.{chosen, ok_is, err_is, bind_ok, bind_err}
+use Rattle.ds_codec.proofs.Steps.{chosen, err_is}
 use Rattle.ds_codec.proofs.Addresses.{address_again, reserved_again, is_reserved, address_spelled}
 use Rattle.ds_inbound.specs.declared.refused.Why.{Why}
 use Rattle.ds_inbound.specs.declared.refused.Why.TheVariants.{Empty, UnknownAid, Truncated, BadAddress, BadCharacter, Null}
@@ -15,7 +15,7 @@ use Rattle.ds_inbound.specs.declared.item.Item.TheVariants as items
 use Rattle.ds_inbound.specs.Inbound.{IsGlyphThen, IsAddressThen, IsBadAddress, HasFault}
 use Rattle.ds_inbound.specs.Characters.{pair_at, plain_at, front_character}
 use Rattle.ds_inbound.specs.Reading.{inside, as_item, place_at, front}
-use Rattle.ds_inbound.proofs.Glyphs.{size_of, text_is_no, glyph_again, TakesGlyph, glyph_taken}
+use Rattle.ds_inbound.proofs.Glyphs.{size_of, glyph_again, TakesGlyph, glyph_taken}
 
 -- ---- addresses of the buffer
 

@@ -1,6 +1,6 @@
 -- Characters at the front of an answer's bytes.
-use Rattle.std.proofs.Common.{◌≡◌, ℕ, zero, suc, ◌+◌, ◌-◌, ◌<◌, ◌≤◌, Bool, true, false, not, eqb, cond, ◌&&◌, List, [], ◌∷◌, ◌++◌, length, take, drop, Result, Ok, Err, refl, sym, ap, subst, ◌∙◌, arith, append_assoc, length-append, length-drop, inl, inr}
-use Rattle.std.specs.List.{flat_map, list_all}
+use Rattle.std.proofs.Common.{◌≡◌, ℕ, zero, suc, ◌+◌, ◌-◌, ◌<◌, ◌≤◌, Bool, true, false, not, eqb, cond, ◌&&◌, List, [], ◌∷◌, ◌++◌, length, drop, Ok, Err, refl, sym, ap, subst, ◌∙◌, arith, append_assoc, length-append, length-drop, inl, inr}
+use Rattle.std.specs.List.{list_all}
 use Rattle.std.proofs.lemmas.Bool.{eqb-true}
 use Rattle.std.proofs.lemmas.List.{append-nil}
 use Rattle.std.proofs.lemmas.List.Concat.{flat_map-cons}
@@ -11,7 +11,7 @@ use Rattle.ds_codec.proofs.Steps.{chosen, ok_is}
 use Rattle.ds_inbound.specs.declared.refused.Why.{Why}
 use Rattle.ds_inbound.specs.Answer.{written_characters}
 use Rattle.ds_inbound.specs.Inbound.{is_sendable, IsGlyphThen, AreGlyphsThen}
-use Rattle.ds_inbound.specs.Characters.{pair_at, plain_at, front_character, glyphs_before, characters_from, characters_in}
+use Rattle.ds_inbound.specs.Characters.{pair_at, plain_at, front_character, characters_from, characters_in}
 
 -- ---- one character
 

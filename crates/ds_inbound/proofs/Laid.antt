@@ -1,11 +1,11 @@
 -- The parts of an answer are slices of its bytes.
-use Rattle.std.proofs.Common.{◌≡◌, ℕ, ◌<◌, Bool, true, List, [], ◌∷◌, ◌++◌, length, take, drop, Option, Some, None, Result, Ok, Err, refl, sym, ap, subst, ◌∙◌}
+use Rattle.std.proofs.Common.{◌≡◌, ℕ, List, [], ◌∷◌, ◌++◌, length, take, drop, Option, Some, None, Result, Ok, Err, refl, sym, ap, subst, ◌∙◌}
 use Rattle.std.specs.Prelude.{IfOk}
 use Rattle.std.proofs.lemmas.List.{take_at, drop_at}
 use Rattle.ds_codec.specs.declared.size.Mode.{Mode}
 use Rattle.ds_codec.specs.Character.{Glyph}
 use Rattle.ds_inbound.specs.declared.refused.Refused.{Refused}
-use Rattle.ds_inbound.specs.Answer.{Sent, Answer, is_short_aid, written_characters}
+use Rattle.ds_inbound.specs.Answer.{Sent, Answer, written_characters}
 use Rattle.ds_inbound.specs.Inbound.{AreFieldsThen, SpellsAfter, SpellsInbound, LieFrom, IsLaidOut}
 use Rattle.ds_inbound.proofs.Glyphs.{written_then}
 

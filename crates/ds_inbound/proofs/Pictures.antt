@@ -1,5 +1,5 @@
 -- A picture whose characters exist can send its answer.
-use Rattle.std.proofs.Common.{◌≡◌, ℕ, zero, suc, ◌+◌, ◌-◌, ◌<◌, ◌≤◌, Bool, true, false, cond, not, ltb, ◌&&◌, List, [], ◌∷◌, length, map, get_or, Ok, refl, sym, ap, subst, ◌∙◌, arith, inl, inr}
+use Rattle.std.proofs.Common.{◌≡◌, ℕ, zero, suc, ◌+◌, ◌-◌, ◌<◌, ◌≤◌, Bool, true, false, cond, not, ◌&&◌, List, [], ◌∷◌, length, map, refl, arith, inl, inr}
 use Rattle.std.specs.List.{range_with_len, filter, list_all}
 use Rattle.std.proofs.lemmas.Bool.{lt-ltb, cases_Bool}
 use Rattle.ds_codec.specs.declared.cell.Cell.{Cell}
@@ -10,9 +10,8 @@ use Rattle.ds_screen.specs.Ring.{ring_on}
 use Rattle.ds_screen.specs.Picture.{Picture, cell_at, blank, IsSound}
 use Rattle.ds_screen.specs.Fields.{is_attribute, span_of, attributes_from}
 use Rattle.ds_screen.proofs.RingLaws.{on_lt}
-use Rattle.ds_inbound.specs.Answer.{Sent, is_short_aid, is_null, character_of, characters_at, is_modified_at, field_sent, fields_sent, lead_sent, answer_of, bytes_sent, is_real, IsReal}
-use Rattle.ds_inbound.specs.Inbound.{is_sendable, SaysOnly}
-use Rattle.ds_inbound.specs.Reading.{read_of}
+use Rattle.ds_inbound.specs.Answer.{is_short_aid, is_null, character_of, characters_at, is_modified_at, field_sent, fields_sent, lead_sent, answer_of, bytes_sent, is_real, IsReal}
+use Rattle.ds_inbound.specs.Inbound.{is_sendable}
 use Rattle.ds_inbound.specs.Sending.{is_field_sendable, IsSendable}
 use Rattle.ds_inbound.specs.Laws.{AnswersSayThemselves, AnswersAreReadAgain}
 use Rattle.ds_inbound.proofs.Answers.{read_again, says_only}

@@ -1,5 +1,5 @@
 -- What is sent, cell after cell and field after field.
-use Rattle.std.proofs.Common.{◌≡◌, ℕ, zero, suc, ◌+◌, ◌-◌, ◌<◌, ◌≤◌, ◌⊎◌, Bool, true, false, cond, not, ltb, ◌&&◌, List, [], ◌∷◌, ◌++◌, length, map, take, get_or, Option, Some, None, refl, sym, ap, subst, ◌∙◌, arith, append_assoc, inl, inr}
+use Rattle.std.proofs.Common.{◌≡◌, ℕ, zero, suc, ◌+◌, ◌-◌, ◌<◌, ◌≤◌, Bool, true, false, cond, not, List, [], ◌∷◌, ◌++◌, length, map, take, refl, sym, ap, ◌∙◌, arith, append_assoc}
 use Rattle.std.specs.List.{range_with_len, filter, flat_map, list_all}
 use Rattle.std.proofs.lemmas.Bool.{cond-true, cond-false, lt-ltb}
 use Rattle.std.proofs.lemmas.List.{map-append, append-nil, take_more, take_all}
@@ -13,13 +13,12 @@ use Rattle.ds_codec.specs.declared.cell.Cell.{Cell}
 use Rattle.ds_codec.specs.declared.cell.Cell.TheVariants.{Field, Char}
 use Rattle.ds_codec.specs.Address.{written_address}
 use Rattle.ds_codec.specs.Attribute.{is_modified}
-use Rattle.ds_codec.specs.Character.{Glyph, glyph}
-use Rattle.ds_codec.specs.Geometry.{limit_of, IsGood, cells_of}
+use Rattle.ds_codec.specs.Character.{Glyph}
 use Rattle.ds_codec.specs.Writing.{written_character}
 use Rattle.ds_screen.specs.declared.field.FieldAt.{FieldAt}
 use Rattle.ds_screen.specs.Ring.{ring_on}
-use Rattle.ds_screen.specs.Picture.{Picture, cell_at, IsSound}
-use Rattle.ds_screen.specs.Fields.{is_attribute, bits_of, span_of, field_at, attributes_from, fields_from, fields_of}
+use Rattle.ds_screen.specs.Picture.{cell_at}
+use Rattle.ds_screen.specs.Fields.{is_attribute, span_of, field_at, attributes_from, fields_of}
 use Rattle.ds_screen.proofs.RingLaws.{on_lt}
 use Rattle.ds_inbound.specs.Answer.{Sent, is_null, character_of, characters_at, is_modified_at, field_sent, fields_sent, lead_sent, written_characters, written_field, written_fields, written_cell}
 use Rattle.ds_inbound.specs.Inbound.{is_sendable}

@@ -1,12 +1,12 @@
 -- A field is the run of cells from the place behind its attribute on.
-use Rattle.std.proofs.Common.{◌≡◌, ◌≢◌, ℕ, zero, suc, ◌+◌, ◌-◌, ◌<◌, ◌≤◌, ◌&&◌, Bool, true, false, not, List, [], ◌∷◌, length, map, Some, None, refl, sym, ◌∙◌, ap, arith, inl, inr}
+use Rattle.std.proofs.Common.{◌≡◌, ◌≢◌, ℕ, zero, suc, ◌+◌, ◌-◌, ◌<◌, ◌≤◌, ◌&&◌, Bool, true, false, not, List, ◌∷◌, length, map, Some, refl, sym, ◌∙◌, ap, arith, inl, inr}
 use Rattle.std.specs.List.{range_with_len, filter}
 use Rattle.std.proofs.lemmas.Bool.{cond-true, cond-false, cases_lt, false≢true, eq-eqb, ne_eqb}
 use Rattle.ds_codec.specs.declared.cell.Cell.{Cell}
 use Rattle.ds_screen.specs.Ring.{ring_on, ring_back}
 use Rattle.ds_screen.specs.Picture.{cell_at}
 use Rattle.ds_screen.specs.Fields.{is_attribute, is_character, attribute_before, is_at, governs, span_of}
-use Rattle.ds_screen.proofs.RingLaws.{on_cases, back_cases, on_lt, IsFound, search_cases}
+use Rattle.ds_screen.proofs.RingLaws.{on_cases, back_cases, IsFound, search_cases}
 use Rattle.ds_screen.proofs.FieldLaws.{before_found}
 use Rattle.ds_screen.proofs.SpanLaws.{IsNext, length-span_of}
 use Rattle.ds_inbound.specs.Sending.{places_on}

@@ -1,6 +1,5 @@
 -- A tail is a run of characters, and fields behind it.
-use Rattle.std.proofs.Common.{◌≡◌, ℕ, zero, suc, ◌+◌, ◌-◌, ◌<◌, ◌≤◌, Bool, true, false, List, [], ◌∷◌, ◌++◌, length, take, drop, Option, Some, None, Result, Ok, Err, refl, sym, ap, subst, ◌∙◌, arith}
-use Rattle.std.specs.Prelude.{IsOk}
+use Rattle.std.proofs.Common.{◌≡◌, ℕ, ◌+◌, ◌<◌, true, List, [], ◌∷◌, ◌++◌, length, take, drop, Option, Some, None, Result, Ok, Err, refl, sym, ap, subst, ◌∙◌, arith}
 use Rattle.std.proofs.lemmas.List.{append-nil, take_at, drop_at}
 use Rattle.ds_codec.specs.declared.size.Mode.{Mode}
 use Rattle.ds_codec.specs.Character.{Glyph}
@@ -10,13 +9,13 @@ use Rattle.ds_inbound.specs.declared.refused.Refused.{Refused}
 use Rattle.ds_inbound.specs.declared.refused.Why.{Why}
 use Rattle.ds_inbound.specs.declared.item.Item.{Item}
 use Rattle.ds_inbound.specs.declared.item.Item.TheVariants as items
-use Rattle.ds_inbound.specs.Answer.{Sent, Answer, is_short_aid, written_characters}
+use Rattle.ds_inbound.specs.Answer.{Sent, is_short_aid, written_characters}
 use Rattle.ds_inbound.specs.Inbound.{AreGlyphsThen, AreFieldsThen, IsTailThen}
 use Rattle.ds_codec.specs.Character.{is_text}
 use Rattle.ds_inbound.specs.Characters.{front_character, characters_in}
-use Rattle.ds_inbound.specs.Reading.{front, Tail, no_tail, before, tail_from, fields_of_tail, fields_in, AreFields, refusal_in, long_body, answer_after}
+use Rattle.ds_inbound.specs.Reading.{front, Tail, before, tail_from, fields_of_tail, fields_in, AreFields, refusal_in, long_body, answer_after}
 use Rattle.ds_inbound.proofs.Glyphs.{characters_again, written_then, no_characters, sendable_then, characters_written}
-use Rattle.ds_inbound.proofs.Fronts.{FrontSays, front_says, front_some}
+use Rattle.ds_inbound.proofs.Fronts.{front_some}
 use Rattle.ds_inbound.proofs.Walk.{then_tail, step, stop, WalkSays, walk, tail_again}
 
 -- ---- a run of characters, and what is behind it

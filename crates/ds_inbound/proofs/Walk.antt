@@ -1,6 +1,5 @@
 -- Going over the characters and fields of an answer.
-use Rattle.std.proofs.Common.{◌≡◌, ℕ, zero, suc, ◌+◌, ◌-◌, ◌<◌, ◌≤◌, Bool, true, false, List, [], ◌∷◌, ◌++◌, length, drop, Option, Some, None, Result, Ok, Err, refl, sym, ap, subst, ◌∙◌, arith, append_assoc, length-append, length-drop}
-use Rattle.std.specs.Prelude.{IsOk}
+use Rattle.std.proofs.Common.{◌≡◌, ℕ, zero, suc, ◌+◌, ◌-◌, ◌<◌, ◌≤◌, Bool, true, false, List, [], ◌∷◌, ◌++◌, length, drop, Result, Ok, Err, refl, ap, ◌∙◌, arith, length-drop}
 use Rattle.std.proofs.lemmas.List.{append-nil}
 use Rattle.ds_codec.specs.declared.size.Mode.{Mode}
 use Rattle.ds_codec.specs.Character.{Glyph, glyph}
@@ -10,9 +9,8 @@ use Rattle.ds_inbound.specs.declared.refused.Why.{Why}
 use Rattle.ds_inbound.specs.declared.item.Item.{Item}
 use Rattle.ds_inbound.specs.declared.item.Item.TheVariants as items
 use Rattle.ds_inbound.specs.Answer.{Sent}
-use Rattle.ds_inbound.specs.Inbound.{IsGlyphThen, AreGlyphsThen, IsAddressThen, IsFieldThen, AreFieldsThen, IsTailThen, HasFault}
-use Rattle.ds_inbound.specs.Characters.{front_character}
-use Rattle.ds_inbound.specs.Reading.{front, Tail, no_tail, before, tail_from, fields_of_tail, fields_in, refusal_in}
+use Rattle.ds_inbound.specs.Inbound.{IsGlyphThen, AreGlyphsThen, IsAddressThen, AreFieldsThen, IsTailThen, HasFault}
+use Rattle.ds_inbound.specs.Reading.{front, Tail, no_tail, before, tail_from}
 use Rattle.ds_inbound.proofs.Glyphs.{size_of, TakesGlyph}
 use Rattle.ds_inbound.proofs.Fronts.{TakesPlace, FrontSays, front_says, front_of_glyph, front_of_place, front_refused, fault_some}
 

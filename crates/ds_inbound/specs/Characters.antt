@@ -1,5 +1,5 @@
 -- Reading characters from left to right.
-use Rattle.std.specs.Prelude.{ℕ, zero, suc, ◌-◌, Bool, true, false, ◌==◌, List, [], ◌∷◌, Result, Ok, Err, if◌then◌else◌}
+use Rattle.std.specs.Prelude.{ℕ, zero, suc, ◌-◌, true, false, ◌==◌, List, [], ◌∷◌, Result, Ok, Err, if◌then◌else◌}
 use Rattle.ds_codec.specs.declared.order.OrderCode.TheVariants.{Ge}
 use Rattle.ds_codec.specs.Character.{Glyph, glyph, is_text, is_graphic}
 use Rattle.ds_codec.specs.Order.{code_of}

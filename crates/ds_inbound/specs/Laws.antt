@@ -1,5 +1,5 @@
 -- What is sent is read again.
-use Rattle.std.specs.Prelude.{◌≡◌, ℕ, Bool, length, Ok}
+use Rattle.std.specs.Prelude.{◌≡◌, Bool, length, Ok}
 use Rattle.ds_screen.specs.Picture.{Picture, IsSound}
 use Rattle.ds_inbound.specs.Answer.{answer_of, bytes_sent, IsReal}
 use Rattle.ds_inbound.specs.Inbound.{SaysOnly}

@@ -1,4 +1,4 @@
-use Rattle.std.proofs.Common.{sym, ◌∙◌, arith, length-drop}
+use Rattle.std.proofs.Common.{sym, arith, length-drop}
 use Rattle.std.proofs.lemmas.List.{take_rest}
 use Rattle.ds_inbound.proofs.Glyphs.{run_after, run_none}
 use Rattle.ds_inbound.proofs.front.run_length.Goals as goal

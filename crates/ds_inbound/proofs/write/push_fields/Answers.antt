@@ -1,10 +1,10 @@
-use Rattle.std.proofs.Common.{◌≡◌, ◌++◌, ◌∷◌, [], true, length, List, sym, ◌∙◌, ap, subst}
+use Rattle.std.proofs.Common.{◌≡◌, ◌++◌, ◌∷◌, [], length, sym, ◌∙◌, ap, subst}
 use Rattle.std.specs.List.{list_all}
 use Rattle.std.proofs.lemmas.List.{append-nil}
 use Rattle.ds_screen.specs.Fields.{fields_of}
 use Rattle.ds_screen.specs.declared.field.FieldAt.{FieldAt}
 use Rattle.ds_inbound.specs.Answer.{field_sent, written_fields}
-use Rattle.ds_inbound.specs.Sending.{is_field_sendable, IsFieldOf}
+use Rattle.ds_inbound.specs.Sending.{is_field_sendable}
 use Rattle.ds_inbound.proofs.Sent.{sent_among, AreFieldsOf, sent_all, all_fields, sent_more, sent_less, sent_none, fields_bytes, fields_good}
 use Rattle.ds_inbound.proofs.write.push_fields.Goals as goal
 

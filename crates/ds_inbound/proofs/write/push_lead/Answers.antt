@@ -1,8 +1,8 @@
-use Rattle.std.proofs.Common.{◌≡◌, ℕ, ◌++◌, true, false, length, sym, ◌∙◌, ap}
+use Rattle.std.proofs.Common.{◌≡◌, ◌++◌, false, length, sym, ◌∙◌, ap}
 use Rattle.std.specs.List.{list_all}
 use Rattle.ds_codec.specs.Geometry.{cells_of}
 use Rattle.ds_screen.specs.Fields.{attributes_from}
-use Rattle.ds_inbound.specs.Answer.{characters_at, lead_sent, written_characters}
+use Rattle.ds_inbound.specs.Answer.{characters_at, written_characters}
 use Rattle.ds_inbound.specs.Inbound.{is_sendable}
 use Rattle.ds_inbound.specs.Sending.{places_on, has_places}
 use Rattle.ds_inbound.proofs.Sent.{lead_is}

@@ -1,4 +1,4 @@
-use Rattle.std.proofs.Common.{◌≡◌, ℕ, ◌∷◌, [], ◌++◌, ◌&&◌, true, false, not, length, sym, ◌∙◌, ap}
+use Rattle.std.proofs.Common.{◌≡◌, ◌∷◌, [], ◌++◌, ◌&&◌, true, false, not, length, sym, ◌∙◌, ap}
 use Rattle.ds_codec.specs.Address.{written_address}
 use Rattle.ds_codec.specs.Aid.{is_aid}
 use Rattle.ds_inbound.specs.Answer.{is_short_aid}
