@@ -1,6 +1,7 @@
 //! Worked rows, by hand from the rules of the findings.
 
 mod answers;
+mod large;
 mod openings;
 mod pictures;
 

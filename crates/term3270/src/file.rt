@@ -1,9 +1,8 @@
 //! A file that is opened where it is first read: its place in the order of inputs.
 
-use std::fs;
 use std::fs::File;
-use std::io;
 use std::io::Read;
+use std::{fs, io};
 
 /// The file of a path, as a reader. That it can't be opened is the error of the first read.
 #[derive(Drop)]

@@ -35,11 +35,7 @@ enum Told {
 }
 
 /// The bytes that are sent, as a line.
-fn push_sent(
-    alloc: Global,
-    out: &mut String,
-    screen: &Screen<PlainCells>,
-) -> Result<(), AllocError>
+fn push_sent(alloc: Global, out: &mut String, screen: &Screen<PlainCells>) -> Result<(), AllocError>
     ensures { OnOk result (string_bytes out.new ≡ string_bytes out.old
         ++ (codes "sent " ++ (encode_upper (bytes_sent screen.now false) ++ codes "\n"))) }
 {

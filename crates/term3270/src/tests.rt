@@ -8,6 +8,7 @@ use std::io::{Read, Write};
 use std::test::Fail;
 
 mod back;
+mod two_inputs;
 
 const INPUT: &str = "size 2x10\nF5C21D60C11D40131140C61DF0\n";
 
