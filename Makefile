@@ -6,7 +6,7 @@
 RT := $(shell command -v rt 2>/dev/null)
 BUILT := crates/term3270/out/term3270
 WIRE := crates/wire_bench/out/wire_bench
-SOURCES := $(shell find crates/ds_codec crates/ds_screen crates/order_lines crates/term3270 -path '*/out' -prune -o -name '*.rt' -print -o -name '*.antt' -print)
+SOURCES := $(shell find crates -path '*/out' -prune -o -name '*.rt' -print -o -name '*.antt' -print)
 need_toolchain = $(if $(RT),,$(error missing: the Rattle toolchain's command 'rt' on the PATH))
 
 .PHONY: run build test cases bench clean

@@ -7,19 +7,10 @@ use std::{fs, io};
 /// The file of a path, as a reader. That it can't be opened is the error of the first read.
 #[derive(Drop)]
 pub struct FileAt<'a> {
-    rt: &'a HostRuntime,
-    path: &'a str,
-    file: Option<File>,
-}
-
-impl<'a> FileAt<'a> {
-    pub fn new(rt: &'a HostRuntime, path: &'a str) -> FileAt<'a> {
-        FileAt {
-            rt,
-            path,
-            file: None,
-        }
-    }
+    pub rt: &'a HostRuntime,
+    pub path: &'a str,
+    /// The file, once it is open.
+    pub file: Option<File>,
 }
 
 impl Read for FileAt<'_> {

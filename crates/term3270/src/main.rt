@@ -71,11 +71,11 @@ fn run(rt: &HostRuntime, matches: &ArgMatches<'_>) -> Status {
     let mut reader = rt.stdin();
     let mut writer = rt.stdout();
     if let Some(path) = file_named(matches, "check", "LAYOUT") {
-        let mut layout = FileAt::new(rt, path);
+        let mut layout = file_at(rt, path);
         return run_check(rt.alloc(), &mut layout, &mut reader, &mut writer);
     }
     if let Some(path) = file_named(matches, "press", "KEYS") {
-        let mut keys = FileAt::new(rt, path);
+        let mut keys = file_at(rt, path);
         return run_press(rt.alloc(), &mut reader, &mut keys, &mut writer);
     }
     match matches.subcommand_matches("convert") {
@@ -84,6 +84,15 @@ fn run(rt: &HostRuntime, matches: &ArgMatches<'_>) -> Status {
         }
         Some(_) => run_convert(rt.alloc(), &mut reader, &mut writer),
         None => run_show(rt.alloc(), &mut reader, &mut writer),
+    }
+}
+
+/// The file of a path, not yet opened.
+fn file_at<'a>(rt: &'a HostRuntime, path: &'a str) -> FileAt<'a> {
+    FileAt {
+        rt,
+        path,
+        file: None,
     }
 }
 
