@@ -2,3 +2,4 @@ pub mod HasField
 pub mod EntryPlaces
 pub mod OpenLaw
 pub mod BoundLaw
+pub mod BindLaw

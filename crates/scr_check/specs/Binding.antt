@@ -15,7 +15,7 @@ pub record Pair : Type 0 where
   pub characters : List Glyph
 
 abbrev pub is_bound : ℕ → List Pair → Bool
-is_bound index bound = list_any (λ pair. pair.entry == index) bound
+is_bound index bound = list_any (λ pair. index == pair.entry) bound
 
 -- the entry that begins at a place, with its index
 abbrev pub at_index : {A : Type 0} → Result A BindFault → (Declared → Result A BindFault) → Option Declared → Result A BindFault

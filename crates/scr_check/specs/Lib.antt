@@ -3,3 +3,4 @@ pub mod Findings
 pub mod Seen
 pub mod Binding
 pub mod Bound
+pub mod Bindable

@@ -78,9 +78,9 @@ impl<T: Drop> From<AllocFailed<T>> for BindError {
 }
 
 fn has_entry(index: usize, bound: &[Bound<'_>]) -> bool
-    ensures { result ≡ list_any (λ pair. pair.entry == index) bound.now }
+    ensures { result ≡ list_any (λ pair. index == pair.entry) bound.now }
 {
-    bound.iter().any(|pair| pair.entry == index)
+    bound.iter().any(|pair| index == pair.entry)
 }
 
 /// Whether an entry has its field already.

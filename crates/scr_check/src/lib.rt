@@ -4,6 +4,7 @@
 mod binding;
 mod fields;
 mod finding;
+mod laws;
 mod opening;
 mod places;
 mod ring;
@@ -11,6 +12,7 @@ mod verdict;
 
 pub use binding::{BindError, BindFault, Bound, bind};
 pub use finding::{Demo, Finding, Overlong, Refusal};
+pub use laws::bind_law;
 pub use verdict::{Verdict, check};
 
 #[cfg(test)]

@@ -1,10 +1,9 @@
-use Rattle.std.proofs.Common.{◌≡◌, ◌<◌, ℕ, Bool, not, true, false, length, get_or, set, take, List, Option, Some, None, sym, ◌∙◌, ap, subst, arith, All, length-set}
+use Rattle.std.proofs.Common.{◌≡◌, ◌<◌, ℕ, not, true, false, length, get_or, set, List, Option, Some, None, sym, ◌∙◌, ap, subst, arith, All, length-set}
 use Rattle.std.specs.Option.{is_some}
 use Rattle.std.proofs.lemmas.List.{get_or_default}
 use Rattle.std.proofs.lemmas.List.Elements.{All-get_or}
 use Rattle.ds_codec.specs.Geometry.{cells_of}
 use Rattle.scr_layout.specs.Entry.{Declared}
-use Rattle.scr_check.specs.Findings.{entry_at}
 use Rattle.scr_check.proofs.EntryPlaces.{places_kept, places_set}
 use Rattle.scr_check.proofs.places.entries_by_place.Goals as goal
 use Rattle.scr_check.proofs.places.entries_by_place.Goals.{then-is_none, else-is_none}
