@@ -1,16 +1,15 @@
 -- The first flaw of the orders of a record.
-use Rattle.std.proofs.Common.{◌≡◌, ◌≤◌, ◌<◌, ℕ, zero, suc, true, false, List, [], ◌∷◌, length, Option, Some, None, Result, Ok, Err, refl, sym, ◌∙◌, arith, inl, inr}
+use Rattle.std.proofs.Common.{◌≡◌, ◌<◌, ℕ, zero, suc, List, length, Some, None, Result, Ok, Err, refl, arith, inl, inr}
 use Rattle.std.specs.Prelude.{IfOk, IfErr, OnOk}
 use Rattle.std.specs.Global.{Vec}
 use Rattle.std.proofs.lemmas.Bool.{cases_lt}
 use Rattle.std.proofs.lemmas.List.{get_or_past}
 use Rattle.ds_codec.specs.declared.size.Mode.{Mode}
-use Rattle.ds_codec.specs.declared.command.Command.{Command}
 use Rattle.ds_codec.specs.declared.write.Unwritable.{Unwritable}
 use Rattle.ds_codec.specs.declared.write.Unwritable.TheVariants.{AddressOutside, BadText, BadPairs, BadCode, NotAllowed, OutOfMemory}
 use Rattle.ds_codec.specs.Order.{Item, insert_cursor}
-use Rattle.ds_codec.specs.Writing.{item_at, flaw_at, HaveNoFlaw, IsFirstFlaw, IsWritable, IsUnwritable, written_record}
-use Rattle.order_lines.specs.Draft.{Draft, first_flaw, unwritable_of, written_of, WritesAs}
+use Rattle.ds_codec.specs.Writing.{item_at, flaw_at, IsFirstFlaw, IsWritable, IsUnwritable, written_record}
+use Rattle.order_lines.specs.Draft.{Draft, first_flaw, written_of, WritesAs}
 
 -- no order before this one has a flaw
 pub none_before : (cells : ℕ) (orders : List Item) (n : ℕ) → ((j : ℕ) → j < n → flaw_at cells orders j ≡ None) → first_flaw cells orders n ≡ None

@@ -1,15 +1,12 @@
 -- Only records whose addresses are inside are written.
-use Rattle.std.proofs.Common.{◌≡◌, ◌<◌, ℕ, zero, suc, Bool, true, false, cond, ltb, ◌&&◌, List, [], ◌∷◌, length, map, Option, Some, None, Ok, Err, refl, arith, inl, inr}
-use Rattle.std.specs.Prelude.{is_none}
+use Rattle.std.proofs.Common.{◌≡◌, ◌<◌, ℕ, zero, suc, Bool, true, false, cond, ltb, List, [], ◌∷◌, length, map, Option, Some, None, Ok, refl, arith, inl, inr}
 use Rattle.std.proofs.lemmas.Bool.{cases_lt, ltb-true}
 use Rattle.ds_codec.specs.declared.write.Unwritable.{Unwritable}
 use Rattle.ds_codec.specs.declared.write.Unwritable.TheVariants.{AddressOutside, NotAllowed}
 use Rattle.ds_codec.specs.Order.{Item, text, start_field, start_field_extended, set_buffer_address, set_attribute, modify_field, insert_cursor, program_tab, repeat_to_address, erase_unprotected_to_address, graphic_escape, Site}
-use Rattle.ds_codec.specs.Command.{wcc_of}
-use Rattle.ds_codec.specs.Record.{Message}
 use Rattle.ds_codec.specs.Writing.{flaw_unless, flaw_of, item_at, follows_text, flaw_at, orders_in, are_not_allowed, written_record}
-use Rattle.order_lines.specs.Draft.{flaw_or, first_flaw, unwritable_of, bytes_or, written_of}
-use Rattle.order_lines.specs.Laws.{IsInside, AreInside, draft_of, OnlyInsideIsWritten}
+use Rattle.order_lines.specs.Draft.{flaw_or, first_flaw, bytes_or}
+use Rattle.order_lines.specs.Laws.{IsInside, AreInside, OnlyInsideIsWritten}
 
 neither : (a b : Option Unwritable) → flaw_or a b ≡ None → (a ≡ None) × (b ≡ None)
 neither None b e = (refl, e)

@@ -1,20 +1,16 @@
 -- Words consist of plain characters: from the space up to the last of ASCII.
-use Rattle.std.proofs.Common.{◌≡◌, ◌<◌, ◌≤◌, ℕ, suc, ◌+◌, ◌/◌, ◌%◌, ◌^◌, Bool, true, false, ◌&&◌, nat_le, nat_lt, ◌==◌, List, [], ◌∷◌, ◌++◌, length, slice_index, Option, Some, None, refl, sym, ap, ◌∙◌, arith}
+use Rattle.std.proofs.Common.{◌≡◌, ◌<◌, ℕ, suc, ◌/◌, ◌%◌, ◌^◌, Bool, true, false, ◌&&◌, List, [], ◌∷◌, ◌++◌, slice_index, refl, ◌∙◌, arith}
 use Rattle.std.specs.Fmt.{decimal, digit_glyph}
-use Rattle.std.specs.List.{list_all}
 use Rattle.std.specs.Char.{is_ascii_digit}
 use Rattle.std.specs.Str.{all_ascii_digits}
-use Rattle.std.proofs.lemmas.Bool.{and_parts, eqb-true}
 use Rattle.std.proofs.lemmas.Bool.Decides.{nat_tests}
 use Rattle.std.proofs.lemmas.Fmt.{digits_decimal}
 use Rattle.std.proofs.lemmas.Str.Parse.{numerals_by_value, tells_all_ascii_digits, IsNumeralModel}
 use Rattle.std.specs.Str.Parse.{digits_value}
 use Rattle.std.proofs.lemmas.List.Folds.{list_all-append}
-use Rattle.hex.specs.Hex.{IsBytes, encode_with, encode_upper, upper_digits, hex_digit_value}
-use Rattle.hex.proofs.HexLemmas.{IsDigits-upper_digits}
-use Rattle.ds_codec.specs.Character.{Glyph}
+use Rattle.hex.specs.Hex.{IsBytes, encode_with, encode_upper, upper_digits}
 use Rattle.ds_codec.proofs.Below.{each_below, both_true}
-use Rattle.order_lines.specs.Print.{hex_byte, pair_word, pair_words, character_word}
+use Rattle.order_lines.specs.Print.{hex_byte, pair_word, pair_words}
 use Rattle.order_lines.specs.Laws.{is_plain, are_plain}
 
 pub and_true : (a b : Bool) → a ≡ true → b ≡ true → (a && b) ≡ true

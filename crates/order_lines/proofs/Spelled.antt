@@ -1,24 +1,21 @@
 -- Records that are spelled can be told again and written again.
-use Rattle.std.proofs.Common.{◌≡◌, ◌<◌, ◌≤◌, ℕ, zero, suc, ◌+◌, ◌*◌, ◌/◌, ◌%◌, Bool, true, false, cond, eqb, ltb, leb, not, ◌&&◌, List, [], ◌∷◌, ◌++◌, length, get_or, map, Option, Some, None, Ok, refl, sym, ap, ◌∙◌, subst, arith, inl, inr}
-use Rattle.std.specs.Prelude.{IfOk, is_none, slice_index}
-use Rattle.std.specs.List.{list_all}
+use Rattle.std.proofs.Common.{◌≡◌, ◌<◌, ℕ, zero, suc, ◌+◌, ◌%◌, Bool, true, false, eqb, ltb, leb, ◌&&◌, List, [], ◌∷◌, ◌++◌, length, get_or, map, Option, Some, None, Ok, refl, sym, subst, arith, inl, inr}
+use Rattle.std.specs.Prelude.{is_none}
 use Rattle.std.proofs.lemmas.Bool.{cases_lt, lt-ltb, eq-eqb, le-leb}
 use Rattle.std.proofs.lemmas.List.{get_or_past, get_or_append_left, get_or-append-add}
 use Rattle.hex.specs.Hex.{IsBytes}
 use Rattle.ds_codec.specs.declared.size.Mode.{Mode}
 use Rattle.ds_codec.specs.declared.size.Mode.TheVariants.{Bits14}
-use Rattle.ds_codec.specs.Geometry.{limit_of}
 use Rattle.ds_codec.specs.Address.{SpellsAddress}
-use Rattle.ds_codec.specs.Character.{Glyph, glyph, is_text, is_glyph}
+use Rattle.ds_codec.specs.Character.{glyph}
 use Rattle.ds_codec.specs.Command.{wcc_of}
 use Rattle.ds_codec.specs.Order.{Item, text, start_field, start_field_extended, set_buffer_address, set_attribute, modify_field, insert_cursor, program_tab, repeat_to_address, erase_unprotected_to_address, graphic_escape, Site, SpellsPairs, SpellsCharacter, SpellsOrder}
 use Rattle.ds_codec.specs.Record.{Message, is_text_order, MayFollow, AreSpelled, SpellsRest, SpellsRecord}
 use Rattle.ds_codec.specs.Reading.{read_of}
-use Rattle.ds_codec.specs.Writing.{is_good_run, are_good_pairs, flaw_of, item_at, follows_text, flaw_at, HaveNoFlaw, IsWritable, IsValidItem, AreValid, orders_in, written_record, IsReadAgain}
+use Rattle.ds_codec.specs.Writing.{are_good_pairs, flaw_of, item_at, HaveNoFlaw, IsValidItem, AreValid, orders_in, written_record}
 use Rattle.ds_codec.proofs.Records.{is_spelled}
 use Rattle.ds_codec.proofs.Written.{is_read_again}
-use Rattle.order_lines.specs.Draft.{written_of}
-use Rattle.order_lines.specs.Laws.{IsInside, AreInside, AreToldAgain, IsToldAgain, LinesTellAgain, draft_of, IsWrittenAgain, RecordsAreWrittenAgain}
+use Rattle.order_lines.specs.Laws.{IsInside, AreInside, AreToldAgain, LinesTellAgain, RecordsAreWrittenAgain}
 use Rattle.order_lines.proofs.Drafts.{none_before}
 use Rattle.order_lines.proofs.ToldAgain.{IsLineItem, order_line_again, IsLineCommand, command_line_again, plain_order, plain_command}
 

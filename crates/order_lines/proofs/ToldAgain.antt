@@ -1,8 +1,8 @@
 -- What is printed for a command or an order is told again.
-use Rattle.std.proofs.Common.{◌≡◌, ◌<◌, ◌≤◌, ℕ, suc, ◌+◌, ◌-◌, ◌*◌, ◌/◌, ◌%◌, ◌^◌, Bool, true, false, cond, eqb, ltb, not, ◌&&◌, List, [], ◌∷◌, ◌++◌, length, get_or, take, drop, Option, Some, None, Ok, refl, sym, ap, ◌∙◌, subst, arith}
-use Rattle.std.specs.Prelude.{codes, nat_eq, option_and_then}
+use Rattle.std.proofs.Common.{◌≡◌, ◌<◌, ℕ, suc, ◌+◌, ◌-◌, ◌*◌, ◌/◌, ◌%◌, ◌^◌, Bool, true, false, eqb, ltb, not, ◌&&◌, List, [], ◌∷◌, ◌++◌, length, get_or, take, drop, Option, Some, None, Ok, refl, ap, arith}
+use Rattle.std.specs.Prelude.{codes, nat_eq}
 use Rattle.std.specs.Fmt.{decimal, digit_glyph}
-use Rattle.std.specs.List.{list_all, prefix_len, starts_with, position}
+use Rattle.std.specs.List.{list_all, prefix_len, starts_with}
 use Rattle.std.specs.Char.{is_ascii_digit}
 use Rattle.std.specs.Str.{all_ascii_digits}
 use Rattle.std.specs.Str.Parse.{digits_value}
@@ -11,7 +11,7 @@ use Rattle.std.proofs.lemmas.Bool.Decides.{nat_tests}
 use Rattle.std.proofs.lemmas.List.{take_at, length-append}
 use Rattle.std.proofs.Math.Seq.{drop-append-add}
 use Rattle.std.proofs.lemmas.Fmt.{digits_decimal, decimal_is_IsNumeral, decimal_nonempty, decimal_digit, first_decimal}
-use Rattle.hex.specs.Hex.{IsBytes, decode_of, encode_upper, hex_digit_value}
+use Rattle.hex.specs.Hex.{IsBytes, hex_digit_value}
 use Rattle.hex.proofs.HexLemmas.{decode_of-encode_upper}
 use Rattle.ds_codec.specs.declared.command.Command.{Command}
 use Rattle.ds_codec.specs.declared.command.Command.TheVariants as commands
@@ -19,10 +19,10 @@ use Rattle.ds_codec.specs.Command.{wcc_of}
 use Rattle.ds_codec.specs.Character.{Glyph, glyph, is_glyph}
 use Rattle.ds_codec.specs.Order.{Item, text, start_field, start_field_extended, set_buffer_address, set_attribute, modify_field, insert_cursor, program_tab, repeat_to_address, erase_unprotected_to_address, graphic_escape}
 use Rattle.ds_codec.proofs.Below.{each_below, both_true}
-use Rattle.ds_codec.proofs.TextRuns.{begins, prefix-append}
-use Rattle.order_lines.specs.Words.{on_word, byte_from, byte_told, pair_from, pair_told, pairs_more, pairs_told, is_numeral, number_from, number_told, cut_at}
+use Rattle.ds_codec.proofs.TextRuns.{prefix-append}
+use Rattle.order_lines.specs.Words.{byte_from, byte_told, pair_told, pairs_told, is_numeral, number_told, cut_at}
 use Rattle.order_lines.specs.Print.{hex_byte, pair_word, pair_words, character_word, order_words, command_words}
-use Rattle.order_lines.specs.Told.{command, order, told_of, first_told, command_told, order_told, short_told, address_told, repeat_from, repeat_told, character_from, character_told, text_from, attribute_from, set_from}
+use Rattle.order_lines.specs.Told.{command, order, told_of, command_told, order_told, short_told, address_told, repeat_told, character_told, text_from}
 use Rattle.order_lines.specs.Laws.{are_plain}
 use Rattle.order_lines.proofs.Plain.{digits_model, plain-append, plain-decimal, plain-hex_byte, plain-encode, plain-pair_word, plain-pair_words}
 

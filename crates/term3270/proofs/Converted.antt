@@ -1,8 +1,7 @@
 -- Records converted to order lines, and back.
-use Rattle.std.proofs.Common.{◌≡◌, ◌<◌, ◌≤◌, ℕ, zero, suc, ◌+◌, ◌-◌, Bool, true, false, cond, not, ltb, leb, List, [], ◌∷◌, ◌++◌, length, map, Option, Some, None, Result, Ok, Err, refl, sym, ap, ◌∙◌, subst, arith, inl, inr, append_assoc, append-nil, length-append}
+use Rattle.std.proofs.Common.{◌≡◌, ◌<◌, ◌≤◌, ℕ, ◌+◌, ◌-◌, Bool, true, false, not, ltb, leb, List, [], ◌∷◌, ◌++◌, length, map, Option, Some, None, Ok, Err, refl, sym, ap, ◌∙◌, arith, inl, inr, append_assoc, append-nil, length-append}
 use Rattle.std.specs.List.{flat_map}
-use Rattle.std.specs.Str.{is_utf8}
-use Rattle.std.proofs.lemmas.Bool.{le-ltb, lt-ltb}
+use Rattle.std.proofs.lemmas.Bool.{le-ltb}
 use Rattle.std.proofs.lemmas.Bool.Decides.{nat_tests}
 use Rattle.std.proofs.lemmas.List.Concat.{flat_map-cons}
 use Rattle.std.proofs.lemmas.List.{map-append}
@@ -10,8 +9,6 @@ use Rattle.std.proofs.Math.Seq.{get_or-append_seam}
 use Rattle.std.specs.Prelude.{slice_index}
 use Rattle.bstr.specs.Text.{lines_of, without_terminator}
 use Rattle.bstr.proofs.lemmas.LineLemmas.{lines-append}
-use Rattle.hex.specs.Hex.{IsBytes}
-use Rattle.ds_codec.specs.declared.size.Mode.{Mode}
 use Rattle.ds_codec.specs.declared.size.Mode.TheVariants.{Bits14}
 use Rattle.ds_codec.specs.declared.size.Size.{Size}
 use Rattle.ds_codec.specs.declared.command.Command.{Command}
@@ -20,19 +17,16 @@ use Rattle.ds_codec.specs.Geometry.{Sizes, cells_of, limit_of}
 use Rattle.ds_codec.specs.Order.{Item, text, start_field, start_field_extended, set_buffer_address, set_attribute, modify_field, insert_cursor, program_tab, repeat_to_address, erase_unprotected_to_address, graphic_escape, Site}
 use Rattle.ds_codec.specs.Record.{Message}
 use Rattle.ds_codec.specs.Reading.{read_of, ◌>>=◌}
-use Rattle.ds_codec.specs.Writing.{orders_in}
 use Rattle.order_lines.specs.Print.{command_words, order_words, order_line, record_lines}
 use Rattle.order_lines.specs.Told.{command, order, told_of}
-use Rattle.order_lines.specs.Draft.{Draft, written_of}
-use Rattle.order_lines.specs.Laws.{are_plain, SayAgain, AreToldAgain, IsToldAgain, AreInside, draft_of}
+use Rattle.order_lines.specs.Draft.{Draft}
+use Rattle.order_lines.specs.Laws.{SayAgain, AreToldAgain, IsToldAgain, draft_of}
 use Rattle.order_lines.proofs.Spelled.{lines_tell_again, written_again}
-use Rattle.term3270.specs.declared.fault.Fault.{Fault}
 use Rattle.term3270.specs.Lines.{lines_in}
-use Rattle.term3270.specs.Printed.{printed, Refusal}
 use Rattle.term3270.specs.Convert.{lines_or_refusal, lines_after}
-use Rattle.term3270.specs.Drafts.{Said, nothing, comment, words, sized, bad, sized_or_told, text_said, said_of, Drafts, no_drafts, after_said, drafts_after, drafts_in_lines, finished, finished_or}
-use Rattle.term3270.specs.Back.{size_after, bytes_line, bytes_after, printed_back}
-use Rattle.term3270.specs.Law.{AreBytes, SayTheSame, AreTheSame, AllInside, TellsSizes, ConvertsBack}
+use Rattle.term3270.specs.Drafts.{nothing, words, text_said, said_of, Drafts, no_drafts, drafts_after, drafts_in_lines, finished_or}
+use Rattle.term3270.specs.Back.{size_after, bytes_line, bytes_after}
+use Rattle.term3270.specs.Law.{AreBytes, AreTheSame, AllInside, TellsSizes, ConvertsBack}
 use Rattle.term3270.proofs.ToldSizes.{AreAddressed, are_addressed}
 use Rattle.term3270.proofs.PlainLines.{plain_utf8, first_line, no_lines}
 

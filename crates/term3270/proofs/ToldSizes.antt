@@ -1,5 +1,5 @@
 -- Sizes that a line tells can be addressed.
-use Rattle.std.proofs.Common.{◌≡◌, ◌≤◌, ℕ, Bool, true, false, cond, eqb, ◌&&◌, List, [], ◌∷◌, drop, Option, Some, None, refl, sym, subst, arith, inl, inr}
+use Rattle.std.proofs.Common.{◌≡◌, ◌≤◌, ℕ, true, false, cond, eqb, ◌&&◌, List, [], ◌∷◌, drop, Option, Some, None, refl, subst, arith, inl, inr}
 use Rattle.std.specs.Prelude.{codes, nat_eq}
 use Rattle.std.specs.List.{starts_with}
 use Rattle.std.specs.Str.{is_utf8}
@@ -11,7 +11,7 @@ use Rattle.ds_codec.proofs.Below.{both_true}
 use Rattle.order_lines.specs.Words.{cut_at}
 use Rattle.order_lines.specs.Told.{Told, told_of}
 use Rattle.term3270.specs.Sizes.{geometry_from, geometry_in, geometry_told, size_of}
-use Rattle.term3270.specs.Drafts.{Said, nothing, comment, words, sized, bad, sized_or_told, text_said, said_of}
+use Rattle.term3270.specs.Drafts.{comment, sized, bad, sized_or_told, text_said, said_of}
 use Rattle.term3270.specs.Law.{TellsSizes}
 
 -- both sizes can be addressed

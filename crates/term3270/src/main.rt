@@ -1,4 +1,4 @@
-//! The program `term3270`: shows outbound records as a terminal does, and prints them as lines.
+//! The program `term3270`: shows outbound records as a terminal does, and converts them to lines and back.
 #![tactic(auto)]
 
 mod answer;
