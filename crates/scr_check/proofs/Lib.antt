@@ -3,3 +3,16 @@ pub mod EntryPlaces
 pub mod OpenLaw
 pub mod BoundLaw
 pub mod BindLaw
+pub mod KeptLaws
+pub mod Among
+pub mod TouchedFields
+pub mod LeadLaws
+pub mod RealLaws
+pub mod SentLaws
+pub mod PromiseLaws
+pub mod ListLaws
+pub mod DemoKeys
+pub mod DemoTyping
+pub mod DemoLaws
+pub mod VerdictLaws
+pub mod UserLaw

@@ -4,3 +4,6 @@ pub mod Seen
 pub mod Binding
 pub mod Bound
 pub mod Bindable
+pub mod Promise
+pub mod Leads
+pub mod Demos

@@ -2,7 +2,7 @@
 use Rattle.std.specs.Prelude.{◌≡◌, ℕ, List, [], Result, Ok, Err}
 use Rattle.ds_codec.specs.declared.size.Size.{Size}
 use Rattle.ds_codec.specs.Reading.{read_of}
-use Rattle.ds_screen.specs.Picture.{Picture}
+use Rattle.ds_screen.specs.Picture.{Picture, IsSound}
 use Rattle.scr_check.specs.declared.finding.Finding.{Finding}
 use Rattle.scr_check.specs.declared.verdict.Verdict.{Verdict}
 use Rattle.scr_check.specs.declared.verdict.Verdict.TheVariants.{Yes, No}
@@ -37,3 +37,8 @@ TakesAll old new records (Err finding) = taken_from 0 old records ≡ Err findin
 abbrev pub IsReady : Picture → Size → Result (Unit {0}) Finding → Type 0
 IsReady v size (Ok done) = ready size v ≡ Ok v
 IsReady v size (Err finding) = ready size v ≡ Err finding
+
+-- the screen that the records led to holds a sound picture
+abbrev pub IsSoundOpening : Opening → Type 0
+IsSoundOpening (Leads screen) = IsSound screen
+IsSoundOpening (Stands finding) = Unit {0}

@@ -3,7 +3,7 @@
 ghost use Rattle.std.specs.Prelude.{◌≡◌, Ok, Err, map, IfOk};
 ghost use Rattle.ds_codec.specs.Reading.{read_of};
 ghost use Rattle.scr_check.specs.Opening.{erases, writes, command_fault, is_free, is_size, ready, opening_of};
-ghost use Rattle.scr_check.specs.Seen.{Takes, TakesAll, IsReady, opening_seen};
+ghost use Rattle.scr_check.specs.Seen.{Takes, TakesAll, IsReady, IsSoundOpening, opening_seen};
 
 use crate::finding::{Finding, Refusal};
 use ds_codec::{Command, Record, Size};
@@ -103,7 +103,8 @@ fn ready(screen: &Screen<PlainCells>, size: Size) -> Result<(), Finding>
 
 /// Opens a new terminal of the layout's geometry with the records.
 pub(crate) fn open(alloc: Global, records: &[&[u8]], layout: &Layout) -> Result<Opening, AllocError>
-    ensures { IfOk result (λ opening. opening_seen opening ≡ opening_of layout.now (map (λ bytes. bytes.now) records.now)) }
+    ensures opened { IfOk result (λ opening. opening_seen opening ≡ opening_of layout.now (map (λ bytes. bytes.now) records.now)) }
+    ensures sound { IfOk result IsSoundOpening }
 {
     if records.is_empty() {
         return Ok(Opening::Stands(Finding::NoRecord));

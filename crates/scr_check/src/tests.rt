@@ -4,6 +4,7 @@ mod answers;
 mod large;
 mod openings;
 mod pictures;
+mod promise;
 
 use crate::{Demo, Finding, Verdict, check};
 use scr_layout::Layout;

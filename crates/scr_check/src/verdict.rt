@@ -3,6 +3,8 @@
 ghost use Rattle.std.specs.Prelude.{◌≡◌, ◌↔◌, [], map, IfOk};
 ghost use Rattle.scr_check.specs.Findings.{answer_of, Conforms};
 ghost use Rattle.scr_check.specs.Seen.{findings_in, TellsSome};
+ghost use Rattle.scr_check.specs.Leads.{IsPromised};
+ghost use Rattle.scr_check.specs.Demos.{AreShown};
 
 use crate::fields::findings_of;
 use crate::finding::Finding;
@@ -43,6 +45,8 @@ pub fn check(alloc: Global, records: &[&[u8]], layout: &Layout) -> Result<Verdic
     ensures yes { IfOk result (λ verdict. verdict ≡ Verdict.Yes ↔ Conforms layout.now (map (λ bytes. bytes.now) records.now)) }
     ensures listed { IfOk result (λ verdict. findings_in verdict ≡ answer_of layout.now (map (λ bytes. bytes.now) records.now)) }
     ensures some { IfOk result TellsSome }
+    ensures promise { IfOk result (λ verdict. verdict ≡ Verdict.Yes → IsPromised layout.now (map (λ bytes. bytes.now) records.now)) }
+    ensures shown { IfOk result (λ verdict. AreShown layout.now (map (λ bytes. bytes.now) records.now) (findings_in verdict)) }
 {
     match open(alloc, records, layout)? {
         Opening::Leads(screen) => Ok(verdict_of(findings_of(alloc, &screen, layout)?)),

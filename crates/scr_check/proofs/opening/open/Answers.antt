@@ -4,8 +4,8 @@ use Rattle.ds_screen.specs.Records.{new_picture}
 use Rattle.scr_check.proofs.OpenLaw.{open_err}
 use Rattle.scr_check.proofs.opening.open.Goals as goal
 
-pub returns-in-Err-ready : goal.returns-in-Err-ready
-returns-in-Err-ready c =
+pub returns-in-Err-ready-clause-opened : goal.returns-in-Err-ready-clause-opened
+returns-in-Err-ready-clause-opened c =
     let new : c.in_ok-screen.screen ≡ new_picture c.args.layout.now.geometry = c.in_ok-screen.ensures ∙ ap new_picture c.geometry.ensures in
     open_err (λ bytes. bytes.now) c.args.layout.now c.args.records.now c.take_all.new.screen c.in-Err-ready.finding
     (sym c.is_empty.ensures ∙ c.if-is_empty.false)

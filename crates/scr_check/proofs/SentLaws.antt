@@ -1,0 +1,130 @@
+-- What Enter or a PF key sends from a screen with fields.
+use Rattle.std.proofs.Common.{◌≡◌, ℕ, ◌-◌, ◌&&◌, Bool, true, false, not, cond, eqb, List, [], ◌∷◌, length, map, Some, refl, sym, ◌∙◌, ap, subst, arith}
+use Rattle.std.specs.List.{range_with_len, filter, list_all}
+use Rattle.std.specs.List.Sorted.{IsStrictlyIncreasing}
+use Rattle.std.proofs.lemmas.Bool.{cond-false, and_parts, not-true}
+use Rattle.std.proofs.lemmas.List.Kept.{IsStrictlyIncreasing-filter}
+use Rattle.ds_codec.specs.declared.cell.Cell.{Cell}
+use Rattle.ds_codec.specs.Aid.{long_aids, is_long_aid, is_aid}
+use Rattle.ds_codec.specs.Character.{Glyph}
+use Rattle.ds_screen.specs.declared.lock.Lock.TheVariants.{Free, Waiting}
+use Rattle.ds_screen.specs.Picture.{Picture, IsSound, cell_at}
+use Rattle.ds_screen.specs.Fields.{is_attribute, attributes_from}
+use Rattle.ds_keys.specs.declared.key.Key.TheVariants.{Attention}
+use Rattle.ds_keys.specs.declared.pressed.Pressed.TheVariants.{Sent}
+use Rattle.ds_keys.specs.KeyStep.{sent, attention_step, free_step, step_under, step_of}
+use Rattle.ds_keys.specs.KeyRuns as keyed
+use Rattle.ds_inbound.specs.Answer.{Answer, is_short_aid, is_modified_at, fields_sent, field_sent, lead_sent, short_answer, long_answer, answer_of, bytes_sent, is_real}
+use Rattle.ds_inbound.specs.Inbound.{SaysOnly}
+use Rattle.ds_inbound.proofs.Pictures.{answers_say}
+use Rattle.scr_check.specs.Promise.{is_among, due_answer}
+use Rattle.scr_check.proofs.Among.{each_of_all, among_filter, among_range, range_rises}
+use Rattle.scr_check.proofs.KeptLaws.{attribute_inside}
+
+-- ---- keys that send
+
+-- neither none nor Clear, not sent alone, and an attention identifier
+abbrev sends_fields : ℕ → Bool
+sends_fields aid = not (eqb aid 0x60) && (not (eqb aid 0x6D) && (not (is_short_aid aid) && is_aid aid))
+
+long_sends : (aid : ℕ) → is_long_aid aid ≡ true → sends_fields aid ≡ true
+unfolding is_long_aid is_short_aid is_aid
+long_sends aid long = each_of_all sends_fields long_aids aid refl long
+
+record IsLong (aid : ℕ) : Type 0 where
+  some : eqb aid 0x60 ≡ false
+  plain : eqb aid 0x6D ≡ false
+  long : is_short_aid aid ≡ false
+  known : is_aid aid ≡ true
+
+long_parts : (aid : ℕ) → is_long_aid aid ≡ true → IsLong aid
+long_parts aid long =
+    let a = and_parts (not (eqb aid 0x60)) (not (eqb aid 0x6D) && (not (is_short_aid aid) && is_aid aid)) (long_sends aid long) in
+    let b = and_parts (not (eqb aid 0x6D)) (not (is_short_aid aid) && is_aid aid) a.1 in
+    let c = and_parts (not (is_short_aid aid)) (is_aid aid) b.1 in
+    record { some = not-true _ a.0; plain = not-true _ b.0; long = not-true _ c.0; known = c.1 }
+
+attends : (v : Picture) (aid : ℕ) → IsLong aid → attention_step v aid ≡ sent v aid
+unfolding attention_step
+attends v aid long = cond-false (eqb aid 0x60) _ _ long.some ∙ cond-false (eqb aid 0x6D) _ _ long.plain
+
+step_sends : (v : Picture) (aid : ℕ) → v.lock ≡ Free → IsLong aid → step_of v (Attention aid) ≡ sent v aid
+unfolding step_of free_step
+step_sends v aid free long = ap (λ l. step_under l v (Attention aid)) free ∙ attends v aid long
+
+pub key_sends : (v : Picture) (aid : ℕ) → v.lock ≡ Free → is_long_aid aid ≡ true → keyed.answer_of v (Attention aid) ≡ Sent aid
+key_sends v aid free long = ap (λ s. s.pressed) (step_sends v aid free (long_parts aid long))
+
+-- the picture that has sent
+abbrev pub sending : Picture → ℕ → Picture
+sending v aid = record v { lock = Waiting; aid = aid }
+
+pub key_leaves : (v : Picture) (aid : ℕ) → v.lock ≡ Free → is_long_aid aid ≡ true → keyed.after_key v (Attention aid) ≡ sending v aid
+key_leaves v aid free long = ap (λ s. s.after) (step_sends v aid free (long_parts aid long))
+
+-- ---- what is sent
+
+-- the modified attributes, in rising position
+abbrev pub sent_places : List Cell → List ℕ
+sent_places cells = filter (is_modified_at cells) (attributes_from cells 0)
+
+lead_none : (cells : List Cell) (places : List ℕ) → (places ≡ [] → ⊥) → lead_sent cells places ≡ []
+lead_none cells [] some = absurd (some refl)
+lead_none cells (q ∷ places) some = refl
+
+fields_are : (cells : List Cell) (places : List ℕ) → fields_sent cells places ≡ map (field_sent cells) (filter (is_modified_at cells) places)
+unfolding fields_sent
+fields_are cells places = refl
+
+due_record : (aid : ℕ) (v : Picture) (lead : List Glyph) (places : List ℕ) → lead_sent v.cells (attributes_from v.cells 0) ≡ []
+    → long_answer (sending v aid) ≡ due_answer aid v (sent_places v.cells)
+due_record aid v lead places none =
+    ap (λ l. record { aid = aid; cursor = Some v.cursor; lead = l; fields = fields_sent v.cells (attributes_from v.cells 0) }) none
+    ∙ ap (λ f. record { aid = aid; cursor = Some v.cursor; lead = []; fields = f }) (fields_are v.cells (attributes_from v.cells 0))
+
+pub answers_due : (v : Picture) (aid : ℕ) → is_long_aid aid ≡ true → (attributes_from v.cells 0 ≡ [] → ⊥) → answer_of (sending v aid) false ≡ due_answer aid v (sent_places v.cells)
+unfolding answer_of
+answers_due v aid long some =
+    ap (λ t. cond (t && true) (short_answer aid) (long_answer (sending v aid))) (long_parts aid long).long
+    ∙ due_record aid v [] [] (lead_none v.cells (attributes_from v.cells 0) some)
+
+sending_sound : (v : Picture) (aid : ℕ) → IsSound v → IsSound (sending v aid)
+sending_sound v aid sound =
+    record {
+      default_good = sound.default_good;
+      alternate_good = sound.alternate_good;
+      one_of_two = sound.one_of_two;
+      whole = sound.whole;
+      cursor_inside = sound.cursor_inside;
+    }
+
+pub due_said : (v : Picture) (aid : ℕ) → IsSound v → list_all is_real v.cells ≡ true → v.lock ≡ Free → is_long_aid aid ≡ true → (attributes_from v.cells 0 ≡ [] → ⊥)
+    → SaysOnly v.geometry.mode (length v.cells) (due_answer aid v (sent_places v.cells)) (bytes_sent (keyed.after_key v (Attention aid)) false)
+due_said v aid sound real free long some =
+    let said = answers_say (sending v aid) false (sending_sound v aid sound) (record { characters = real; aid = (long_parts aid long).known }) in
+    let P : Answer → Type 0 = λ a. SaysOnly v.geometry.mode (length v.cells) a (bytes_sent (sending v aid) false) in
+    let Q : Picture → Type 0 = λ w. SaysOnly v.geometry.mode (length v.cells) (due_answer aid v (sent_places v.cells)) (bytes_sent w false) in
+    subst Q (sym (key_leaves v aid free long)) (subst P (answers_due v aid long some) said)
+
+-- ---- which fields are sent
+
+pub places_rise : (cells : List Cell) → IsStrictlyIncreasing (sent_places cells)
+places_rise cells =
+    IsStrictlyIncreasing-filter (is_modified_at cells) (attributes_from cells 0)
+    (IsStrictlyIncreasing-filter (λ q. is_attribute (cell_at cells q)) (range_with_len 0 (length cells - 0)) (range_rises 0 (length cells - 0)))
+
+among_sent : (cells : List Cell) (q : ℕ) → is_among (sent_places cells) q ≡ (is_modified_at cells q && (is_attribute (cell_at cells q) && is_among (range_with_len 0 (length cells - 0)) q))
+among_sent cells q =
+    among_filter (is_modified_at cells) (attributes_from cells 0) q
+    ∙ ap (λ t. is_modified_at cells q && t) (among_filter (λ p. is_attribute (cell_at cells p)) (range_with_len 0 (length cells - 0)) q)
+
+pub among_parts : (cells : List Cell) (q : ℕ) → is_among (sent_places cells) q ≡ true → (is_modified_at cells q ≡ true) × (is_attribute (cell_at cells q) ≡ true)
+among_parts cells q among =
+    let a = and_parts (is_modified_at cells q) (is_attribute (cell_at cells q) && is_among (range_with_len 0 (length cells - 0)) q) (sym (among_sent cells q) ∙ among) in
+    (a.0, (and_parts (is_attribute (cell_at cells q)) (is_among (range_with_len 0 (length cells - 0)) q) a.1).0)
+
+pub among_from : (cells : List Cell) (q : ℕ) → is_modified_at cells q ≡ true → is_attribute (cell_at cells q) ≡ true → is_among (sent_places cells) q ≡ true
+among_from cells q modified there =
+    let lt = attribute_inside cells q there in
+    among_sent cells q ∙ ap (λ t. t && (is_attribute (cell_at cells q) && is_among (range_with_len 0 (length cells - 0)) q)) modified
+    ∙ ap (λ t. t && is_among (range_with_len 0 (length cells - 0)) q) there ∙ among_range 0 (length cells - 0) q (omega arith) (omega arith)

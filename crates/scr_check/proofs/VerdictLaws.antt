@@ -1,0 +1,77 @@
+-- What the findings of a verdict promise.
+use Rattle.std.proofs.Common.{◌≡◌, ℕ, List, [], Result, Ok, Err, sym, ◌∙◌, ap, subst}
+use Rattle.std.specs.Prelude.{IfOk}
+use Rattle.ds_screen.specs.Picture.{Picture, IsSound}
+use Rattle.scr_layout.specs.Layout.{Declaration}
+use Rattle.scr_check.specs.declared.finding.Finding.{Finding}
+use Rattle.scr_check.specs.declared.verdict.Verdict.{Verdict}
+use Rattle.scr_check.specs.declared.verdict.Verdict.TheVariants.{Yes}
+use Rattle.scr_check.specs.Opening.{opening_of}
+use Rattle.scr_check.specs.Findings.{findings_of, told}
+use Rattle.scr_check.specs.declared.opening.Opening.{Opening}
+use Rattle.scr_check.specs.declared.opening.Opening.TheVariants.{Leads, Stands}
+use Rattle.scr_check.specs.Seen.{findings_in, opening_seen, IsSoundOpening}
+use Rattle.scr_check.specs.Promise.{KeepsPromise}
+use Rattle.scr_check.specs.Leads.{IsPromised}
+use Rattle.scr_check.specs.Demos.{IsShown, AreShown}
+use Rattle.scr_check.proofs.LeadLaws.{ok_is, opened_geometry, opened_ready, leads_from_every}
+use Rattle.scr_check.proofs.RealLaws.{opened_real, keys_real}
+use Rattle.scr_check.proofs.PromiseLaws.{IsOpened, keeps_promise}
+use Rattle.scr_check.proofs.DemoLaws.{findings_shown}
+
+opened_so : (layout : Declaration) (records : List (List ℕ)) (opened : Picture) → opening_of layout records ≡ Ok opened → IsSound opened → IsOpened layout opened
+opened_so layout records opened opens sound =
+    let ready = opened_ready layout records opened opens in
+    record {
+      sound = sound;
+      real = opened_real layout records opened opens;
+      geometry = opened_geometry layout records opened opens;
+      size = ready.1.0;
+      some = ready.1.1;
+    }
+
+pub promise_of : (layout : Declaration) (records : List (List ℕ)) (opened : Picture) → opening_of layout records ≡ Ok opened → IsSound opened
+    → findings_of layout opened ≡ [] → KeepsPromise layout opened
+promise_of layout records opened opens sound clean =
+    keeps_promise layout opened (opened_so layout records opened opens sound) clean (λ keys quiet. keys_real opened keys quiet (opened_real layout records opened opens))
+
+clean_promised : (layout : Declaration) (records : List (List ℕ)) (opened : Picture) → opening_of layout records ≡ Ok opened → IsSound opened
+    → findings_of layout opened ≡ [] → IsPromised layout records
+clean_promised layout records opened opens sound clean =
+    record {
+      opened = opened;
+      opens = opens;
+      anywhere = leads_from_every layout records opened opens;
+      promise = promise_of layout records opened opens sound clean;
+    }
+
+told_promised : (layout : Declaration) (records : List (List ℕ)) (r : Result Picture Finding) → opening_of layout records ≡ r → IfOk r IsSound → told layout r ≡ [] → IsPromised layout records
+told_promised layout records (Err finding) opens sound none = absurd cc
+told_promised layout records (Ok opened) opens sound none = clean_promised layout records opened opens sound none
+
+pub yes_promised : (layout : Declaration) (records : List (List ℕ)) (r : Result Picture Finding) (verdict : Verdict) → r ≡ opening_of layout records → IfOk r IsSound
+    → findings_in verdict ≡ told layout r → verdict ≡ Yes → IsPromised layout records
+yes_promised layout records r verdict opens sound listed is =
+    told_promised layout records r (sym opens) sound (sym listed ∙ ap findings_in is)
+
+pub sound_seen : (opening : Opening) → IsSoundOpening opening → IfOk (opening_seen opening) IsSound
+sound_seen (Leads screen) sound = sound
+sound_seen (Stands finding) sound = tt
+
+told_shown : (layout : Declaration) (records : List (List ℕ)) (r : Result Picture Finding) → opening_of layout records ≡ r → IfOk r IsSound → AreShown layout records (told layout r)
+told_shown layout records (Err finding) opens sound = λ v opened. absurd (other v (sym opens ∙ opened))
+  where
+    other : (v : Picture) → Err finding ≡ Ok v → ⊥
+    other v e = cc
+told_shown layout records (Ok first) opens sound = λ v opened index finding there.
+    let same : first ≡ v = ok_is first v (opening_of layout records) opens opened in
+    let free = (opened_ready layout records first opens).0 in
+    let shown = findings_shown layout first sound free index finding there in
+    let P : Picture → Type 0 = λ w. IsShown layout w finding in
+    subst P same shown
+
+pub all_shown : (layout : Declaration) (records : List (List ℕ)) (r : Result Picture Finding) (verdict : Verdict) → r ≡ opening_of layout records → IfOk r IsSound
+    → findings_in verdict ≡ told layout r → AreShown layout records (findings_in verdict)
+all_shown layout records r verdict opens sound listed =
+    let P : List Finding → Type 0 = AreShown layout records in
+    subst P (sym listed) (told_shown layout records r (sym opens) sound)
