@@ -8,3 +8,5 @@ pub mod ToldSizes
 pub mod Converted
 pub mod Texts
 pub mod TwoInputs
+pub mod DemoKeys
+pub mod Opened

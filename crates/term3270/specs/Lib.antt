@@ -6,6 +6,7 @@ pub mod Kinds
 pub mod Printed
 pub mod Show
 pub mod FindingLines
+pub mod DemoLines
 pub mod Check
 pub mod CheckSeen
 pub mod KeyLines

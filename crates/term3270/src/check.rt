@@ -2,15 +2,14 @@
 
 ghost use Rattle.std.specs.Prelude.{◌≡◌, map, IfOk, IfSome};
 ghost use Rattle.term3270.specs.Input.{records_in};
-ghost use Rattle.term3270.specs.Check.{layout_said, layout_line, printed_verdict, printed_records, printed_check};
+ghost use Rattle.term3270.specs.Check.{layout_said, layout_line, printed_verdict, printed_answer, printed_records, printed_check};
 ghost use Rattle.term3270.specs.CheckSeen.{TellsLayout};
 ghost use Rattle.term3270.specs.Kinds.{answer_seen};
 ghost use Rattle.term3270.specs.Streams.{Prints};
 ghost use Rattle.term3270.specs.Printed.{printed};
 ghost use Rattle.term3270.specs.declared.status.Status.TheVariants.{BadInput, Findings};
 ghost use Rattle.std.specs.List.{flat_map};
-ghost use Rattle.term3270.specs.FindingLines.{finding_line};
-ghost use Rattle.scr_check.specs.Findings.{answer_of};
+ghost use Rattle.term3270.specs.DemoLines.{finding_lines, shown_on};
 ghost use Rattle.scr_check.specs.Seen.{findings_in, TellsSome};
 ghost use Rattle.scr_layout.specs.Results.{Gives};
 
@@ -21,7 +20,7 @@ use crate::input::{MOST_BYTES, read_records};
 use crate::status::Status;
 use crate::stream::{read_all, write_answer};
 use scr_check::{Finding, Verdict, check};
-use scr_layout::{Entry, Layout, LayoutError, LayoutFault, LayoutRefusal};
+use scr_layout::{Layout, LayoutError, LayoutFault, LayoutRefusal};
 use std::alloc::{AllocError, Global};
 use std::io::{Read, Write};
 
@@ -84,11 +83,18 @@ fn lent<'a>(alloc: Global, records: &'a [Vec<u8>]) -> Result<Vec<&'a [u8]>, Allo
 }
 
 /// The findings.
-fn found(alloc: Global, entries: &[Entry], findings: &[Finding]) -> Result<Answer, AllocError>
-    ensures { IfOk result (λ answer. answer_seen answer ≡ printed (flat_map (finding_line entries.now) findings.now) Findings) }
+fn found(
+    alloc: Global,
+    layout: &Layout,
+    records: &[Vec<u8>],
+    demos: bool,
+    findings: &[Finding],
+) -> Result<Answer, AllocError>
+    ensures { IfOk result (λ answer. answer_seen answer
+        ≡ printed (flat_map (finding_lines demos layout.now.entries (shown_on layout.now (map (λ bytes. bytes.items) records.now))) findings.now) Findings) }
 {
     let mut text = String::new(alloc);
-    push_findings(&mut text, entries, findings)?;
+    push_findings(alloc, &mut text, layout, records, demos, findings)?;
     Ok(Answer {
         text,
         status: Status::Findings,
@@ -96,49 +102,67 @@ fn found(alloc: Global, entries: &[Entry], findings: &[Finding]) -> Result<Answe
 }
 
 /// `yes`, or the findings.
-fn told_of(alloc: Global, layout: &Layout, verdict: &Verdict) -> Result<Answer, AllocError>
+fn told_of(
+    alloc: Global,
+    layout: &Layout,
+    records: &[Vec<u8>],
+    demos: bool,
+    verdict: &Verdict,
+) -> Result<Answer, AllocError>
     requires { TellsSome verdict.now }
-    ensures { IfOk result (λ answer. answer_seen answer ≡ printed_verdict layout.now.entries (findings_in verdict.now)) }
+    ensures { IfOk result (λ answer. answer_seen answer
+        ≡ printed_verdict (finding_lines demos layout.now.entries (shown_on layout.now (map (λ bytes. bytes.items) records.now))) (findings_in verdict.now)) }
 {
     match verdict {
         Verdict::Yes => Ok(done(String::from_str(alloc, "yes\n")?)),
-        Verdict::No(findings) => found(alloc, layout.entries(), findings.as_slice()),
+        Verdict::No(findings) => found(alloc, layout, records, demos, findings.as_slice()),
     }
 }
 
 /// What is answered to the records.
-fn check_records(alloc: Global, layout: &Layout, records: &[Vec<u8>]) -> Result<Answer, AllocError>
+fn check_records(
+    alloc: Global,
+    layout: &Layout,
+    records: &[Vec<u8>],
+    demos: bool,
+) -> Result<Answer, AllocError>
     ensures { IfOk result (λ answer. answer_seen answer
-        ≡ printed_verdict layout.now.entries (answer_of layout.now (map (λ bytes. bytes.items) records.now))) }
+        ≡ printed_answer demos layout.now (map (λ bytes. bytes.items) records.now)) }
 {
     let slices = lent(alloc, records)?;
     let verdict = check(alloc, slices.as_slice(), layout)?;
-    told_of(alloc, layout, &verdict)
+    told_of(alloc, layout, records, demos, &verdict)
 }
 
 /// What is answered to an input of records.
-fn check_text(alloc: Global, layout: &Layout, text: &[u8]) -> Result<Answer, AllocError>
-    ensures { IfOk result (λ answer. answer_seen answer ≡ printed_records layout.now (records_in text.now)) }
+fn check_text(
+    alloc: Global,
+    layout: &Layout,
+    text: &[u8],
+    demos: bool,
+) -> Result<Answer, AllocError>
+    ensures { IfOk result (λ answer. answer_seen answer ≡ printed_records demos layout.now (records_in text.now)) }
 {
     match read_records(alloc, text) {
-        Ok(input) => check_records(alloc, layout, input.records.as_slice()),
+        Ok(input) => check_records(alloc, layout, input.records.as_slice(), demos),
         Err(fault) => faulted(alloc, fault),
     }
 }
 
 /// Reads a layout and then records in hexadecimal, one a line, and prints `yes` or what stands against
-/// them; or the first fault: of the layout, then of the lines. The sizes are the layout's, so a line of
-/// sizes is bad. At most 16,777,216 bytes of either, 1,000 records of 32,768 bytes. After a read or a
-/// write that failed the status is `Failed`, where memory was refused `NoMemory`, and a front of the
-/// text was written.
+/// them, where demos are asked for with what the keys of a finding send; or the first fault: of the
+/// layout, then of the lines. The sizes are the layout's, so a line of sizes is bad. At most 16,777,216
+/// bytes of either, 1,000 records of 32,768 bytes. After a read or a write that failed the status is
+/// `Failed`, where memory was refused `NoMemory`, and a front of the text was written.
 pub fn run_check<L: Read, R: Read, W: Write>(
     alloc: Global,
     layout: &mut L,
     reader: &mut R,
     writer: &mut W,
+    demos: bool,
 ) -> Status
     ensures { IfSome (L.remaining layout.old) (λ text. IfSome (R.remaining reader.old) (λ input.
-        Prints (W.contents writer.old) (W.contents writer.new) result (printed_check text input))) }
+        Prints (W.contents writer.old) (W.contents writer.new) result (printed_check demos text input))) }
 {
     let text = match read_all(alloc, layout) {
         Ok(text) => text,
@@ -153,5 +177,8 @@ pub fn run_check<L: Read, R: Read, W: Write>(
         Ok(records) => records,
         Err(status) => return status,
     };
-    write_answer(writer, check_text(alloc, &layout, records.as_slice()))
+    write_answer(
+        writer,
+        check_text(alloc, &layout, records.as_slice(), demos),
+    )
 }

@@ -1,15 +1,17 @@
 //! The lines of findings.
 
-ghost use Rattle.std.specs.Prelude.{◌≡◌, ◌++◌, [], OnOk};
+ghost use Rattle.std.specs.Prelude.{◌≡◌, ◌++◌, [], map, OnOk};
 ghost use Rattle.std.specs.Fmt.{decimal};
 ghost use Rattle.std.specs.String.{string_bytes};
 ghost use Rattle.std.specs.List.{flat_map};
 ghost use Rattle.term3270.specs.FindingLines.{fault_line, missing_line, other_kind_line, name_at, keys_end, demo_end, refused_line, overlong_line, finding_line};
+ghost use Rattle.term3270.specs.DemoLines.{finding_lines, shown_on};
 
+use crate::demo::push_sends;
 use ds_codec::Size;
 use scr_check::{Demo, Finding, Overlong, Refusal};
-use scr_layout::Entry;
-use std::alloc::AllocError;
+use scr_layout::{Entry, Layout};
+use std::alloc::{AllocError, Global};
 
 /// The name of the entry of this index.
 fn name_at(entries: &[Entry], index: usize) -> &str
@@ -114,16 +116,39 @@ fn push_finding(out: &mut String, entries: &[Entry], finding: Finding) -> Result
     }
 }
 
+/// The line of a finding and, where demos are asked for, what its keys send.
+fn push_lines(
+    alloc: Global,
+    out: &mut String,
+    layout: &Layout,
+    records: &[Vec<u8>],
+    demos: bool,
+    finding: Finding,
+) -> Result<(), AllocError>
+    ensures { OnOk result (string_bytes out.new ≡ string_bytes out.old
+        ++ finding_lines demos layout.now.entries (shown_on layout.now (map (λ bytes. bytes.items) records.now)) finding) }
+{
+    push_finding(out, layout.entries(), finding)?;
+    if demos {
+        push_sends(alloc, out, layout, records, finding)?;
+    }
+    Ok(())
+}
+
 /// The lines of findings, in their order.
 pub fn push_findings(
+    alloc: Global,
     out: &mut String,
-    entries: &[Entry],
+    layout: &Layout,
+    records: &[Vec<u8>],
+    demos: bool,
     findings: &[Finding],
 ) -> Result<(), AllocError>
-    ensures { OnOk result (string_bytes out.new ≡ string_bytes out.old ++ flat_map (finding_line entries.now) findings.now) }
+    ensures { OnOk result (string_bytes out.new ≡ string_bytes out.old
+        ++ flat_map (finding_lines demos layout.now.entries (shown_on layout.now (map (λ bytes. bytes.items) records.now))) findings.now) }
 {
     for finding in findings {
-        push_finding(out, entries, *finding)?;
+        push_lines(alloc, out, layout, records, demos, *finding)?;
     }
     Ok(())
 }

@@ -5,6 +5,7 @@ mod answer;
 mod back;
 mod check;
 mod convert;
+mod demo;
 mod drafts;
 mod fault;
 mod file;
@@ -48,9 +49,14 @@ fn parsed<'a>(alloc: Global, words: &'a [String]) -> Result<ArgMatches<'a>, Erro
     let layout = Arg::new(alloc, "LAYOUT")
         .required(true)
         .help("The file of the layout, in TOML");
+    let demo = Arg::new(alloc, "demo")
+        .long("demo")
+        .action(ArgAction::SetTrue)
+        .help("Press the keys of each finding that has some, and print what is sent");
     let check = Command::new(alloc, "check")
         .about("Print what stands against records and a layout, or yes")
-        .arg(layout)?;
+        .arg(layout)?
+        .arg(demo)?;
     let keys = Arg::new(alloc, "KEYS")
         .required(true)
         .help("The file of the keys, one a line");
@@ -72,7 +78,8 @@ fn run(rt: &HostRuntime, matches: &ArgMatches<'_>) -> Status {
     let mut writer = rt.stdout();
     if let Some(path) = file_named(matches, "check", "LAYOUT") {
         let mut layout = file_at(rt, path);
-        return run_check(rt.alloc(), &mut layout, &mut reader, &mut writer);
+        let demos = has_flag(matches, "check", "demo");
+        return run_check(rt.alloc(), &mut layout, &mut reader, &mut writer, demos);
     }
     if let Some(path) = file_named(matches, "press", "KEYS") {
         let mut keys = file_at(rt, path);
@@ -101,6 +108,14 @@ fn file_named<'a>(matches: &ArgMatches<'a>, command: &str, word: &str) -> Option
     matches
         .subcommand_matches(command)
         .and_then(|words| words.get_str(word))
+}
+
+/// Whether a command was given a flag.
+fn has_flag(matches: &ArgMatches<'_>, command: &str, word: &str) -> bool {
+    match matches.subcommand_matches(command) {
+        Some(words) => words.get_flag(word),
+        None => false,
+    }
 }
 
 /// Parses the command line and runs what it asks for.

@@ -13,16 +13,52 @@ const SIZED: &str = "size 2x10\nF5C21D60C11D40131140C61DF0\n";
 
 const CODE: &str = "default = \"2x10\"\n[[field]]\nname = \"code\"\nrow = 1\ncol = 4\nlength = 3\n";
 
+const BARE: &str = "default = \"2x10\"\n";
+
+const WRAPPED: &str = "F5C21140D11D40131140C31D60\n";
+
+const SHORT: &str =
+    "default = \"2x10\"\n[[field]]\nname = \"code\"\nrow = 2\ncol = 9\nlength = 4\n";
+
+const MODIFIED: &str = "F5C21D61C11D40131140C61DF0\n";
+
+const LONG: &str = "default = \"2x10\"\n[[field]]\nname = \"code\"\nrow = 2\ncol = 9\nlength = 5\n";
+
+const MARK: &str =
+    "default = \"2x10\"\n[[field]]\nname = \"mark\"\nrow = 2\ncol = 9\nlength = 4\nkind = \"fixed\"\n";
+
+const LATE: &str = "default = \"2x10\"
+[[field]]
+name = \"code\"
+row = 1
+col = 4
+length = 3
+[[field]]
+name = \"late\"
+row = 2
+col = 1
+length = 2
+";
+
+const EMPTY: &str =
+    "default = \"2x10\"\n[[field]]\nname = \"code\"\nrow = 1\ncol = 3\nlength = 4\n";
+
 const KEYS: &str = "type C2\nenter\ntab\n";
 
 const PRESSED: &str = "done 4\nsent 7D40C41140C3C2\nignored 4\n";
 
 /// What `check` writes, behind its status.
-fn checked(alloc: Global, layout: &[u8], records: &str, due: &str) -> Result<Option<Status>, Fail> {
+fn checked(
+    alloc: Global,
+    layout: &[u8],
+    records: &str,
+    demos: bool,
+    due: &str,
+) -> Result<Option<Status>, Fail> {
     let mut layout = layout;
     let mut reader = records.as_bytes();
     let mut writer = Vec::new(alloc);
-    let status = run_check(alloc, &mut layout, &mut reader, &mut writer);
+    let status = run_check(alloc, &mut layout, &mut reader, &mut writer, demos);
     Ok((writer.as_slice() == due.as_bytes()).then_some(status))
 }
 
@@ -37,15 +73,13 @@ fn pressed(alloc: Global, records: &str, keys: &[u8], due: &str) -> Result<Optio
 
 #[test]
 fn checks_a_record(rt: HostRuntime) -> Result<(), Fail> {
-    let wrapped = "F5C21140D11D40131140C31D60\n";
-    let short = "default = \"2x10\"\n[[field]]\nname = \"code\"\nrow = 2\ncol = 9\nlength = 4\n";
     let long = "F11 code length 5, declared 4, keys: right 0, type 5\n";
     let rows: [(&str, &[u8], &str, &str, Status); 6] = [
         ("yes", CODE.as_bytes(), FORM, "yes\n", Status::Done),
         (
             "too long",
-            short.as_bytes(),
-            wrapped,
+            SHORT.as_bytes(),
+            WRAPPED,
             long,
             Status::Findings,
         ),
@@ -79,7 +113,101 @@ fn checks_a_record(rt: HostRuntime) -> Result<(), Fail> {
         ),
     ];
     for (name, layout, records, due, status) in rows {
-        let answer = checked(rt.alloc(), layout, records, due)?;
+        let answer = checked(rt.alloc(), layout, records, false, due)?;
+        assert_eq!(rt; answer, Some(status), "{name}");
+    }
+    Ok(())
+}
+
+#[test]
+fn presses_the_keys_of_findings(rt: HostRuntime) -> Result<(), Fail> {
+    let rows = [
+        (
+            "too long",
+            SHORT,
+            WRAPPED,
+            "F11 code length 5, declared 4, keys: right 0, type 5
+sends 7D40C41140D2C1C1C1C1C1
+",
+        ),
+        (
+            "an input round the end",
+            BARE,
+            WRAPPED,
+            "F8 undeclared input at 18, keys: right 0, type 1
+sends 7D40D31140D2C1
+",
+        ),
+        (
+            "an input",
+            BARE,
+            FORM,
+            "F8 undeclared input at 3, keys: right 0, type 1
+sends 7D40C41140C3C1
+",
+        ),
+        (
+            "a fixed field",
+            CODE,
+            MODIFIED,
+            "F9 undeclared fixed at 1, keys: right 0, type 0
+sends 7D40C31140C1C1
+",
+        ),
+        (
+            "the cursor elsewhere",
+            BARE,
+            "F5C21140C21D401140C61DF0\n",
+            "F8 undeclared input at 3, keys: right 3, type 1
+sends 7D40C41140C3C1
+",
+        ),
+        (
+            "a new screen for each",
+            BARE,
+            MODIFIED,
+            "F9 undeclared fixed at 1, keys: right 0, type 0
+sends 7D40C31140C1C1
+F8 undeclared input at 3, keys: right 0, type 1
+sends 7D40C41140C1C11140C3C1
+",
+        ),
+    ];
+    for (name, layout, records, due) in rows {
+        let answer = checked(rt.alloc(), layout.as_bytes(), records, true, due)?;
+        assert_eq!(rt; answer, Some(Status::Findings), "{name}");
+    }
+    Ok(())
+}
+
+#[test]
+fn presses_nothing_where_no_keys_are_named(rt: HostRuntime) -> Result<(), Fail> {
+    let rows = [
+        ("long enough", LONG, WRAPPED, "yes\n", Status::Done),
+        (
+            "a fixed field too long",
+            MARK,
+            "F5C21140D11D601140C31D60\n",
+            "F11 mark length 5, declared 4\n",
+            Status::Findings,
+        ),
+        (
+            "a field missing",
+            LATE,
+            FORM,
+            "F10 missing late\n",
+            Status::Findings,
+        ),
+        (
+            "an empty field",
+            EMPTY,
+            "F5C21DC11D40131140C61DF0\n",
+            "F13 empty modified field at 1\n",
+            Status::Findings,
+        ),
+    ];
+    for (name, layout, records, due, status) in rows {
+        let answer = checked(rt.alloc(), layout.as_bytes(), records, true, due)?;
         assert_eq!(rt; answer, Some(status), "{name}");
     }
     Ok(())
@@ -158,7 +286,7 @@ fn a_failed_read_of_either_prints_nothing(rt: HostRuntime) -> Result<(), Fail> {
         };
         let mut reader = FORM.as_bytes();
         let mut writer = Vec::new(rt.alloc());
-        let status = run_check(rt.alloc(), &mut layout, &mut reader, &mut writer);
+        let status = run_check(rt.alloc(), &mut layout, &mut reader, &mut writer, false);
         assert_eq!(rt; status, Status::Failed, "read {fails_at}");
         assert!(rt; writer.is_empty(), "read {fails_at}");
     }
