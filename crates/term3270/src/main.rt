@@ -1,38 +1,17 @@
 //! The program `term3270`: shows outbound records as a terminal does, and converts them to lines and back.
 #![tactic(auto)]
 
-mod answer;
-mod back;
-mod check;
-mod convert;
-mod demo;
-mod drafts;
-mod fault;
 mod file;
-mod findings;
-mod input;
-mod keys;
-mod law;
-mod lines;
-mod press;
-mod show;
-mod sizes;
-mod status;
-mod stream;
 
-use crate::back::run_convert_back;
-use crate::check::run_check;
-use crate::convert::run_convert;
 use crate::file::FileAt;
-use crate::press::run_press;
-use crate::show::run_show;
-use crate::status::Status;
-use crate::stream::failure;
 use clap::error::ErrorKind;
 use clap::{Arg, ArgAction, ArgMatches, Command, Error};
 use std::alloc::Global;
 use std::process::ExitCode;
 use std::{env, io};
+use term_commands::{
+    Status, failure, run_check, run_convert, run_convert_back, run_press, run_show,
+};
 
 /// What the command line asks for.
 fn parsed<'a>(alloc: Global, words: &'a [String]) -> Result<ArgMatches<'a>, Error> {
@@ -137,6 +116,3 @@ fn respond(rt: &HostRuntime) -> io::Result<Status> {
 fn main(rt: HostRuntime) -> ExitCode {
     ExitCode::from(respond(&rt).unwrap_or_else(|error| failure(&error)))
 }
-
-#[cfg(test)]
-mod tests;

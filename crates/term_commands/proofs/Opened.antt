@@ -1,0 +1,112 @@
+-- Where the records open a picture it is shown; where something stands against them that has no demo.
+use Rattle.std.proofs.Common.{◌≡◌, ℕ, ◌+◌, Bool, true, false, List, [], ◌∷◌, ◌++◌, not, ◌&&◌, ◌==◌, refl, ap, sym, ◌∙◌}
+use Rattle.std.specs.Prelude.{Option, Some, None, Result, Ok, Err, if◌then◌else◌}
+use Rattle.std.specs.List.{flat_map}
+use Rattle.ds_codec.specs.declared.size.Size.{Size}
+use Rattle.ds_codec.specs.declared.refused.Refused as read
+use Rattle.ds_codec.specs.Record.{Message}
+use Rattle.ds_codec.specs.Reading.{read_of, ◌>>=◌}
+use Rattle.ds_screen.specs.declared.refused.Refused as shown
+use Rattle.ds_screen.specs.Picture.{Picture}
+use Rattle.ds_screen.specs.Fields.{fields_of}
+use Rattle.ds_screen.specs.Records.{new_picture, shown_of}
+use Rattle.scr_layout.specs.Entry.{Declared}
+use Rattle.scr_layout.specs.Layout.{Declaration}
+use Rattle.scr_check.specs.declared.finding.Demo.{Demo}
+use Rattle.scr_check.specs.declared.finding.Finding.{Finding}
+use Rattle.scr_check.specs.declared.finding.Finding.TheVariants.{FirstNotErase, NotAWrite, KeyboardLocked, OtherSize, Unformatted}
+use Rattle.scr_check.specs.Opening.{erases, writes, unless_found, applied, taken, taken_from, is_free, is_size, is_none_of, ready, opening_of}
+use Rattle.scr_check.specs.Findings.{findings_of, told, answer_of}
+use Rattle.term_commands.specs.DemoLines.{demo_of, sends_on, finding_lines, shown_on}
+use Rattle.term_commands.specs.FindingLines.{finding_line}
+use Rattle.term_commands.specs.declared.status.Status.TheVariants.{Findings}
+use Rattle.term_commands.specs.Printed.{printed, Refusal}
+use Rattle.term_commands.specs.Show.{shown_by, shown_after}
+use Rattle.term_commands.specs.Show as show
+use Rattle.term_commands.specs.Check.{printed_verdict, printed_answer}
+
+-- the picture is shown, or the finding has no demo
+abbrev Fits : Result Picture Finding → Result Picture Refusal → Type 0
+Fits (Ok v) shown = shown ≡ Ok v
+Fits (Err finding) shown = demo_of finding ≡ None
+
+-- what the others lead to
+abbrev FitAll : ℕ → List (List ℕ) → Type 0
+FitAll index others = (next : Picture) → Fits (taken_from (index + 1) next others) (shown_after (index + 1) next others)
+
+by_command : (index : ℕ) (others : List (List ℕ)) (first writing : Bool) (result : Result Picture shown.Refused) → FitAll index others
+    → Fits (unless_found (if first then Some FirstNotErase else (if writing then None else Some (NotAWrite index))) (applied index result) >>= λ next. taken_from (index + 1) next others)
+    (show.applied index result >>= λ next. shown_after (index + 1) next others)
+by_command index others true writing result fit = refl
+by_command index others false false result fit = refl
+by_command index others false true (Ok next) fit = fit next
+by_command index others false true (Err refused) fit = refl
+
+by_message : (index : ℕ) (v : Picture) (others : List (List ℕ)) (message : Result Message read.Refused) → FitAll index others
+    → Fits (taken index v message >>= λ next. taken_from (index + 1) next others) (shown_by index v message >>= λ next. shown_after (index + 1) next others)
+by_message index v others (Err refused) fit = refl
+by_message index v others (Ok message) fit =
+    by_command index others ((index == 0) && not (erases message.command)) (writes message.command) (shown_of v message.command message.orders) fit
+
+taken_fits : (index : ℕ) (v : Picture) (records : List (List ℕ)) → Fits (taken_from index v records) (shown_after index v records)
+taken_fits index v [] = refl
+taken_fits index v (bytes ∷ others) = by_message index v others (read_of v.geometry.mode bytes) (λ next. taken_fits (index + 1) next others)
+
+by_ready : (free same none : Bool) (size : Size) (v : Picture) (shown : Result Picture Refusal) → shown ≡ Ok v
+    → Fits (if not free then Err KeyboardLocked else (if not same then Err (OtherSize v.size size) else (if none then Err Unformatted else Ok v))) shown
+by_ready false same none size v shown is = refl
+by_ready true false none size v shown is = refl
+by_ready true true true size v shown is = refl
+by_ready true true false size v shown is = is
+
+ready_fits : (size : Size) (opened : Result Picture Finding) (shown : Result Picture Refusal) → Fits opened shown → Fits (opened >>= ready size) shown
+ready_fits size (Err finding) shown fits = fits
+ready_fits size (Ok v) shown fits = by_ready (is_free v.lock) (is_size v.size size) (is_none_of (fields_of v.cells)) size v shown fits
+
+opening_fits : (layout : Declaration) (records : List (List ℕ)) → Fits (opening_of layout records) (shown_on layout records)
+opening_fits layout [] = refl
+opening_fits layout (bytes ∷ others) =
+    ready_fits layout.size (taken_from 0 (new_picture layout.geometry) (bytes ∷ others)) (shown_on layout (bytes ∷ others))
+    (taken_fits 0 (new_picture layout.geometry) (bytes ∷ others))
+
+-- ---- so the lines of the findings are the same
+
+same_sends : (v : Picture) (demo : Option Demo) (shown : Result Picture Refusal) → shown ≡ Ok v → sends_on shown demo ≡ sends_on {E = Finding} (Ok v) demo
+same_sends v None shown is = refl
+same_sends v (Some demo) shown is = ap (λ s. sends_on s (Some demo)) is
+
+no_sends : {E : Type 0} (opened : Result Picture E) (demo : Option Demo) → demo ≡ None → sends_on opened demo ≡ []
+no_sends opened demo none = ap (λ d. sends_on opened d) none
+
+if_same : (demos : Bool) (some others : List ℕ) → some ≡ others → (if demos then some else []) ≡ (if demos then others else [])
+if_same demos some others same = ap (λ (line : List ℕ). if demos then line else []) same
+
+same_flat : (f g : Finding → List ℕ) → ((finding : Finding) → f finding ≡ g finding) → (findings : List Finding) → flat_map f findings ≡ flat_map g findings
+same_flat f g same [] = refl
+same_flat f g same (finding ∷ findings) = ap (λ line. line ++ flat_map f findings) (same finding) ∙ ap (λ rest. g finding ++ rest) (same_flat f g same findings)
+
+same_verdict : (f g : Finding → List ℕ) → ((finding : Finding) → f finding ≡ g finding) → (findings : List Finding) → printed_verdict f findings ≡ printed_verdict g findings
+same_verdict f g same [] = refl
+same_verdict f g same (finding ∷ findings) = ap (λ (line : List ℕ). printed line Findings) (same_flat f g same (finding ∷ findings))
+
+same_lines : (demos : Bool) (entries : List Declared) (v : Picture) (shown : Result Picture Refusal) → shown ≡ Ok v
+    → (finding : Finding) → finding_lines demos entries shown finding ≡ finding_lines {E = Finding} demos entries (Ok v) finding
+same_lines demos entries v shown is finding =
+    ap (λ (line : List ℕ). finding_line entries finding ++ line) (if_same demos _ _ (same_sends v (demo_of finding) shown is))
+
+one_finding : (demos : Bool) (entries : List Declared) (finding : Finding) (shown : Result Picture Refusal) → demo_of finding ≡ None
+    → finding_lines demos entries shown finding ≡ finding_lines {E = Finding} demos entries (Err finding) finding
+one_finding demos entries finding shown none =
+    ap (λ (line : List ℕ). finding_line entries finding ++ line)
+    (if_same demos _ _ (no_sends shown (demo_of finding) none ∙ sym (no_sends {E = Finding} (Err finding) (demo_of finding) none)))
+
+by_opening : (demos : Bool) (layout : Declaration) (opened : Result Picture Finding) (shown : Result Picture Refusal) → Fits opened shown
+    → printed_verdict (finding_lines demos layout.entries shown) (told layout opened) ≡ printed_verdict (finding_lines demos layout.entries opened) (told layout opened)
+by_opening demos layout (Ok v) shown is =
+    same_verdict (finding_lines demos layout.entries shown) (finding_lines {E = Finding} demos layout.entries (Ok v)) (same_lines demos layout.entries v shown is) (findings_of layout v)
+by_opening demos layout (Err finding) shown none =
+    ap (λ (line : List ℕ). printed (line ++ []) Findings) (one_finding demos layout.entries finding shown none)
+
+pub from_shown : (demos : Bool) (layout : Declaration) (records : List (List ℕ))
+    → printed_verdict (finding_lines demos layout.entries (shown_on layout records)) (answer_of layout records) ≡ printed_answer demos layout records
+from_shown demos layout records = by_opening demos layout (opening_of layout records) (shown_on layout records) (opening_fits layout records)

@@ -1,0 +1,75 @@
+-- Sizes that a line tells can be addressed.
+use Rattle.std.proofs.Common.{◌≡◌, ◌≤◌, ℕ, true, false, cond, eqb, ◌&&◌, List, [], ◌∷◌, drop, Option, Some, None, refl, subst, arith, inl, inr}
+use Rattle.std.specs.Prelude.{codes, nat_eq}
+use Rattle.std.specs.List.{starts_with}
+use Rattle.std.specs.Str.{is_utf8}
+use Rattle.std.proofs.lemmas.Bool.{leb-true}
+use Rattle.ds_codec.specs.declared.size.Size.{Size}
+use Rattle.ds_codec.specs.declared.size.Mode.TheVariants.{Bits14}
+use Rattle.ds_codec.specs.Geometry.{Sizes, cells_of, limit_of, is_good, geometry_of}
+use Rattle.ds_codec.proofs.Below.{both_true}
+use Rattle.order_lines.specs.Words.{cut_at}
+use Rattle.order_lines.specs.Told.{Told, told_of}
+use Rattle.term_commands.specs.Sizes.{geometry_from, geometry_in, geometry_told, size_of}
+use Rattle.term_commands.specs.Drafts.{comment, sized, bad, sized_or_told, text_said, said_of}
+use Rattle.term_commands.specs.Law.{TellsSizes}
+
+-- both sizes can be addressed
+abbrev pub AreAddressed : Sizes → Type 0
+AreAddressed geometry = (cells_of geometry.default ≤ limit_of geometry.mode) × (cells_of geometry.alternate ≤ limit_of geometry.mode)
+
+good_size : (size : Size) → is_good Bits14 size ≡ true → cells_of size ≤ 16384
+good_size size h = leb-true _ _ (both_true _ _ (both_true _ _ h).1).1
+
+of_sizes : (default alternate : Size) (geometry : Sizes) → geometry_of default alternate Bits14 ≡ Some geometry → AreAddressed geometry
+of_sizes default alternate geometry told =
+    elim (is_good Bits14 default && is_good Bits14 alternate)
+    as (λ t. (is_good Bits14 default && is_good Bits14 alternate) ≡ t → cond t (Some (record { default = default; alternate = alternate; mode = Bits14 })) None ≡ Some geometry → AreAddressed geometry) [
+      | true ↦ λ good some.
+          let both = both_true (is_good Bits14 default) (is_good Bits14 alternate) good in
+          let same : record { default = default; alternate = alternate; mode = Bits14 } ≡ geometry = cc in
+          subst AreAddressed same (good_size default both.0, good_size alternate both.1)
+      | false ↦ λ good none. absurd cc
+    ] refl told
+
+from_sizes : (default alternate : Option Size) (geometry : Sizes) → geometry_from default alternate ≡ Some geometry → AreAddressed geometry
+from_sizes (Some default) (Some alternate) geometry told = of_sizes default alternate geometry told
+from_sizes (Some default) None geometry told = absurd cc
+from_sizes None (Some alternate) geometry told = absurd cc
+from_sizes None None geometry told = absurd cc
+
+from_parts : (text : List ℕ) (parts : Option (List ℕ × List ℕ)) (geometry : Sizes) → geometry_in text parts ≡ Some geometry → AreAddressed geometry
+from_parts text None geometry told = from_sizes (size_of text) (size_of text) geometry told
+from_parts text (Some parts) geometry told = from_sizes (size_of parts.0) (size_of parts.1) geometry told
+
+from_line : (line : List ℕ) (geometry : Sizes) → geometry_told line ≡ Some geometry → AreAddressed geometry
+from_line line geometry told =
+    elim (starts_with nat_eq line (codes "size ")) as (λ t. cond t (geometry_in (drop 5 line) (cut_at 0x20 (drop 5 line))) None ≡ Some geometry → AreAddressed geometry) [
+      | true ↦ λ some. from_parts (drop 5 line) (cut_at 0x20 (drop 5 line)) geometry some
+      | false ↦ λ none. absurd cc
+    ] told
+
+is_sized : (found : Option Sizes) (told : Option Told) (geometry : Sizes) → sized_or_told found told ≡ sized geometry → found ≡ Some geometry
+is_sized (Some found) told geometry said = cc
+is_sized None (Some told) geometry said = absurd cc
+is_sized None None geometry said = absurd cc
+
+from_text : (line : List ℕ) (geometry : Sizes) → text_said true line ≡ sized geometry → AreAddressed geometry
+from_text [] geometry said = absurd cc
+from_text (b ∷ bs) geometry said =
+    elim (eqb b 0x23) as (λ t. cond t comment (sized_or_told (geometry_told (b ∷ bs)) (told_of (b ∷ bs))) ≡ sized geometry → AreAddressed geometry) [
+      | true ↦ λ other. absurd cc
+      | false ↦ λ some. from_line (b ∷ bs) geometry (is_sized (geometry_told (b ∷ bs)) (told_of (b ∷ bs)) geometry some)
+    ] said
+
+from_said : (line : List ℕ) (geometry : Sizes) → said_of true line ≡ sized geometry → AreAddressed geometry
+unfolding said_of
+from_said line geometry said =
+    elim (is_utf8 line) as (λ t. cond t (text_said true line) bad ≡ sized geometry → AreAddressed geometry) [
+      | true ↦ λ some. from_text line geometry some
+      | false ↦ λ other. absurd cc
+    ] said
+
+pub are_addressed : (told : List ℕ) (geometry : Sizes) → TellsSizes told geometry → AreAddressed geometry
+are_addressed told geometry (inl (none, usual)) = rw usual (omega arith, omega arith)
+are_addressed told geometry (inr (line, is, one, said)) = from_said line geometry said

@@ -1,0 +1,46 @@
+-- The line of what is sent once the keys of a finding are pressed.
+use Rattle.std.specs.Prelude.{ℕ, Bool, false, List, [], ◌++◌, codes, Option, Some, None, Result, Ok, Err, if◌then◌else◌}
+use Rattle.hex.specs.Hex.{encode_upper}
+use Rattle.ds_screen.specs.Picture.{Picture}
+use Rattle.ds_screen.specs.Records.{new_picture}
+use Rattle.ds_keys.specs.KeyRuns as keyed
+use Rattle.ds_inbound.specs.Answer.{bytes_sent}
+use Rattle.scr_layout.specs.Entry.{Declared}
+use Rattle.scr_layout.specs.Layout.{Declaration}
+use Rattle.scr_check.specs.declared.finding.Demo.{Demo}
+use Rattle.scr_check.specs.declared.finding.Finding.{Finding}
+use Rattle.scr_check.specs.declared.finding.Finding.TheVariants.{Undeclared, UndeclaredFixed, TooLong}
+use Rattle.scr_check.specs.Demos.{demo_keys}
+use Rattle.term_commands.specs.FindingLines.{finding_line}
+use Rattle.term_commands.specs.Printed.{Refusal}
+use Rattle.term_commands.specs.Show.{shown_after}
+
+-- the demo that a finding has
+abbrev pub demo_of : Finding → Option Demo
+demo_of (Undeclared place demo) = Some demo
+demo_of (UndeclaredFixed place demo) = Some demo
+demo_of (TooLong found) = found.demo
+demo_of finding = None
+
+-- what the terminal sends once the demo's keys are pressed on a picture
+abbrev pub bytes_replayed : Picture → Demo → List ℕ
+bytes_replayed v demo = bytes_sent (keyed.after v (demo_keys demo)) false
+
+abbrev pub sends_line : Picture → Demo → List ℕ
+sends_line v demo = codes "sends " ++ (encode_upper (bytes_replayed v demo) ++ codes "\n")
+
+-- the line of a demo on the picture that is told, if there are both
+abbrev pub sends_on : {E : Type 0} → Result Picture E → Option Demo → List ℕ
+sends_on told None = []
+sends_on (Ok v) (Some demo) = sends_line v demo
+sends_on (Err e) (Some demo) = []
+
+-- the line of a finding and, where demos are asked for, what its keys send from the picture that is told
+abbrev pub finding_lines : {E : Type 0} → Bool → List Declared → Result Picture E → Finding → List ℕ
+finding_lines demos entries told finding = finding_line entries finding ++ (if demos then sends_on told (demo_of finding) else [])
+
+-- ---- as the program holds it
+
+-- the picture that the records leave on a new terminal of the layout's geometry
+abbrev pub shown_on : Declaration → List (List ℕ) → Result Picture Refusal
+shown_on layout records = shown_after 0 (new_picture layout.geometry) records
