@@ -1,5 +1,8 @@
 //! The screen: two buffers, and what the terminal keeps beside them.
 
+ghost use Rattle.std.specs.Prelude.{IfOk};
+ghost use Rattle.ds_screen.specs.Kept.{HasRoom};
+
 use crate::cells::Cells;
 use crate::effect::Effect;
 use crate::fields::Fields;
@@ -14,8 +17,8 @@ use std::marker::Model;
 use std::mem::swap;
 
 /// What a terminal shows and keeps (GA23-0059, "Character buffer"): the cells of one of its two sizes,
-/// the cursor, the keyboard's lock and the last attention identifier. Only `new` and `shown_row` take
-/// memory.
+/// the cursor, the keyboard's lock and the last attention identifier. Only `new`, `copied` and `shown_row`
+/// take memory.
 #[derive(Drop)]
 pub struct Screen<C: Cells> {
     geometry: Geometry,
@@ -39,6 +42,17 @@ impl<C: Cells> Model for Screen<C> {
         × HasRoom s.geometry (C.capacity s.cells) × HasRoom s.geometry (C.capacity s.spare) };
 }
 
+/// A buffer for either size.
+fn buffer_for<C: Cells>(alloc: Global, geometry: &Geometry) -> Result<C, AllocError>
+    ensures { IfOk result (λ cells. HasRoom geometry.now (C.capacity cells)) }
+{
+    let most = geometry
+        .default_size()
+        .cells()
+        .max(geometry.alternate_size().cells());
+    C::reserved(alloc, most)
+}
+
 impl<C: Cells> Screen<C> {
     ghost use Rattle.std.specs.Prelude.{◌≡◌, ◌<◌, true, length, slice_set, string_bytes, IfOk, IfErr, OnOk, OnErr, IfSome};
     ghost use Rattle.ds_codec.specs.declared.cell.Cell.{Cell};
@@ -54,9 +68,8 @@ impl<C: Cells> Screen<C> {
         ensures { IfOk result (λ screen. screen ≡ new_picture geometry) }
     {
         let size = geometry.default_size();
-        let most = size.cells().max(geometry.alternate_size().cells());
-        let mut cells = C::reserved(alloc, most)?;
-        let spare = C::reserved(alloc, most)?;
+        let mut cells: C = buffer_for(alloc, &geometry)?;
+        let spare = buffer_for(alloc, &geometry)?;
         cells.clear(size.cells());
         Ok(Screen {
             geometry,
@@ -66,6 +79,24 @@ impl<C: Cells> Screen<C> {
             cursor: 0,
             lock: Lock::Waiting,
             aid: Aid::none(),
+        })
+    }
+
+    /// Another screen that shows and keeps the same. Reserves two buffers of the larger size.
+    pub fn copied(&self, alloc: Global) -> Result<Screen<C>, AllocError>
+        ensures { IfOk result (λ screen. screen ≡ self.now) }
+    {
+        let mut cells: C = buffer_for(alloc, &self.geometry)?;
+        let spare = buffer_for(alloc, &self.geometry)?;
+        cells.copy_from(&self.cells);
+        Ok(Screen {
+            geometry: self.geometry,
+            size: self.size,
+            cells,
+            spare,
+            cursor: self.cursor,
+            lock: self.lock,
+            aid: self.aid,
         })
     }
 

@@ -640,6 +640,30 @@ fn keys_change_one_thing(rt: HostRuntime) -> Result<(), Fail> {
     Ok(())
 }
 
+/// The copy keeps all of it, and what comes later to the one isn't seen on the other.
+#[test]
+fn a_copy_stands_alone(rt: HostRuntime) -> Result<(), Fail> {
+    let alloc = rt.alloc();
+    let mut screen = new_screen(alloc, SMALL, Size { rows: 2, cols: 5 })?;
+    write(&mut screen, &[0x7E, 0xC2, 0x1D, 0x60, 0xC1, 0x13, 0xC2])?;
+    let enter = Aid::from_byte(0x7D).ok_or("Enter")?;
+    screen.set_aid(enter);
+    let copy = screen.copied(alloc)?;
+    write(&mut screen, FORM)?;
+    assert_eq!(rt; copy.geometry(), screen.geometry());
+    assert_eq!(rt; copy.size(), Size { rows: 2, cols: 5 });
+    assert_eq!(rt; copy.cursor(), 2);
+    assert_eq!(rt; copy.lock(), Lock::Free);
+    assert_eq!(rt; copy.aid(), enter);
+    let text = text_of(alloc, &copy)?;
+    assert!(rt; text.as_str() == "@AB.......", "{text}");
+    let mut copy = copy;
+    write(&mut copy, FORM)?;
+    let text = text_of(alloc, &copy)?;
+    assert!(rt; text.as_str() == "@A@...@.............", "{text}");
+    Ok(())
+}
+
 /// The attribute that governs a position, and the next one.
 #[test]
 fn attributes_are_searched(rt: HostRuntime) -> Result<(), Fail> {
