@@ -1,7 +1,7 @@
 //! Orders, one after the other (GA23-0059, "Orders").
 
 ghost use Rattle.std.specs.Prelude.{◌≡◌, ◌<◌, ◌≤◌, true, false, length, IfOk, IfErr, OnOk, IfSome, Some, None};
-ghost use Rattle.ds_codec.specs.Order.{item_of};
+ghost use Rattle.ds_codec.specs.Order.{item_of, text, repeat_to_address, erase_unprotected_to_address};
 ghost use Rattle.ds_screen.specs.Fields.{is_attribute, bits_of};
 ghost use Rattle.ds_screen.specs.Picture.{cell_at};
 ghost use Rattle.ds_screen.specs.Orders.{OrderActs, fault_of, outside_of, after_storing};
@@ -54,6 +54,63 @@ fn stored<C: Cells>(cells: &mut C, state: State, cell: Cell, nulling: bool) -> S
     }
 }
 
+/// Stores text from the buffer address on, and goes on behind it.
+#[tactic(auto, unfolding(crate::specs::Orders::effect_of, crate::specs::Orders::fault_of))]
+fn put_text<C: Cells>(cells: &mut C, state: State, run: &[u8]) -> State
+    requires inside { IsInside (C.content cells.old) state }
+    requires characters { HasCharacters (text run.now) }
+    ensures acts { OrderActs (text run.now) (writing (C.content cells.old) state) (writing (C.content cells.new) result) }
+    ensures inside { IsInside (C.content cells.new) result }
+    ensures whole { length (C.content cells.new) ≡ length (C.content cells.old) }
+    ensures room { C.capacity cells.new ≡ C.capacity cells.old }
+{
+    let address = put_run(cells, state.address, run);
+    State {
+        cursor: state.cursor,
+        address,
+        nulling: true,
+    }
+}
+
+/// Stores a character from the buffer address up to the stop, and goes on there.
+#[tactic(auto, unfolding(crate::specs::Orders::effect_of, crate::specs::Orders::fault_of))]
+fn repeat_to_address<C: Cells>(
+    cells: &mut C,
+    state: State,
+    stop: u32,
+    character: Char,
+) -> Result<State, Why>
+    requires inside { IsInside (C.content cells.old) state }
+    ensures acts { IfOk result (λ after. OrderActs (repeat_to_address stop character) (writing (C.content cells.old) state) (writing (C.content cells.new) after)) }
+    ensures inside { IfOk result (λ after. IsInside (C.content cells.new) after) }
+    ensures refused { IfErr result (λ why. fault_of (repeat_to_address stop character) (writing (C.content cells.old) state) ≡ Some why) }
+    ensures whole { OnOk result (length (C.content cells.new) ≡ length (C.content cells.old)) }
+    ensures room { C.capacity cells.new ≡ C.capacity cells.old }
+{
+    let address = position(cells.len(), stop)?;
+    repeat(cells, state.address, address, character);
+    Ok(state.at(address))
+}
+
+/// Nulls the open characters from the buffer address up to the stop, and goes on there.
+#[tactic(auto, unfolding(crate::specs::Orders::effect_of, crate::specs::Orders::fault_of))]
+fn erase_unprotected_to_address<C: Cells>(
+    cells: &mut C,
+    state: State,
+    stop: u32,
+) -> Result<State, Why>
+    requires inside { IsInside (C.content cells.old) state }
+    ensures acts { IfOk result (λ after. OrderActs (erase_unprotected_to_address stop) (writing (C.content cells.old) state) (writing (C.content cells.new) after)) }
+    ensures inside { IfOk result (λ after. IsInside (C.content cells.new) after) }
+    ensures refused { IfErr result (λ why. fault_of (erase_unprotected_to_address stop) (writing (C.content cells.old) state) ≡ Some why) }
+    ensures whole { OnOk result (length (C.content cells.new) ≡ length (C.content cells.old)) }
+    ensures room { C.capacity cells.new ≡ C.capacity cells.old }
+{
+    let address = position(cells.len(), stop)?;
+    erase(cells, state.address, address);
+    Ok(state.at(address))
+}
+
 /// Does one order.
 #[tactic(auto, unfolding(crate::specs::Orders::effect_of, crate::specs::Orders::fault_of))]
 pub(crate) fn act<C: Cells>(cells: &mut C, state: State, order: &Order<'_>) -> Result<State, Why>
@@ -65,67 +122,28 @@ pub(crate) fn act<C: Cells>(cells: &mut C, state: State, order: &Order<'_>) -> R
     ensures whole { OnOk result (length (C.content cells.new) ≡ length (C.content cells.old)) }
     ensures room { C.capacity cells.new ≡ C.capacity cells.old }
 {
-    let State {
-        cursor,
-        address: b,
-        nulling: _,
-    } = state;
     match order {
-        Order::Text(run) => {
-            let address = put_run(cells, b, run);
-            Ok(State {
-                cursor,
-                address,
-                nulling: true,
-            })
-        }
+        Order::Text(run) => Ok(put_text(cells, state, run)),
         Order::Sf(attribute) => Ok(stored(cells, state, Cell::Field(*attribute), false)),
         Order::Sfe(pairs) => {
             let attribute = last_attr(pairs).unwrap_or(Attr::new(0));
             Ok(stored(cells, state, Cell::Field(attribute), false))
         }
-        Order::Sba(address) => {
-            let address = position(cells.len(), *address)?;
-            Ok(State {
-                cursor,
-                address,
-                nulling: false,
-            })
-        }
-        Order::Sa(_, _) => Ok(State {
-            cursor,
-            address: b,
-            nulling: false,
-        }),
+        Order::Sba(address) => Ok(state.at(position(cells.len(), *address)?)),
+        Order::Sa(_, _) => Ok(state.at(state.address)),
         Order::Mf(pairs) => {
-            let before = attribute_at(cells, b)?;
+            let before = attribute_at(cells, state.address)?;
             let attribute = last_attr(pairs).unwrap_or(before);
             Ok(stored(cells, state, Cell::Field(attribute), false))
         }
         Order::Ic => Ok(State {
-            cursor: b,
-            address: b,
+            cursor: state.address,
+            address: state.address,
             nulling: false,
         }),
         Order::Pt => Ok(program_tab(cells, state)),
-        Order::Ra(stop, character) => {
-            let address = position(cells.len(), *stop)?;
-            repeat(cells, b, address, *character);
-            Ok(State {
-                cursor,
-                address,
-                nulling: false,
-            })
-        }
-        Order::Eua(stop) => {
-            let address = position(cells.len(), *stop)?;
-            erase(cells, b, address);
-            Ok(State {
-                cursor,
-                address,
-                nulling: false,
-            })
-        }
+        Order::Ra(stop, character) => repeat_to_address(cells, state, *stop, *character),
+        Order::Eua(stop) => erase_unprotected_to_address(cells, state, *stop),
         Order::Ge(code) => {
             let character = Char::new(*code, true).unwrap();
             Ok(stored(cells, state, Cell::Char(character), true))

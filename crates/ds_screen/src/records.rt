@@ -1,7 +1,7 @@
 //! The orders of a record, and what the write control character asks for.
 
-ghost use Rattle.std.specs.Prelude.{◌≡◌, ◌<◌, ◌≤◌, length, Ok, Err, Some, None, IfOk, IfErr, OnOk, IfSome, MatchOption};
-ghost use Rattle.ds_screen.specs.Picture.{cell_at, ruled};
+ghost use Rattle.std.specs.Prelude.{◌≡◌, ◌<◌, ◌≤◌, length, replicate, Ok, Err, Some, None, IfOk, IfErr, OnOk, IfSome, MatchOption};
+ghost use Rattle.ds_screen.specs.Picture.{blank, cell_at, ruled};
 ghost use Rattle.ds_screen.specs.State.{writing, IsInside};
 ghost use Rattle.ds_screen.specs.Records.{acts, begun, first_open, cleared_cell};
 ghost use Rattle.ds_screen.specs.Kept.{HasRoom, start_of};
@@ -120,6 +120,21 @@ pub(crate) struct Base {
     pub cursor: u32,
 }
 
+/// Makes the spare buffer nulls of a size: what a write that erases begins with.
+fn erased<C: Cells>(spare: &mut C, size: Size, wcc: u8) -> Base
+    requires { cells_of size ≤ C.capacity spare.old }
+    ensures nulls { C.content spare.new ≡ replicate (cells_of size) blank }
+    ensures base { result ≡ record { wcc = wcc; size = size; cursor = 0 } }
+    ensures room { C.capacity spare.new ≡ C.capacity spare.old }
+{
+    spare.clear(size.cells());
+    Base {
+        wcc,
+        size,
+        cursor: 0,
+    }
+}
+
 /// Puts into the spare buffer what a write begins with: the cells as they are, or nulls of a size. `None`
 /// for a command that is no write.
 pub(crate) fn prepare<C: Cells>(
@@ -150,24 +165,8 @@ pub(crate) fn prepare<C: Cells>(
                 cursor: now.cursor,
             })
         }
-        Command::EraseWrite(wcc) => {
-            let size = geometry.default_size();
-            spare.clear(size.cells());
-            Some(Base {
-                wcc,
-                size,
-                cursor: 0,
-            })
-        }
-        Command::EraseWriteAlternate(wcc) => {
-            let size = geometry.alternate_size();
-            spare.clear(size.cells());
-            Some(Base {
-                wcc,
-                size,
-                cursor: 0,
-            })
-        }
+        Command::EraseWrite(wcc) => Some(erased(spare, geometry.default_size(), wcc)),
+        Command::EraseWriteAlternate(wcc) => Some(erased(spare, geometry.alternate_size(), wcc)),
         Command::EraseAllUnprotected
         | Command::ReadBuffer
         | Command::ReadModified

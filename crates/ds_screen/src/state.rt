@@ -1,5 +1,7 @@
 //! Where orders go on.
 
+ghost use Rattle.std.specs.Prelude.{◌≡◌, false};
+
 /// What orders work on beside the cells.
 #[derive(Clone, Copy, Debug, PartialEq, Eq)]
 pub(crate) struct State {
@@ -9,4 +11,17 @@ pub(crate) struct State {
     pub address: u32,
     /// Whether a Program Tab that comes next nulls what it passes.
     pub nulling: bool,
+}
+
+impl State {
+    /// The same cursor, at that address, not nulling.
+    pub(crate) fn at(self, address: u32) -> State
+        ensures { result ≡ record { cursor = self.cursor; address = address; nulling = false } }
+    {
+        State {
+            cursor: self.cursor,
+            address,
+            nulling: false,
+        }
+    }
 }

@@ -64,26 +64,15 @@ pub(crate) fn program_tab<C: Cells>(cells: &mut C, state: State) -> State
     ensures whole { length (C.content cells.new) ≡ length (C.content cells.old) }
     ensures room { C.capacity cells.new ≡ C.capacity cells.old }
 {
-    let cursor = state.cursor;
     if !state.nulling {
-        let address = stop_from(cells, state.address);
-        return State {
-            cursor,
-            address,
-            nulling: false,
-        };
+        return state.at(stop_from(cells, state.address));
     }
     let place = null_to_attribute(cells, state.address);
     if place < cells.len() {
-        let address = stop_from(cells, place);
-        State {
-            cursor,
-            address,
-            nulling: false,
-        }
+        state.at(stop_from(cells, place))
     } else {
         State {
-            cursor,
+            cursor: state.cursor,
             address: 0,
             nulling: true,
         }
