@@ -15,6 +15,7 @@ ghost use Rattle.ds_inbound.specs.Sending.{sent_in, places_on, has_places, is_fi
 
 use crate::key::is_short;
 use ds_codec::{Aid, Attr, Cell, Char, Mode, encode_address};
+use ds_screen::ring::next;
 use ds_screen::{Cells, FieldAt, Screen};
 use std::alloc::{AllocError, Global};
 
@@ -50,16 +51,6 @@ pub fn write_buffer<C: Cells>(alloc: Global, screen: &Screen<C>) -> Result<Vec<u
         push_cell(&mut out, screen.cell(p))?;
     }
     Ok(out)
-}
-
-/// The position after `p`, of `n`.
-#[tactic(auto, unfolding(ds_screen::specs::Ring::ring_on))]
-fn next(n: u32, p: u32) -> u32
-    requires { p < n }
-    ensures on { result ≡ ring_on n p 1 }
-    ensures inside { result < n }
-{
-    if p + 1 < n { p + 1 } else { 0 }
 }
 
 /// Whether a character is the null.

@@ -8,9 +8,9 @@ ghost use Rattle.ds_keys.specs.KeyStep.{step, inhibited, marked_cell, typed_step
 use crate::fields::{is_open_at, position_count};
 use crate::moves::settle;
 use crate::pressed::Pressed;
-use crate::ring::forward;
 use crate::runs::{end_of_run, null_on, positions_to_end, shift_back};
 use ds_codec::{Cell, Char};
+use ds_screen::ring::forward;
 use ds_screen::{Cells, Lock, Screen};
 
 /// Locks the keyboard: the key cannot act here.

@@ -9,9 +9,9 @@ use crate::fields::position_count;
 use crate::key::Key;
 use crate::moves::{open_from, place_ahead, place_back, row_after};
 use crate::pressed::Pressed;
-use crate::ring::{backward, forward};
 use crate::runs::clear_open;
 use ds_codec::Aid;
+use ds_screen::ring::{backward, forward};
 use ds_screen::{Cells, Lock, Screen};
 
 /// Moves the cursor.

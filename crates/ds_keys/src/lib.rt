@@ -10,7 +10,6 @@ mod laws;
 mod line;
 mod moves;
 mod pressed;
-mod ring;
 mod runs;
 
 pub use key::Key;

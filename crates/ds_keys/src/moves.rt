@@ -4,8 +4,8 @@ ghost use Rattle.std.specs.Prelude.{◌≡◌, ◌<◌, length};
 ghost use Rattle.ds_keys.specs.Moves.{start_ahead, start_back, first_open, settled, next_row};
 
 use crate::fields::{is_open_cell, position_count, ruled_on, ruling, starts_field};
-use crate::ring::{backward, forward};
 use ds_codec::Cell;
+use ds_screen::ring::{backward, forward};
 use ds_screen::{Cells, Screen};
 
 /// The field start at the least positive distance going on, `from` itself last; 0 where there is none.

@@ -10,8 +10,8 @@ ghost use Rattle.ds_keys.specs.KeyStep.{run_end};
 ghost use Rattle.ds_keys.specs.Kept.{so_far, steps_to, moved_back, cleared_under, AreCharacters};
 
 use crate::fields::{is_open_cell, position_count, ruled_on, ruling};
-use crate::ring::{distance, forward};
 use ds_codec::{Cell, Char};
+use ds_screen::ring::{distance, forward};
 use ds_screen::{Cells, Screen};
 
 /// How many positions lie from `p` up to the next attribute, round the ring; up to the last position where

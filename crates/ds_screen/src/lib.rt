@@ -12,7 +12,7 @@ mod plain;
 mod ranges;
 mod records;
 mod refused;
-mod ring;
+pub mod ring;
 mod screen;
 mod shown;
 mod state;

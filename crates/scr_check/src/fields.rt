@@ -8,8 +8,8 @@ ghost use Rattle.scr_check.specs.Findings.{entry_at, is_of_kind, demo_at, length
 
 use crate::finding::{Demo, Finding, Overlong};
 use crate::places::entries_by_place;
-use crate::ring::{previous, steps};
 use ds_codec::{Attr, Cell};
+use ds_screen::ring::{distance, previous};
 use ds_screen::{FieldAt, PlainCells, Screen};
 use scr_layout::{Entry, Kind, Layout};
 use std::alloc::{AllocError, Global};
@@ -37,7 +37,7 @@ fn demo_at(screen: &Screen<PlainCells>, field: &FieldAt, types: u32) -> Demo
     ensures { result ≡ demo_at screen.now field.now types }
 {
     Demo {
-        rights: steps(screen.size().cells(), screen.cursor(), field.place),
+        rights: distance(screen.size().cells(), screen.cursor(), field.place),
         types,
     }
 }

@@ -7,7 +7,6 @@ mod finding;
 mod laws;
 mod opening;
 mod places;
-mod ring;
 mod verdict;
 
 pub use binding::{BindError, BindFault, Bound, bind};
