@@ -17,7 +17,7 @@ use Rattle.scr_check.specs.declared.finding.Finding.{Finding}
 use Rattle.scr_check.specs.declared.finding.Finding.TheVariants.{FirstNotErase, NotAWrite, KeyboardLocked, OtherSize, Unformatted}
 use Rattle.scr_check.specs.Opening.{erases, writes, unless_found, applied, taken, taken_from, is_free, is_size, is_none_of, ready, opening_of}
 use Rattle.scr_check.specs.Findings.{findings_of, told, answer_of}
-use Rattle.term_commands.specs.DemoLines.{demo_of, sends_on, finding_lines, shown_on}
+use Rattle.term_commands.specs.DemoLines.{demo_of, sends_on, asked, finding_lines, shown_on}
 use Rattle.term_commands.specs.FindingLines.{finding_line}
 use Rattle.term_commands.specs.declared.status.Status.TheVariants.{Findings}
 use Rattle.term_commands.specs.Printed.{printed, Refusal}
@@ -71,42 +71,25 @@ opening_fits layout (bytes ∷ others) =
 
 -- ---- so the lines of the findings are the same
 
-same_sends : (v : Picture) (demo : Option Demo) (shown : Result Picture Refusal) → shown ≡ Ok v → sends_on shown demo ≡ sends_on {E = Finding} (Ok v) demo
-same_sends v None shown is = refl
-same_sends v (Some demo) shown is = ap (λ s. sends_on s (Some demo)) is
+asked_same : (demos : Bool) (v : Picture) (shown : Result Picture Refusal) → shown ≡ Ok v → asked demos shown ≡ asked {E = Finding} demos (Ok v)
+asked_same false v shown is = refl
+asked_same true v shown is = ap (asked true) is
 
-no_sends : {E : Type 0} (opened : Result Picture E) (demo : Option Demo) → demo ≡ None → sends_on opened demo ≡ []
-no_sends opened demo none = ap (λ d. sends_on opened d) none
+no_sends : (opened : Option Picture) (demo : Option Demo) → demo ≡ None → sends_on opened demo ≡ []
+no_sends opened demo none = ap (sends_on opened) none
 
-if_same : (demos : Bool) (some others : List ℕ) → some ≡ others → (if demos then some else []) ≡ (if demos then others else [])
-if_same demos some others same = ap (λ (line : List ℕ). if demos then line else []) same
-
-same_flat : (f g : Finding → List ℕ) → ((finding : Finding) → f finding ≡ g finding) → (findings : List Finding) → flat_map f findings ≡ flat_map g findings
-same_flat f g same [] = refl
-same_flat f g same (finding ∷ findings) = ap (λ line. line ++ flat_map f findings) (same finding) ∙ ap (λ rest. g finding ++ rest) (same_flat f g same findings)
-
-same_verdict : (f g : Finding → List ℕ) → ((finding : Finding) → f finding ≡ g finding) → (findings : List Finding) → printed_verdict f findings ≡ printed_verdict g findings
-same_verdict f g same [] = refl
-same_verdict f g same (finding ∷ findings) = ap (λ (line : List ℕ). printed line Findings) (same_flat f g same (finding ∷ findings))
-
-same_lines : (demos : Bool) (entries : List Declared) (v : Picture) (shown : Result Picture Refusal) → shown ≡ Ok v
-    → (finding : Finding) → finding_lines demos entries shown finding ≡ finding_lines {E = Finding} demos entries (Ok v) finding
-same_lines demos entries v shown is finding =
-    ap (λ (line : List ℕ). finding_line entries finding ++ line) (if_same demos _ _ (same_sends v (demo_of finding) shown is))
-
-one_finding : (demos : Bool) (entries : List Declared) (finding : Finding) (shown : Result Picture Refusal) → demo_of finding ≡ None
-    → finding_lines demos entries shown finding ≡ finding_lines {E = Finding} demos entries (Err finding) finding
-one_finding demos entries finding shown none =
-    ap (λ (line : List ℕ). finding_line entries finding ++ line)
-    (if_same demos _ _ (no_sends shown (demo_of finding) none ∙ sym (no_sends {E = Finding} (Err finding) (demo_of finding) none)))
+one_finding : (entries : List Declared) (opened other : Option Picture) (finding : Finding) → demo_of finding ≡ None
+    → finding_lines entries opened finding ≡ finding_lines entries other finding
+one_finding entries opened other finding none =
+    ap (λ (line : List ℕ). finding_line entries finding ++ line) (no_sends opened (demo_of finding) none ∙ sym (no_sends other (demo_of finding) none))
 
 by_opening : (demos : Bool) (layout : Declaration) (opened : Result Picture Finding) (shown : Result Picture Refusal) → Fits opened shown
-    → printed_verdict (finding_lines demos layout.entries shown) (told layout opened) ≡ printed_verdict (finding_lines demos layout.entries opened) (told layout opened)
+    → printed_verdict (finding_lines layout.entries (asked demos shown)) (told layout opened) ≡ printed_verdict (finding_lines layout.entries (asked demos opened)) (told layout opened)
 by_opening demos layout (Ok v) shown is =
-    same_verdict (finding_lines demos layout.entries shown) (finding_lines {E = Finding} demos layout.entries (Ok v)) (same_lines demos layout.entries v shown is) (findings_of layout v)
+    ap (λ (from : Option Picture). printed_verdict (finding_lines layout.entries from) (findings_of layout v)) (asked_same demos v shown is)
 by_opening demos layout (Err finding) shown none =
-    ap (λ (line : List ℕ). printed (line ++ []) Findings) (one_finding demos layout.entries finding shown none)
+    ap (λ (line : List ℕ). printed (line ++ []) Findings) (one_finding layout.entries (asked demos shown) (asked {E = Finding} demos (Err finding)) finding none)
 
 pub from_shown : (demos : Bool) (layout : Declaration) (records : List (List ℕ))
-    → printed_verdict (finding_lines demos layout.entries (shown_on layout records)) (answer_of layout records) ≡ printed_answer demos layout records
+    → printed_verdict (finding_lines layout.entries (asked demos (shown_on layout records))) (answer_of layout records) ≡ printed_answer demos layout records
 from_shown demos layout records = by_opening demos layout (opening_of layout records) (shown_on layout records) (opening_fits layout records)

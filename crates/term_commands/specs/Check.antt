@@ -12,7 +12,7 @@ use Rattle.term_commands.specs.declared.fault.Fault.{Fault}
 use Rattle.term_commands.specs.declared.status.Status.TheVariants.{Done, Findings}
 use Rattle.term_commands.specs.Input.{Found, within_limit, records_in}
 use Rattle.term_commands.specs.Printed.{Printed, printed, printed_or, fault_line}
-use Rattle.term_commands.specs.DemoLines.{finding_lines}
+use Rattle.term_commands.specs.DemoLines.{asked, finding_lines}
 
 -- the layout that bytes say; those that are no text are no TOML
 abbrev pub layout_said : List ℕ → Result Declaration LayoutFault
@@ -34,7 +34,7 @@ printed_verdict lines (finding ∷ findings) = printed (flat_map lines (finding 
 
 -- demos go from the picture that the records open
 abbrev pub printed_answer : Bool → Declaration → List (List ℕ) → Printed
-printed_answer demos layout records = printed_verdict (finding_lines demos layout.entries (opening_of layout records)) (answer_of layout records)
+printed_answer demos layout records = printed_verdict (finding_lines layout.entries (asked demos (opening_of layout records))) (answer_of layout records)
 
 abbrev pub printed_records : Bool → Declaration → Result Found Fault → Printed
 printed_records demos layout told = printed_or (λ found. printed_answer demos layout found.records) fault_line told

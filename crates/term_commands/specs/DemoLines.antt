@@ -1,5 +1,5 @@
 -- The line of what is sent once the keys of a finding are pressed.
-use Rattle.std.specs.Prelude.{ℕ, Bool, false, List, [], ◌++◌, codes, Option, Some, None, Result, Ok, Err, if◌then◌else◌}
+use Rattle.std.specs.Prelude.{ℕ, Bool, true, false, List, [], ◌++◌, codes, Option, Some, None, Result, Ok, Err}
 use Rattle.hex.specs.Hex.{encode_upper}
 use Rattle.ds_screen.specs.Picture.{Picture}
 use Rattle.ds_screen.specs.Records.{new_picture}
@@ -29,15 +29,21 @@ bytes_replayed v demo = bytes_sent (keyed.after v (demo_keys demo)) false
 abbrev pub sends_line : Picture → Demo → List ℕ
 sends_line v demo = codes "sends " ++ (encode_upper (bytes_replayed v demo) ++ codes "\n")
 
--- the line of a demo on the picture that is told, if there are both
-abbrev pub sends_on : {E : Type 0} → Result Picture E → Option Demo → List ℕ
-sends_on told None = []
-sends_on (Ok v) (Some demo) = sends_line v demo
-sends_on (Err e) (Some demo) = []
+-- the line of a demo from a picture, if there are both
+abbrev pub sends_on : Option Picture → Option Demo → List ℕ
+sends_on opened None = []
+sends_on None (Some demo) = []
+sends_on (Some v) (Some demo) = sends_line v demo
 
--- the line of a finding and, where demos are asked for, what its keys send from the picture that is told
-abbrev pub finding_lines : {E : Type 0} → Bool → List Declared → Result Picture E → Finding → List ℕ
-finding_lines demos entries told finding = finding_line entries finding ++ (if demos then sends_on told (demo_of finding) else [])
+-- the line of a finding and, from a picture, what its keys send
+abbrev pub finding_lines : List Declared → Option Picture → Finding → List ℕ
+finding_lines entries opened finding = finding_line entries finding ++ sends_on opened (demo_of finding)
+
+-- the picture that is told, where demos are asked for
+abbrev pub asked : {E : Type 0} → Bool → Result Picture E → Option Picture
+asked false told = None
+asked true (Ok v) = Some v
+asked true (Err e) = None
 
 -- ---- as the program holds it
 

@@ -9,11 +9,12 @@ ghost use Rattle.term_commands.specs.Streams.{Prints};
 ghost use Rattle.term_commands.specs.Printed.{printed};
 ghost use Rattle.term_commands.specs.declared.status.Status.TheVariants.{BadInput, Findings};
 ghost use Rattle.std.specs.List.{flat_map};
-ghost use Rattle.term_commands.specs.DemoLines.{finding_lines, shown_on};
+ghost use Rattle.term_commands.specs.DemoLines.{finding_lines, asked, shown_on};
 ghost use Rattle.scr_check.specs.Seen.{findings_in, TellsSome};
 ghost use Rattle.scr_layout.specs.Results.{Gives};
 
 use crate::answer::{Answer, done, faulted};
+use crate::demo::demo_screen;
 use crate::fault::Fault;
 use crate::findings::push_findings;
 use crate::input::{MOST_BYTES, read_records};
@@ -91,10 +92,17 @@ fn found(
     findings: &[Finding],
 ) -> Result<Answer, AllocError>
     ensures { IfOk result (λ answer. answer_seen answer
-        ≡ printed (flat_map (finding_lines demos layout.now.entries (shown_on layout.now (map (λ bytes. bytes.items) records.now))) findings.now) Findings) }
+        ≡ printed (flat_map (finding_lines layout.now.entries (asked demos (shown_on layout.now (map (λ bytes. bytes.items) records.now)))) findings.now) Findings) }
 {
     let mut text = String::new(alloc);
-    push_findings(alloc, &mut text, layout, records, demos, findings)?;
+    let screen = demo_screen(alloc, layout, records, demos)?;
+    push_findings(
+        alloc,
+        &mut text,
+        layout.entries(),
+        screen.as_ref(),
+        findings,
+    )?;
     Ok(Answer {
         text,
         status: Status::Findings,
@@ -111,7 +119,7 @@ fn told_of(
 ) -> Result<Answer, AllocError>
     requires { TellsSome verdict.now }
     ensures { IfOk result (λ answer. answer_seen answer
-        ≡ printed_verdict (finding_lines demos layout.now.entries (shown_on layout.now (map (λ bytes. bytes.items) records.now))) (findings_in verdict.now)) }
+        ≡ printed_verdict (finding_lines layout.now.entries (asked demos (shown_on layout.now (map (λ bytes. bytes.items) records.now)))) (findings_in verdict.now)) }
 {
     match verdict {
         Verdict::Yes => Ok(done(String::from_str(alloc, "yes\n")?)),

@@ -1,11 +1,11 @@
 //! The keys of a finding, pressed on the screen that the records leave.
 
-ghost use Rattle.std.specs.Prelude.{◌≡◌, ◌++◌, map, replicate, IfOk, OnOk};
+ghost use Rattle.std.specs.Prelude.{◌≡◌, ◌++◌, map, option_map, replicate, IfOk, OnOk};
 ghost use Rattle.std.specs.String.{string_bytes};
 ghost use Rattle.ds_keys.specs.declared.key.Key.{Key};
 ghost use Rattle.ds_keys.specs.KeyRuns.{after};
 ghost use Rattle.scr_check.specs.Demos.{demo_keys};
-ghost use Rattle.term_commands.specs.DemoLines.{demo_of, bytes_replayed, sends_line, sends_on, shown_on};
+ghost use Rattle.term_commands.specs.DemoLines.{demo_of, bytes_replayed, sends_line, sends_on, asked, shown_on};
 
 use crate::show::apply_all;
 use ds_codec::Aid;
@@ -78,24 +78,37 @@ fn push_replayed(
     out.push_str("\n")
 }
 
-/// The line of what a finding's keys send on a new terminal that took the records; none where the finding
-/// has no demo.
+/// The screen that demos go from, where they are asked for: what the records leave on a new terminal, unless
+/// one of them is refused.
+pub fn demo_screen(
+    alloc: Global,
+    layout: &Layout,
+    records: &[Vec<u8>],
+    demos: bool,
+) -> Result<Option<Screen<PlainCells>>, AllocError>
+    ensures { IfOk result (λ screen. screen ≡ asked demos (shown_on layout.now (map (λ bytes. bytes.items) records.now))) }
+{
+    if !demos {
+        return Ok(None);
+    }
+    let mut screen = Screen::<PlainCells>::new(alloc, layout.geometry())?;
+    match apply_all(&mut screen, records) {
+        Ok(()) => Ok(Some(screen)),
+        Err(_) => Ok(None),
+    }
+}
+
+/// The line of what a finding's keys send from a copy of the screen; none where the finding has no demo.
 pub fn push_sends(
     alloc: Global,
     out: &mut String,
-    layout: &Layout,
-    records: &[Vec<u8>],
+    screen: Option<&Screen<PlainCells>>,
     finding: Finding,
 ) -> Result<(), AllocError>
-    ensures { OnOk result (string_bytes out.new ≡ string_bytes out.old
-        ++ sends_on (shown_on layout.now (map (λ bytes. bytes.items) records.now)) (demo_of finding)) }
+    ensures { OnOk result (string_bytes out.new ≡ string_bytes out.old ++ sends_on (option_map (λ s. s.now) screen.entry) (demo_of finding)) }
 {
-    let Some(demo) = demo_of(finding) else {
-        return Ok(());
-    };
-    let mut screen = Screen::<PlainCells>::new(alloc, layout.geometry())?;
-    match apply_all(&mut screen, records) {
-        Ok(()) => push_replayed(alloc, out, &mut screen, demo),
-        Err(_) => Ok(()),
+    match (screen, demo_of(finding)) {
+        (Some(screen), Some(demo)) => push_replayed(alloc, out, &mut screen.copied(alloc)?, demo),
+        (None, _) | (_, None) => Ok(()),
     }
 }

@@ -1,16 +1,17 @@
 //! The lines of findings.
 
-ghost use Rattle.std.specs.Prelude.{◌≡◌, ◌++◌, [], map, OnOk};
+ghost use Rattle.std.specs.Prelude.{◌≡◌, ◌++◌, [], option_map, OnOk};
 ghost use Rattle.std.specs.Fmt.{decimal};
 ghost use Rattle.std.specs.String.{string_bytes};
 ghost use Rattle.std.specs.List.{flat_map};
 ghost use Rattle.term_commands.specs.FindingLines.{fault_line, missing_line, other_kind_line, name_at, keys_end, demo_end, refused_line, overlong_line, finding_line};
-ghost use Rattle.term_commands.specs.DemoLines.{finding_lines, shown_on};
+ghost use Rattle.term_commands.specs.DemoLines.{finding_lines};
 
 use crate::demo::push_sends;
 use ds_codec::Size;
+use ds_screen::{PlainCells, Screen};
 use scr_check::{Demo, Finding, Overlong, Refusal};
-use scr_layout::{Entry, Layout};
+use scr_layout::Entry;
 use std::alloc::{AllocError, Global};
 
 /// The name of the entry of this index.
@@ -116,39 +117,34 @@ fn push_finding(out: &mut String, entries: &[Entry], finding: Finding) -> Result
     }
 }
 
-/// The line of a finding and, where demos are asked for, what its keys send.
+/// The line of a finding and, from a screen, what its keys send.
 fn push_lines(
     alloc: Global,
     out: &mut String,
-    layout: &Layout,
-    records: &[Vec<u8>],
-    demos: bool,
+    entries: &[Entry],
+    screen: Option<&Screen<PlainCells>>,
     finding: Finding,
 ) -> Result<(), AllocError>
     ensures { OnOk result (string_bytes out.new ≡ string_bytes out.old
-        ++ finding_lines demos layout.now.entries (shown_on layout.now (map (λ bytes. bytes.items) records.now)) finding) }
+        ++ finding_lines entries.now (option_map (λ s. s.now) screen.entry) finding) }
 {
-    push_finding(out, layout.entries(), finding)?;
-    if demos {
-        push_sends(alloc, out, layout, records, finding)?;
-    }
-    Ok(())
+    push_finding(out, entries, finding)?;
+    push_sends(alloc, out, screen, finding)
 }
 
-/// The lines of findings, in their order.
+/// The lines of findings, in their order, with what their keys send where there is a screen to press them on.
 pub fn push_findings(
     alloc: Global,
     out: &mut String,
-    layout: &Layout,
-    records: &[Vec<u8>],
-    demos: bool,
+    entries: &[Entry],
+    screen: Option<&Screen<PlainCells>>,
     findings: &[Finding],
 ) -> Result<(), AllocError>
     ensures { OnOk result (string_bytes out.new ≡ string_bytes out.old
-        ++ flat_map (finding_lines demos layout.now.entries (shown_on layout.now (map (λ bytes. bytes.items) records.now))) findings.now) }
+        ++ flat_map (finding_lines entries.now (option_map (λ s. s.now) screen.entry)) findings.now) }
 {
     for finding in findings {
-        push_lines(alloc, out, layout, records, demos, *finding)?;
+        push_lines(alloc, out, entries, screen, *finding)?;
     }
     Ok(())
 }

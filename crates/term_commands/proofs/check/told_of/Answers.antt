@@ -3,7 +3,7 @@ use Rattle.std.specs.Prelude.{IfOk}
 use Rattle.std.specs.List.{flat_map}
 use Rattle.scr_check.specs.declared.finding.Finding.{Finding}
 use Rattle.term_commands.specs.declared.status.Status.TheVariants.{Findings}
-use Rattle.term_commands.specs.DemoLines.{finding_lines, shown_on}
+use Rattle.term_commands.specs.DemoLines.{finding_lines, asked, shown_on}
 use Rattle.term_commands.specs.Printed.{Printed, printed}
 use Rattle.term_commands.specs.Kinds.{answer_seen}
 use Rattle.term_commands.proofs.Checked.{some_findings}
@@ -11,7 +11,7 @@ use Rattle.term_commands.proofs.check.told_of.Goals as goal
 
 pub returns-in-No : goal.returns-in-No
 returns-in-No c =
-    let lines : Finding → List ℕ = finding_lines c.args.demos c.args.layout.now.entries (shown_on c.args.layout.now (map (λ bytes. bytes.items) c.args.records.now)) in
+    let lines : Finding → List ℕ = finding_lines c.args.layout.now.entries (asked c.args.demos (shown_on c.args.layout.now (map (λ bytes. bytes.items) c.args.records.now))) in
     rw c.in-No.is (subst (λ (p : Printed). IfOk c.found.result (λ answer. answer_seen answer ≡ p))
     (ap (λ (fs : List Finding). printed (flat_map lines fs) Findings) c.as_slice.ensures.value
     ∙ sym (some_findings lines c.in-No.findings.items (rw c.in-No.is at c.requires)))
