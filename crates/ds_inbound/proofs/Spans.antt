@@ -1,103 +1,17 @@
 -- A field is the run of cells from the place behind its attribute on.
-use Rattle.std.proofs.Common.{◌≡◌, ◌≢◌, ℕ, zero, suc, ◌+◌, ◌-◌, ◌<◌, ◌≤◌, ◌&&◌, Bool, true, false, not, List, ◌∷◌, length, map, Some, refl, sym, ◌∙◌, ap, arith, inl, inr}
+use Rattle.std.proofs.Common.{◌≡◌, ℕ, zero, suc, ◌+◌, ◌-◌, ◌<◌, ◌≤◌, Bool, true, false, List, ◌∷◌, length, map, refl, sym, ◌∙◌, ap, arith, inl, inr}
 use Rattle.std.specs.List.{range_with_len, filter}
-use Rattle.std.proofs.lemmas.Bool.{cond-true, cond-false, cases_lt, false≢true, eq-eqb, ne_eqb}
+use Rattle.std.proofs.lemmas.Bool.{cond-true, cond-false, false≢true}
 use Rattle.ds_codec.specs.declared.cell.Cell.{Cell}
-use Rattle.ds_screen.specs.Ring.{ring_on, ring_back}
+use Rattle.ds_screen.specs.Ring.{ring_on}
 use Rattle.ds_screen.specs.Picture.{cell_at}
-use Rattle.ds_screen.specs.Fields.{is_attribute, is_character, attribute_before, is_at, governs, span_of}
-use Rattle.ds_screen.proofs.RingLaws.{on_cases, back_cases, IsFound, search_cases}
-use Rattle.ds_screen.proofs.FieldLaws.{before_found}
-use Rattle.ds_screen.proofs.SpanLaws.{IsNext, length-span_of}
+use Rattle.ds_screen.specs.Fields.{is_attribute, governs, span_of}
+use Rattle.ds_screen.proofs.RingLaws.{on_cases, search_cases}
+use Rattle.ds_screen.proofs.SpanLaws.{IsNext, on_on, ruled_by, not_ruled_by, next_from, length-span_of}
 use Rattle.ds_inbound.specs.Sending.{places_on}
-
--- ---- ring steps
-back_on : (n q i e : ℕ) → q < n → i < n → e ≤ i → ring_back n (ring_on n q i) e ≡ ring_on n q (i - e)
-back_on n q i e inside few less =
-    elim (on_cases n q i) [
-      | inl a ↦ elim (back_cases n (ring_on n q i) e) [
-        | inl b ↦ elim (on_cases n q (i - e)) [ inl c ↦ omega arith | inr c ↦ omega arith ]
-        | inr b ↦ elim (on_cases n q (i - e)) [ inl c ↦ omega arith | inr c ↦ omega arith ]
-      ]
-      | inr a ↦ elim (back_cases n (ring_on n q i) e) [
-        | inl b ↦ elim (on_cases n q (i - e)) [ inl c ↦ omega arith | inr c ↦ omega arith ]
-        | inr b ↦ elim (on_cases n q (i - e)) [ inl c ↦ omega arith | inr c ↦ omega arith ]
-      ]
-    ]
-
-on_on : (n q k : ℕ) → q < n → k < n → ring_on n (ring_on n q 1) k ≡ ring_on n q (k + 1)
-on_on n q k inside few =
-    elim (on_cases n q 1) [
-      | inl a ↦ elim (on_cases n (ring_on n q 1) k) [
-        | inl b ↦ elim (on_cases n q (k + 1)) [ inl c ↦ omega arith | inr c ↦ omega arith ]
-        | inr b ↦ elim (on_cases n q (k + 1)) [ inl c ↦ omega arith | inr c ↦ omega arith ]
-      ]
-      | inr a ↦ elim (on_cases n (ring_on n q 1) k) [
-        | inl b ↦ elim (on_cases n q (k + 1)) [ inl c ↦ omega arith | inr c ↦ omega arith ]
-        | inr b ↦ elim (on_cases n q (k + 1)) [ inl c ↦ omega arith | inr c ↦ omega arith ]
-      ]
-    ]
 
 on_whole : (n q : ℕ) → q < n → ring_on n q n ≡ q
 on_whole n q inside = elim (on_cases n q n) [ inl c ↦ omega arith | inr c ↦ omega arith ]
-
-on_none : (n q : ℕ) → q < n → ring_on n q 0 ≡ q
-on_none n q inside = elim (on_cases n q 0) [ inl c ↦ omega arith | inr c ↦ omega arith ]
-
-on_apart : (n q j : ℕ) → q < n → 0 < j → j < n → ring_on n q j ≢ q
-on_apart n q j inside some few same = elim (on_cases n q j) [ inl c ↦ omega arith | inr c ↦ omega arith ]
-
--- ---- what the attribute at q governs
-ruled_by : (cells : List Cell) (q k i : ℕ) → q < length cells → is_attribute (cell_at cells q) ≡ true → IsNext cells q k → 0 < i → i ≤ k
-    → governs cells q (ring_on (length cells) q i) ≡ true
-ruled_by cells q k i inside there next some few =
-    let n : ℕ = length cells in
-    let p : ℕ = ring_on n q i in
-    let lt : i < n = omega (arith, next.inside) in
-    let home : q ≡ ring_back n p i = sym (back_on n q i i inside lt (omega arith) ∙ ap (ring_on n q) (omega arith) ∙ on_none n q inside) in
-    let found : Some q ≡ attribute_before cells p =
-    before_found cells n p i q refl lt home
-    (λ e below. ap (λ z. is_attribute (cell_at cells z)) (back_on n q i e inside lt (omega arith)) ∙ next.characters (i - e) (omega arith) (omega arith)) there in
-    ap (λ t. not t && is_at (attribute_before cells p) q) (next.characters i some few)
-    ∙ ap (λ o. is_at o q) (sym found) ∙ eq-eqb q q refl
-
-both_false : (t u : Bool) → u ≡ false → (t && u) ≡ false
-both_false true u e = e
-both_false false u e = refl
-
-not_ruled_by : (cells : List Cell) (q k i : ℕ) → q < length cells → IsNext cells q k → k < i → i < length cells
-    → governs cells q (ring_on (length cells) q i) ≡ false
-not_ruled_by cells q k i inside next far lt =
-    let n : ℕ = length cells in
-    let p : ℕ = ring_on n q i in
-    let there : is_attribute (cell_at cells (ring_back n p (i - (k + 1)))) ≡ true =
-    ap (λ z. is_attribute (cell_at cells z)) (back_on n q i (i - (k + 1)) inside lt (omega arith) ∙ ap (ring_on n q) (omega arith)) ∙ next.stop in
-    elim (search_cases n (λ e. is_attribute (cell_at cells (ring_back n p e)))) [
-      | inl found ↦
-          elim (cases_lt (i - (k + 1)) found.0) [
-            | inl late ↦ absurd (false≢true (sym (found.1.misses (i - (k + 1)) late) ∙ there))
-            | inr early ↦
-                let r : ℕ = ring_back n p found.0 in
-                let is : r ≡ ring_on n q (i - found.0) = back_on n q i found.0 inside lt (omega arith) in
-                let apart : r ≢ q = λ same. on_apart n q (i - found.0) inside (omega arith) (omega arith) (sym is ∙ same) in
-                both_false (is_character (cell_at cells p)) (is_at (attribute_before cells p) q)
-                (ap (λ o. is_at o q) (sym (before_found cells n p found.0 r refl found.1.inside refl found.1.misses found.1.hit)) ∙ ne_eqb r q apart)
-          ]
-      | inr none ↦ absurd (false≢true (sym (none (i - (k + 1)) (omega arith)) ∙ there))
-    ]
-
--- the next attribute, as a search on from the place behind q finds it
-next_from : (cells : List Cell) (q k : ℕ) → q < length cells → IsFound (length cells) (λ d. is_attribute (cell_at cells (ring_on (length cells) (ring_on (length cells) q 1) d))) k
-    → IsNext cells q k
-next_from cells q k inside found =
-    let n : ℕ = length cells in
-    record {
-      inside = found.inside;
-      characters = λ i some few.
-          let back : i - 1 + 1 ≡ i = omega arith in
-          ap (λ z. is_attribute (cell_at cells z)) (ap (ring_on n q) (sym back) ∙ sym (on_on n q (i - 1) inside (omega (arith, found.inside)))) ∙ found.misses (i - 1) (omega arith);
-      stop = ap (λ z. is_attribute (cell_at cells z)) (sym (on_on n q k inside found.inside)) ∙ found.hit;
-    }
 
 -- what passes is a front of the places
 first_run : (f : ℕ → Bool) (g : ℕ → ℕ) (m a k : ℕ) → k ≤ m → ((i : ℕ) → a ≤ i → i < a + k → f (g i) ≡ true)
