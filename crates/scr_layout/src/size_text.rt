@@ -25,9 +25,9 @@ fn number_of(digits: &str) -> Option<u16>
     }
 }
 
-/// The size that `RxC` spells, where a terminal can have it.
-pub(crate) fn size_of_text(mode: Mode, text: &str) -> Option<Size>
-    // A size has one spelling.
+/// The size that `RxC` spells, rows and columns in decimal digits without leading zeros, where a terminal can
+/// have it; `None` for any other text. A size has one spelling.
+pub fn size_of_text(mode: Mode, text: &str) -> Option<Size>
     ensures spelled { IfSome result (λ size. IsGood mode size × (text.now ≡ size_text size)) }
     ensures only { (size : Size) → IsGood mode size → text.now ≡ size_text size →
         result ≡ Some size }

@@ -1,16 +1,16 @@
 -- Sizes that a line tells can be addressed.
 use Rattle.std.proofs.Common.{◌≡◌, ◌≤◌, ℕ, true, false, cond, eqb, ◌&&◌, List, [], ◌∷◌, drop, Option, Some, None, refl, subst, arith, inl, inr}
 use Rattle.std.specs.Prelude.{codes, nat_eq}
-use Rattle.std.specs.List.{starts_with}
+use Rattle.std.specs.List.{starts_with, list_any, before_first, after_first}
 use Rattle.std.specs.Str.{is_utf8}
 use Rattle.std.proofs.lemmas.Bool.{leb-true}
 use Rattle.ds_codec.specs.declared.size.Size.{Size}
 use Rattle.ds_codec.specs.declared.size.Mode.TheVariants.{Bits14}
 use Rattle.ds_codec.specs.Geometry.{Sizes, cells_of, limit_of, is_good, geometry_of}
 use Rattle.ds_codec.proofs.Below.{both_true}
-use Rattle.order_lines.specs.Words.{cut_at}
 use Rattle.order_lines.specs.Told.{Told, told_of}
-use Rattle.term_commands.specs.Sizes.{geometry_from, geometry_in, geometry_told, size_of}
+use Rattle.scr_layout.specs.SizeText.{size_of_text}
+use Rattle.term_commands.specs.Sizes.{is_space, geometry_from, geometry_in, geometry_told}
 use Rattle.term_commands.specs.Drafts.{comment, sized, bad, sized_or_told, text_said, said_of}
 use Rattle.term_commands.specs.Law.{TellsSizes}
 
@@ -38,14 +38,19 @@ from_sizes (Some default) None geometry told = absurd cc
 from_sizes None (Some alternate) geometry told = absurd cc
 from_sizes None None geometry told = absurd cc
 
-from_parts : (text : List ℕ) (parts : Option (List ℕ × List ℕ)) (geometry : Sizes) → geometry_in text parts ≡ Some geometry → AreAddressed geometry
-from_parts text None geometry told = from_sizes (size_of text) (size_of text) geometry told
-from_parts text (Some parts) geometry told = from_sizes (size_of parts.0) (size_of parts.1) geometry told
+from_words : (words : List ℕ) (geometry : Sizes) → geometry_in words ≡ Some geometry → AreAddressed geometry
+from_words words geometry told =
+    elim (list_any is_space words)
+    as (λ t. cond t (geometry_from (size_of_text Bits14 (before_first is_space words)) (size_of_text Bits14 (after_first is_space words)))
+    (geometry_from (size_of_text Bits14 words) (size_of_text Bits14 words)) ≡ Some geometry → AreAddressed geometry) [
+      | true ↦ λ some. from_sizes (size_of_text Bits14 (before_first is_space words)) (size_of_text Bits14 (after_first is_space words)) geometry some
+      | false ↦ λ some. from_sizes (size_of_text Bits14 words) (size_of_text Bits14 words) geometry some
+    ] told
 
 from_line : (line : List ℕ) (geometry : Sizes) → geometry_told line ≡ Some geometry → AreAddressed geometry
 from_line line geometry told =
-    elim (starts_with nat_eq line (codes "size ")) as (λ t. cond t (geometry_in (drop 5 line) (cut_at 0x20 (drop 5 line))) None ≡ Some geometry → AreAddressed geometry) [
-      | true ↦ λ some. from_parts (drop 5 line) (cut_at 0x20 (drop 5 line)) geometry some
+    elim (starts_with nat_eq line (codes "size ")) as (λ t. cond t (geometry_in (drop 5 line)) None ≡ Some geometry → AreAddressed geometry) [
+      | true ↦ λ some. from_words (drop 5 line) geometry some
       | false ↦ λ none. absurd cc
     ] told
 

@@ -18,6 +18,7 @@ use crate::demo::demo_screen;
 use crate::fault::Fault;
 use crate::findings::push_findings;
 use crate::input::{MOST_BYTES, read_records};
+use crate::lines::text_of;
 use crate::status::Status;
 use crate::stream::{read_all, write_answer};
 use scr_check::{Finding, Verdict, check};
@@ -37,9 +38,9 @@ enum Told {
 fn layout_of(alloc: Global, bytes: &[u8]) -> Result<Layout, LayoutError>
     ensures { Gives (λ l. l) result (layout_said bytes.now) }
 {
-    match str::from_utf8(bytes) {
-        Ok(text) => Layout::from_text(alloc, text),
-        Err(_) => Err(LayoutError::Refused(LayoutFault {
+    match text_of(bytes) {
+        Some(text) => Layout::from_text(alloc, text),
+        None => Err(LayoutError::Refused(LayoutFault {
             field: None,
             which: None,
             why: LayoutRefusal::NotToml,

@@ -10,7 +10,7 @@ ghost use Rattle.term_commands.specs.Kinds.{Gives, said_seen, drafts_seen};
 
 use crate::fault::Fault;
 use crate::input::{MOST_BYTES, MOST_RECORDS, usual_geometry};
-use crate::lines::is_text;
+use crate::lines::text_of;
 use crate::sizes::told_geometry;
 use bstr::ByteSlice;
 use ds_codec::{Command, Geometry};
@@ -44,16 +44,16 @@ pub struct Drafts {
 fn line_said(alloc: Global, first: bool, line: &[u8]) -> Result<Said, AllocError>
     ensures { IfOk result (λ said. said_seen said ≡ said_of first line.now) }
 {
-    if !is_text(line) {
+    let Some(text) = text_of(line) else {
         return Ok(Said::Bad);
-    }
+    };
     match line {
         [] => return Ok(Said::Nothing),
         [b'#', ..] => return Ok(Said::Comment),
         _ => {}
     }
     if first {
-        if let Some(geometry) = told_geometry(line) {
+        if let Some(geometry) = told_geometry(text) {
             return Ok(Said::Sized(geometry));
         }
     }

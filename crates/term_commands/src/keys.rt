@@ -9,6 +9,7 @@ ghost use Rattle.term_commands.specs.PressSeen.{key_line_seen};
 
 use crate::fault::Fault;
 use crate::input::MOST_BYTES;
+use crate::lines::text_of;
 use bstr::ByteSlice;
 use ds_keys::{Key, key_of_line};
 use std::alloc::Global;
@@ -49,15 +50,10 @@ fn is_passed(line: &[u8]) -> bool
 fn line_said(line: &[u8]) -> KeyLine
     ensures { key_line_seen result ≡ key_kind_of line.now }
 {
-    match str::from_utf8(line) {
-        Ok(text) => {
-            if is_passed(line) {
-                KeyLine::Passed
-            } else {
-                named(text)
-            }
-        }
-        Err(_) => KeyLine::Bad,
+    match text_of(line) {
+        Some(_) if is_passed(line) => KeyLine::Passed,
+        Some(text) => named(text),
+        None => KeyLine::Bad,
     }
 }
 

@@ -1,6 +1,6 @@
 //! What a line of records can be.
 
-ghost use Rattle.std.specs.Prelude.{◌≡◌, ◌==◌, not, IfOk, OnOk, Ok, Err, Some, None, Result, List, ℕ};
+ghost use Rattle.std.specs.Prelude.{◌≡◌, ◌==◌, true, false, not, MatchOption, IfOk, OnOk, Ok, Err, Some, None, Result, List, ℕ};
 ghost use Rattle.std.specs.List.{filter};
 ghost use Rattle.std.specs.Str.{is_utf8};
 ghost use Rattle.hex.specs.Hex.{decode_of};
@@ -22,13 +22,13 @@ pub enum Line {
     Bad,
 }
 
-/// Whether a line is UTF-8.
-pub fn is_text(line: &[u8]) -> bool
-    ensures { result ≡ is_utf8 line.now }
+/// The text that a line is, if it is UTF-8.
+pub fn text_of(line: &[u8]) -> Option<&str>
+    ensures { MatchOption result (is_utf8 line.now ≡ false) (λ text. (text.now ≡ line.now) × (is_utf8 line.now ≡ true)) }
 {
     match str::from_utf8(line) {
-        Ok(_) => true,
-        Err(_) => false,
+        Ok(text) => Some(text),
+        Err(_) => None,
     }
 }
 
@@ -75,15 +75,15 @@ pub fn line_kind(
 ) -> Result<Line, AllocError>
     ensures { IfOk result (λ kind. kind_seen kind ≡ kind_of first line.now) }
 {
-    if !is_text(line) {
+    let Some(text) = text_of(line) else {
         return Ok(Line::Bad);
-    }
+    };
     strip_spaces(digits, line)?;
     if is_passed(digits.as_slice()) {
         return Ok(Line::Passed);
     }
     if first {
-        if let Some(geometry) = told_geometry(line) {
+        if let Some(geometry) = told_geometry(text) {
             return Ok(Line::Sized(geometry));
         }
     }

@@ -1,8 +1,8 @@
 //! The values of each key.
 
 use super::{CODE, check_rows, told, with_value};
-use crate::{Kind, Layout};
-use ds_codec::Size;
+use crate::{Kind, Layout, size_of_text};
+use ds_codec::{Mode, Size};
 use std::test::Fail;
 
 const GOOD_SIZES: &str = r#"24x80
@@ -123,6 +123,22 @@ fn sizes(rt: HostRuntime) -> Result<(), Fail> {
         }
     }
     check_rows(&rt, alloc, "", SCREENS)?;
+    Ok(())
+}
+
+#[test]
+fn sizes_have_one_spelling(rt: HostRuntime) -> Result<(), Fail> {
+    let wide = Some(Size { rows: 2, cols: 10 });
+    assert_eq!(rt; size_of_text(Mode::Bits14, "2x10"), wide);
+    for text in GOOD_SIZES.lines() {
+        let size = size_of_text(Mode::Bits14, text).ok_or("a size")?;
+        let Size { rows, cols } = size;
+        let again = format!(in rt.alloc(); "{rows}x{cols}")?;
+        assert!(rt; again.as_str() == text, "{text}");
+    }
+    for text in BAD_SIZES.lines() {
+        assert_eq!(rt; size_of_text(Mode::Bits14, text), None, "{text}");
+    }
     Ok(())
 }
 
