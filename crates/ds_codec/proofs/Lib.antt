@@ -9,3 +9,4 @@ pub mod Faults
 pub mod Walk
 pub mod Records
 pub mod Written
+pub mod Aids

@@ -15,11 +15,11 @@ mod refused;
 mod size;
 mod write;
 
-pub use address::{decode_address, encode_address};
+pub use address::{decode_address, encode_address, to_six_bit_code};
 pub use aid::Aid;
 pub use attribute::Attr;
 pub use cell::Cell;
-pub use character::Char;
+pub use character::{Char, is_graphic_code};
 pub use command::{Command, CommandCode};
 pub use front::last_attr;
 pub use geometry::{BadSize, Geometry};
