@@ -28,6 +28,3 @@ pub use record::{Orders, Record, one_reading};
 pub use refused::{Refused, Why};
 pub use size::{Mode, Size};
 pub use write::{Unwritable, write_record};
-
-#[cfg(test)]
-mod tests;

@@ -1,6 +1,6 @@
 //! Records read: a table of bytes, and the orders and places that they spell or where they are refused.
 
-use crate::{Command, Mode, Order, Placed, Record};
+use ds_codec::{Command, Mode, Order, Placed, Record};
 use std::alloc::{AllocError, Global};
 use std::process::Abort;
 use std::test::Fail;

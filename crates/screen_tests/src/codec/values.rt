@@ -1,6 +1,6 @@
 //! Sizes, addresses, attributes, characters, attention identifiers and words.
 
-use crate::{
+use ds_codec::{
     Aid, Attr, BadSize, Char, Command, Geometry, Mode, Record, Refused, Size, Unwritable, Why,
     decode_address, encode_address, last_attr,
 };

@@ -1,6 +1,6 @@
 //! Records written, and the orders that cannot be.
 
-use crate::{Attr, Char, Command, Mode, Order, Unwritable, write_record};
+use ds_codec::{Attr, Char, Command, Mode, Order, Unwritable, write_record};
 use std::alloc::Global;
 use std::process::Abort;
 use std::test::Fail;

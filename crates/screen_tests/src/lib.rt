@@ -1,0 +1,5 @@
+//! Tests of the data stream's crates over their public items, a folder for each crate.
+#![tactic(auto)]
+
+#[cfg(test)]
+mod codec;
