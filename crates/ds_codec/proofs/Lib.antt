@@ -10,3 +10,4 @@ pub mod Walk
 pub mod Records
 pub mod Written
 pub mod Aids
+pub mod DigitPairs
