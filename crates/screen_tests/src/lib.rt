@@ -3,3 +3,5 @@
 
 #[cfg(test)]
 mod codec;
+#[cfg(test)]
+mod screen;
