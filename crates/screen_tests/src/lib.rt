@@ -4,4 +4,6 @@
 #[cfg(test)]
 mod codec;
 #[cfg(test)]
+mod keys;
+#[cfg(test)]
 mod screen;
