@@ -4,6 +4,8 @@
 #[cfg(test)]
 mod codec;
 #[cfg(test)]
+mod inbound;
+#[cfg(test)]
 mod keys;
 #[cfg(test)]
 mod screen;
