@@ -34,6 +34,3 @@ pub use lock::Lock;
 pub use plain::PlainCells;
 pub use refused::{Refused, Why};
 pub use screen::Screen;
-
-#[cfg(test)]
-mod tests;

@@ -3,3 +3,9 @@
 
 #[cfg(test)]
 mod codec;
+#[cfg(test)]
+mod inbound;
+#[cfg(test)]
+mod keys;
+#[cfg(test)]
+mod screen;

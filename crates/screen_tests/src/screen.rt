@@ -1,7 +1,7 @@
 //! Worked rows, by hand from the data stream's rules.
 
-use crate::{Effect, FieldAt, PlainCells, Refused, Screen};
 use ds_codec::{Attr, Geometry, Mode, Record, Size};
+use ds_screen::{Effect, FieldAt, PlainCells, Refused, Screen};
 use std::alloc::Global;
 use std::test::Fail;
 

@@ -1,9 +1,9 @@
 //! Worked rows, by hand from the rules of the keys.
 
-use crate::{
+use ds_codec::{Geometry, Mode, Record, Size};
+use ds_keys::{
     Pressed, keep_law, key_of_line, one_step, press, quiet_keep_law, sound_law, touched_law,
 };
-use ds_codec::{Geometry, Mode, Record, Size};
 use ds_screen::{Lock, PlainCells, Screen};
 use std::alloc::Global;
 use std::process::Abort;

@@ -1,8 +1,8 @@
 //! What keys change, copies, and buffers.
 
 use super::{FORM, SMALL, new_screen, screen_after, text_of, write};
-use crate::{Cells, Lock, PlainCells};
 use ds_codec::{Aid, Cell, Char, Size};
+use ds_screen::{Cells, Lock, PlainCells};
 use std::test::Fail;
 
 #[test]

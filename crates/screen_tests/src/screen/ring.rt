@@ -1,6 +1,6 @@
 //! Steps round the ring of positions.
 
-use crate::ring::{backward, distance, forward, next, previous};
+use ds_screen::ring::{backward, distance, forward, next, previous};
 use std::test::Fail;
 
 #[test]

@@ -1,7 +1,7 @@
 //! Answers written: screens as records leave them, and the bytes that are sent.
 
-use crate::{Inbound, write_buffer, write_inbound};
 use ds_codec::{Aid, Geometry, Mode, Record, Size};
+use ds_inbound::{Inbound, write_buffer, write_inbound};
 use ds_screen::{PlainCells, Screen};
 use std::alloc::Global;
 use std::test::Fail;

@@ -1,8 +1,8 @@
 //! Worked rows of the wire: streams in, their events as text out.
 
-use crate::{DataType, Deframer, Event, Header, HeaderFault, Step, Verb, WireFault, frame};
 use std::alloc::{AllocError, Global};
 use std::test::Fail;
+use tn_wire::{DataType, Deframer, Event, Header, HeaderFault, Step, Verb, WireFault, frame};
 
 /// An event in words, hexadecimal digits in upper case.
 fn push_event(alloc: Global, out: &mut String, event: &Event<'_>) -> Result<(), AllocError> {

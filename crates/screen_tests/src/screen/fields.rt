@@ -1,8 +1,8 @@
 //! Fields, and the attributes that are searched.
 
 use super::{FORM, SMALL, WRAPPED, field, new_screen, screen_after};
-use crate::FieldAt;
 use ds_codec::Attr;
+use ds_screen::FieldAt;
 use std::test::Fail;
 
 #[test]

@@ -1,7 +1,7 @@
 //! Answers read: a table of bytes, and what they say or where they are refused.
 
-use crate::{Inbound, chars};
 use ds_codec::Mode;
+use ds_inbound::{Inbound, chars};
 use std::alloc::{AllocError, Global};
 use std::test::Fail;
 

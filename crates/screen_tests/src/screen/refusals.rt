@@ -1,8 +1,8 @@
 //! Refused records, control characters and sizes.
 
 use super::{FORM, SMALL, field, new_screen, refusal, screen_after, text_of, write};
-use crate::{Effect, Lock, Refused, Why};
 use ds_codec::Size;
+use ds_screen::{Effect, Lock, Refused, Why};
 use std::test::Fail;
 
 #[test]

@@ -1,8 +1,8 @@
 //! What records do to cells.
 
 use super::{FORM, field, new_screen, refusal, screen_after, text_of, write};
-use crate::{Refused, Why};
 use ds_codec::Size;
+use ds_screen::{Refused, Why};
 use std::test::Fail;
 
 #[test]
