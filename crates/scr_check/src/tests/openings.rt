@@ -1,17 +1,18 @@
 //! What stands alone: records that lead to no screen for a layout.
 
 use super::{BARE, CODE, FORM, tells};
-use crate::{Finding, Refusal};
+use crate::Finding;
 use ds_codec::{Refused as ReadRefused, Size, Why as ReadWhy};
 use ds_screen::{Refused as ApplyRefused, Why as ApplyWhy};
+use ds_terminal::Refused;
 use std::test::Fail;
 
 fn unread(index: usize, at: usize, why: ReadWhy) -> Finding {
-    Finding::RecordRefused(index, Refusal::Read(ReadRefused { at, why }))
+    Finding::RecordRefused(index, Refused::Read(ReadRefused { at, why }))
 }
 
 fn unapplied(index: usize, at: usize, why: ApplyWhy) -> Finding {
-    Finding::RecordRefused(index, Refusal::Apply(ApplyRefused { at, why }))
+    Finding::RecordRefused(index, Refused::Apply(ApplyRefused { at, why }))
 }
 
 #[test]
