@@ -13,6 +13,3 @@ pub use binding::{BindError, BindFault, Bound, bind};
 pub use finding::{Demo, Finding, Overlong, Refusal};
 pub use laws::{bind_law, yes_law};
 pub use verdict::{Verdict, check};
-
-#[cfg(test)]
-mod tests;

@@ -6,7 +6,7 @@ mod openings;
 mod pictures;
 mod promise;
 
-use crate::{Demo, Finding, Verdict, check};
+use scr_check::{Demo, Finding, Verdict, check};
 use scr_layout::Layout;
 use std::alloc::Global;
 use std::test::Fail;

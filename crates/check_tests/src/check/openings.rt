@@ -1,9 +1,9 @@
 //! What stands alone: records that lead to no screen for a layout.
 
 use super::{BARE, CODE, FORM, tells};
-use crate::{Finding, Refusal};
 use ds_codec::{Refused as ReadRefused, Size, Why as ReadWhy};
 use ds_screen::{Refused as ApplyRefused, Why as ApplyWhy};
+use scr_check::{Finding, Refusal};
 use std::test::Fail;
 
 fn unread(index: usize, at: usize, why: ReadWhy) -> Finding {

@@ -1,7 +1,7 @@
 //! A screen with many fields.
 
 use super::{demo, tells};
-use crate::Finding;
+use scr_check::Finding;
 use std::alloc::{AllocError, Global};
 use std::test::Fail;
 

@@ -1,7 +1,7 @@
 //! What stands against the fields of a screen.
 
 use super::{BARE, CODE, FORM, WRAPPED, demo, tells};
-use crate::{Demo, Finding, Overlong};
+use scr_check::{Demo, Finding, Overlong};
 use std::alloc::{AllocError, Global};
 use std::test::Fail;
 

@@ -5,11 +5,11 @@ mod fields;
 mod orders;
 mod sizes;
 
-use crate::{BindError, Bound, Verdict, bind, check};
 use ds_codec::Record;
 use ds_inbound::{Inbound, write_inbound};
 use ds_keys::{key_of_line, press};
 use ds_screen::{Lock, PlainCells, Screen};
+use scr_check::{BindError, Bound, Verdict, bind, check};
 use scr_layout::Layout;
 use std::alloc::Global;
 use std::process::Abort;

@@ -1,9 +1,9 @@
 //! Answers bound to a layout's fields.
 
 use super::{BARE, CODE};
-use crate::{BindError, BindFault, bind};
 use ds_codec::Mode;
 use ds_inbound::Inbound;
+use scr_check::{BindError, BindFault, bind};
 use scr_layout::Layout;
 use std::alloc::Global;
 use std::test::Fail;

@@ -1,0 +1,5 @@
+//! Tests of the checker, of layouts and of order lines over their public items, a folder for each crate.
+#![tactic(auto)]
+
+#[cfg(test)]
+mod check;
