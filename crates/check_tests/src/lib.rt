@@ -3,3 +3,5 @@
 
 #[cfg(test)]
 mod check;
+#[cfg(test)]
+mod layout;

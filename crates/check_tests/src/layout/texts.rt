@@ -1,8 +1,8 @@
 //! Whole texts.
 
 use super::{CODE, check_rows, told};
-use crate::{Kind, Layout, LayoutError, LayoutKey, LayoutRefusal};
 use ds_codec::{Mode, Size};
+use scr_layout::{Kind, Layout, LayoutError, LayoutKey, LayoutRefusal};
 use std::test::Fail;
 
 const CUTS: &str = r#"default = "2x10" -> taken

@@ -1,7 +1,7 @@
 //! A thousand fields, and one more.
 
 use super::told;
-use crate::Layout;
+use scr_layout::Layout;
 use std::alloc::{AllocError, Global};
 use std::test::Fail;
 

@@ -5,7 +5,7 @@ mod limits;
 mod texts;
 mod values;
 
-use crate::{Layout, LayoutError};
+use scr_layout::{Layout, LayoutError};
 use std::alloc::{AllocError, Global};
 use std::process::Abort;
 

@@ -1,8 +1,8 @@
 //! The values of each key.
 
 use super::{CODE, check_rows, told, with_value};
-use crate::{Kind, Layout, size_of_text};
 use ds_codec::{Mode, Size};
+use scr_layout::{Kind, Layout, size_of_text};
 use std::test::Fail;
 
 const GOOD_SIZES: &str = r#"24x80
