@@ -5,3 +5,5 @@
 mod check;
 #[cfg(test)]
 mod layout;
+#[cfg(test)]
+mod lines;

@@ -1,10 +1,10 @@
 //! Lines read and printed, with values taken from the protocol by hand.
 
-use crate::{
+use ds_codec::{Command, Mode, Order, Record, Unwritable};
+use order_lines::{
     Draft, OwnedOrder, Told, cut, line_law, push_bytes, push_hex, push_record, read_line,
     record_law,
 };
-use ds_codec::{Command, Mode, Order, Record, Unwritable};
 use std::alloc::Global;
 use std::process::Abort;
 use std::test::Fail;
