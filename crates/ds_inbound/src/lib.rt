@@ -7,7 +7,6 @@ mod fields;
 mod front;
 mod inbound;
 mod item;
-mod key;
 mod laws;
 mod refused;
 mod write;
