@@ -14,6 +14,3 @@ pub use owned_order::OwnedOrder;
 pub use print::{push_bytes, push_hex, push_record};
 pub use told::{Told, read_line};
 pub use words::cut;
-
-#[cfg(test)]
-mod tests;

@@ -14,6 +14,3 @@ pub use binding::{BindError, BindFault, Bound, bind};
 pub use finding::{Demo, Finding, Overlong};
 pub use laws::{bind_law, yes_law};
 pub use verdict::{Verdict, check};
-
-#[cfg(test)]
-mod tests;
