@@ -8,3 +8,4 @@ pub mod Rows
 pub mod Terminal
 pub mod Host
 pub mod Steps
+pub mod Pair

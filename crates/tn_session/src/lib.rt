@@ -7,6 +7,7 @@
 mod device;
 mod heard;
 mod host;
+mod laws;
 mod option;
 mod reply;
 mod session;
@@ -14,5 +15,6 @@ mod terminal;
 
 pub use device::{Device, DeviceName, ScreenModel};
 pub use host::HostCore;
+pub use laws::{delivery_law, pair_law};
 pub use session::{Agreed, Out, SessionFault, Told};
 pub use terminal::TermCore;
