@@ -3,15 +3,16 @@
 use super::{BARE, CODE, FORM, tells};
 use ds_codec::{Refused as ReadRefused, Size, Why as ReadWhy};
 use ds_screen::{Refused as ApplyRefused, Why as ApplyWhy};
-use scr_check::{Finding, Refusal};
+use ds_terminal::Refused;
+use scr_check::Finding;
 use std::test::Fail;
 
 fn unread(index: usize, at: usize, why: ReadWhy) -> Finding {
-    Finding::RecordRefused(index, Refusal::Read(ReadRefused { at, why }))
+    Finding::RecordRefused(index, Refused::Read(ReadRefused { at, why }))
 }
 
 fn unapplied(index: usize, at: usize, why: ApplyWhy) -> Finding {
-    Finding::RecordRefused(index, Refusal::Apply(ApplyRefused { at, why }))
+    Finding::RecordRefused(index, Refused::Apply(ApplyRefused { at, why }))
 }
 
 #[test]
