@@ -27,7 +27,7 @@ fn new_screen(alloc: Global, default: Size, alternate: Size) -> Result<Screen<Pl
 }
 
 /// The bytes of a text in hexadecimal, its words one after the other.
-fn bytes_of(alloc: Global, text: &str) -> Result<Vec<u8>, Fail> {
+pub(crate) fn bytes_of(alloc: Global, text: &str) -> Result<Vec<u8>, Fail> {
     let mut bytes = Vec::new(alloc);
     for word in text.split(' ') {
         let decoded = hex::decode(alloc, word)?;
