@@ -3,6 +3,7 @@
 use ds_codec::{Attr, Geometry, Mode, Record, Size};
 use ds_screen::{Effect, FieldAt, PlainCells, Refused, Screen};
 use std::alloc::Global;
+use std::process::Abort;
 use std::test::Fail;
 
 mod changes;
@@ -13,14 +14,10 @@ mod ring;
 mod tab;
 
 /// Three fields on 2x10: protected at 0, an input of three cells at 2, a skipped one at 6.
-const FORM: &[u8] = &[
-    0xF5, 0xC2, 0x1D, 0x60, 0xC1, 0x1D, 0x40, 0x13, 0x11, 0x40, 0xC6, 0x1D, 0xF0,
-];
+const FORM: &str = "F5C2 1D60 C1 1D40 13 1140C6 1DF0";
 
 /// An input at 17 that runs round the end, protected at 3, the cursor at 18.
-const WRAPPED: &[u8] = &[
-    0xF5, 0xC2, 0x11, 0x40, 0xD1, 0x1D, 0x40, 0x13, 0x11, 0x40, 0xC3, 0x1D, 0x60,
-];
+const WRAPPED: &str = "F5C2 1140D1 1D40 13 1140C3 1D60";
 
 const SMALL: Size = Size { rows: 2, cols: 10 };
 
@@ -29,13 +26,29 @@ fn new_screen(alloc: Global, default: Size, alternate: Size) -> Result<Screen<Pl
     Ok(Screen::new(alloc, geometry)?)
 }
 
-fn write(screen: &mut Screen<PlainCells>, bytes: &[u8]) -> Result<Effect, Fail> {
-    let record = Record::read(Mode::Bits14, bytes)?;
+/// The bytes of a text in hexadecimal, its words one after the other.
+pub(crate) fn bytes_of(alloc: Global, text: &str) -> Result<Vec<u8>, Fail> {
+    let mut bytes = Vec::new(alloc);
+    for word in text.split(' ') {
+        let decoded = hex::decode(alloc, word)?;
+        bytes.extend_from_slice(decoded.as_slice())?;
+    }
+    Ok(bytes)
+}
+
+fn write(alloc: Global, screen: &mut Screen<PlainCells>, text: &str) -> Result<Effect, Fail> {
+    let bytes = bytes_of(alloc, text)?;
+    let record = Record::read(Mode::Bits14, bytes.as_slice())?;
     Ok(screen.apply(&record)?)
 }
 
-fn refusal(screen: &mut Screen<PlainCells>, bytes: &[u8]) -> Result<Option<Refused>, Fail> {
-    let record = Record::read(Mode::Bits14, bytes)?;
+fn refusal(
+    alloc: Global,
+    screen: &mut Screen<PlainCells>,
+    text: &str,
+) -> Result<Option<Refused>, Fail> {
+    let bytes = bytes_of(alloc, text)?;
+    let record = Record::read(Mode::Bits14, bytes.as_slice())?;
     match screen.apply(&record) {
         Ok(_) => Ok(None),
         Err(refused) => Ok(Some(refused)),
@@ -43,10 +56,10 @@ fn refusal(screen: &mut Screen<PlainCells>, bytes: &[u8]) -> Result<Option<Refus
 }
 
 /// A small screen after these records.
-fn screen_after(alloc: Global, records: &[&[u8]]) -> Result<Screen<PlainCells>, Fail> {
+fn screen_after(alloc: Global, records: &[&str]) -> Result<Screen<PlainCells>, Fail> {
     let mut screen = new_screen(alloc, SMALL, SMALL)?;
-    for bytes in records {
-        write(&mut screen, *bytes)?;
+    for text in records {
+        write(alloc, &mut screen, text)?;
     }
     Ok(screen)
 }
@@ -69,4 +82,18 @@ fn field(at: u32, bits: u8, place: u32, length: u32) -> FieldAt {
         place,
         length,
     }
+}
+
+/// For each row its name, records, rows in one text, and cursor.
+fn check(rt: &impl Abort, alloc: Global, rows: &[(&str, &[&str], &str, u32)]) -> Result<(), Fail> {
+    for (name, records, want, cursor) in rows {
+        let screen = screen_after(alloc, records)?;
+        let text = text_of(alloc, &screen)?;
+        let found = screen.cursor();
+        assert!(rt;
+            text.as_str() == *want && found == *cursor,
+            "{name}: {text}, {found}"
+        );
+    }
+    Ok(())
 }

@@ -25,16 +25,9 @@ fn sizes_within_limits(rt: HostRuntime) {
         (62, 160, true),
     ] {
         let size = Size { rows, cols };
-        assert_eq!(rt;
-            Geometry::new(SMALL, size, Mode::Bits14).is_ok(),
-            good,
-            "alternate {rows}x{cols}"
-        );
-        assert_eq!(rt;
-            Geometry::new(size, SMALL, Mode::Bits14).is_ok(),
-            good,
-            "default {rows}x{cols}"
-        );
+        let alternate = Geometry::new(SMALL, size, Mode::Bits14).is_ok();
+        let default = Geometry::new(size, SMALL, Mode::Bits14).is_ok();
+        assert_eq!(rt; (alternate, default), (good, good), "{rows}x{cols}");
     }
 }
 
@@ -103,20 +96,20 @@ fn attribute_bits(rt: HostRuntime) {
         (0x7F, 0x3F, true, true, true, true),
     ] {
         let attribute = Attr::new(byte);
-        assert_eq!(rt; attribute.bits(), bits, "bits of {byte}");
-        assert_eq!(rt; attribute.protected(), protected, "{byte} protected");
-        assert_eq!(rt; attribute.auto_skip(), skip, "{byte} auto-skip");
-        assert_eq!(rt; attribute.hidden(), hidden, "{byte} hidden");
-        assert_eq!(rt; attribute.modified(), modified, "{byte} modified");
-        assert_eq!(rt;
-            attribute.with_modified(true).bits(),
-            bits | 0x01,
-            "{byte} set"
+        let found = (
+            attribute.bits(),
+            attribute.protected(),
+            attribute.auto_skip(),
+            attribute.hidden(),
+            attribute.modified(),
         );
+        assert_eq!(rt; found, (bits, protected, skip, hidden, modified), "{byte}");
+        let set = attribute.with_modified(true).bits();
+        let reset = attribute.with_modified(false).bits();
         assert_eq!(rt;
-            attribute.with_modified(false).bits(),
-            bits & 0x3E,
-            "{byte} reset"
+            (set, reset),
+            (bits | 0x01, bits & 0x3E),
+            "{byte}, set and reset"
         );
     }
 }

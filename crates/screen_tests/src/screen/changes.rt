@@ -18,11 +18,10 @@ fn keys_change_one_thing(rt: HostRuntime) -> Result<(), Fail> {
         assert_eq!(rt; screen.cell(3), Cell::Char(letter));
     }
     screen.set_lock(Lock::Error);
-    assert_eq!(rt; screen.lock(), Lock::Error);
-    assert_eq!(rt; screen.cursor(), 1);
     let enter = Aid::from_byte(0x7D).ok_or("Enter")?;
     screen.set_aid(enter);
-    assert_eq!(rt; screen.aid(), enter);
+    let found = (screen.lock(), screen.cursor(), screen.aid());
+    assert_eq!(rt; found, (Lock::Error, 1, enter));
     let text = text_of(alloc, &screen)?;
     assert!(rt; text.as_str() == "@A@B..@.............", "{text}");
     screen.erase_default();
@@ -37,20 +36,24 @@ fn keys_change_one_thing(rt: HostRuntime) -> Result<(), Fail> {
 fn a_copy_stands_alone(rt: HostRuntime) -> Result<(), Fail> {
     let alloc = rt.alloc();
     let mut screen = new_screen(alloc, SMALL, Size { rows: 2, cols: 5 })?;
-    write(&mut screen, &[0x7E, 0xC2, 0x1D, 0x60, 0xC1, 0x13, 0xC2])?;
+    write(rt.alloc(), &mut screen, "7EC2 1D60 C1 13 C2")?;
     let enter = Aid::from_byte(0x7D).ok_or("Enter")?;
     screen.set_aid(enter);
     let copy = screen.copied(alloc)?;
-    write(&mut screen, FORM)?;
-    assert_eq!(rt; copy.geometry(), screen.geometry());
-    assert_eq!(rt; copy.size(), Size { rows: 2, cols: 5 });
-    assert_eq!(rt; copy.cursor(), 2);
-    assert_eq!(rt; copy.lock(), Lock::Free);
-    assert_eq!(rt; copy.aid(), enter);
+    write(rt.alloc(), &mut screen, FORM)?;
+    let found = (
+        copy.geometry(),
+        copy.size(),
+        copy.cursor(),
+        copy.lock(),
+        copy.aid(),
+    );
+    let size = Size { rows: 2, cols: 5 };
+    assert_eq!(rt; found, (screen.geometry(), size, 2, Lock::Free, enter));
     let text = text_of(alloc, &copy)?;
     assert!(rt; text.as_str() == "@AB.......", "{text}");
     let mut copy = copy;
-    write(&mut copy, FORM)?;
+    write(rt.alloc(), &mut copy, FORM)?;
     let text = text_of(alloc, &copy)?;
     assert!(rt; text.as_str() == "@A@...@.............", "{text}");
     Ok(())

@@ -8,15 +8,10 @@ use std::test::Fail;
 #[test]
 fn fields_are_found(rt: HostRuntime) -> Result<(), Fail> {
     let alloc = rt.alloc();
-    let full: &[u8] = &[
-        0xF5, 0xC2, 0x1D, 0x40, 0x1D, 0x60, 0x1D, 0x40, 0x1D, 0x60, 0x1D, 0x40, 0x1D, 0x60, 0x1D,
-        0x40, //
-        0x1D, 0x60, 0x1D, 0x40, 0x1D, 0x60, 0x1D, 0x40, 0x1D, 0x60, 0x1D, 0x40, 0x1D, 0x60, 0x1D,
-        0x40, //
-        0x1D, 0x60, 0x1D, 0x40, 0x1D, 0x60, 0x1D, 0x40, 0x1D, 0x60,
-    ];
-    let rows: [(&str, &[&[u8]], &[FieldAt]); 9] = [
-        ("none", &[&[0xF5, 0xC2, 0xC1]], &[]),
+    let full: &str =
+        "F5C2 1D40 1D60 1D40 1D60 1D40 1D60 1D40 1D60 1D40 1D60 1D40 1D60 1D40 1D60 1D40 1D60 1D40 1D60 1D40 1D60";
+    let rows: [(&str, &[&str], &[FieldAt]); 9] = [
+        ("none", &["F5C2 C1"], &[]),
         (
             "three",
             &[FORM],
@@ -33,14 +28,12 @@ fn fields_are_found(rt: HostRuntime) -> Result<(), Fail> {
         ),
         (
             "alone at the end",
-            &[&[0xF5, 0xC2, 0x11, 0x40, 0xD3, 0x1D, 0x40, 0x13]],
+            &["F5C2 1140D3 1D40 13"],
             &[field(19, 0x00, 0, 19)],
         ),
         (
             "side by side",
-            &[&[
-                0xF5, 0xC2, 0x1D, 0xC1, 0x1D, 0x40, 0x13, 0x11, 0x40, 0xC6, 0x1D, 0xF0,
-            ]],
+            &["F5C2 1DC1 1D40 13 1140C6 1DF0"],
             &[
                 field(0, 0x01, 1, 0),
                 field(1, 0x00, 2, 4),
@@ -49,23 +42,13 @@ fn fields_are_found(rt: HostRuntime) -> Result<(), Fail> {
         ),
         (
             "the last pair counts",
-            &[&[0xF5, 0xC2, 0x29, 0x03, 0xC0, 0x40, 0x42, 0xF2, 0xC0, 0xF0]],
+            &["F5C2 2903C04042F2C0F0"],
             &[field(0, 0x30, 1, 19)],
         ),
-        (
-            "no pair",
-            &[&[0xF5, 0xC2, 0x29, 0x00]],
-            &[field(0, 0x00, 1, 19)],
-        ),
+        ("no pair", &["F5C2 2900"], &[field(0, 0x00, 1, 19)]),
         (
             "changed by the last pair, or not at all",
-            &[
-                FORM,
-                &[
-                    0xF1, 0xC2, 0x11, 0x40, 0x40, 0x2C, 0x02, 0xC0, 0x40, 0xC0, 0x4D, 0x11, 0x40,
-                    0xC2, 0x2C, 0x01, 0x42, 0xF2,
-                ],
-            ],
+            &[FORM, "F1C2 114040 2C02C040C04D 1140C2 2C0142F2"],
             &[
                 field(0, 0x0D, 1, 1),
                 field(2, 0x00, 3, 3),
@@ -74,10 +57,7 @@ fn fields_are_found(rt: HostRuntime) -> Result<(), Fail> {
         ),
         (
             "modified tags reset, then one set",
-            &[
-                &[0xF5, 0xC2, 0x1D, 0x61, 0x1D, 0xC1],
-                &[0xF1, 0xC3, 0x11, 0x40, 0xC5, 0x1D, 0xC1],
-            ],
+            &["F5C2 1D61 1DC1", "F1C3 1140C5 1DC1"],
             &[
                 field(0, 0x20, 1, 0),
                 field(1, 0x00, 2, 3),

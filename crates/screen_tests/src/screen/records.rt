@@ -1,209 +1,166 @@
 //! What records do to cells.
 
-use super::{FORM, field, new_screen, refusal, screen_after, text_of, write};
+use super::{FORM, check, field, new_screen, refusal, text_of, write};
 use ds_codec::Size;
 use ds_screen::{Refused, Why};
 use std::test::Fail;
 
 #[test]
 fn records_write_cells(rt: HostRuntime) -> Result<(), Fail> {
-    let rows: [(&str, &[&[u8]], &str, u32); 22] = [
-        ("no record", &[], "....................", 0),
-        ("an erase", &[&[0xF5, 0xC2]], "....................", 0),
-        ("three fields", &[FORM], "@A@...@.............", 3),
-        (
-            "the channel's form of the command",
-            &[&[0x05, 0xC2, 0x1D, 0x60, 0xC1, 0x1D, 0x40, 0x13]],
-            "@A@.................",
-            3,
-        ),
-        (
-            "text over an attribute",
-            &[FORM, &[0xF1, 0xC2, 0x11, 0x40, 0xC1, 0xC5, 0xC6]],
-            "@EF...@.............",
-            3,
-        ),
-        (
-            "text round the end",
-            &[&[0xF5, 0xC2, 0x11, 0x40, 0xD3, 0xC1, 0xC2, 0xC3, 0x13]],
-            "BC.................A",
-            2,
-        ),
-        (
-            "a changed attribute",
-            &[
-                FORM,
-                &[0xF1, 0xC2, 0x11, 0x40, 0xC1, 0xC5, 0x2C, 0x01, 0xC0, 0x4C],
-            ],
-            "@E@...@.............",
-            3,
-        ),
-        (
-            "every cell",
-            &[&[0xF5, 0xC2, 0x3C, 0x40, 0x40, 0xC1]],
-            "AAAAAAAAAAAAAAAAAAAA",
-            0,
-        ),
-        (
-            "every cell, from the middle",
-            &[&[0xF5, 0xC2, 0x11, 0x40, 0xC5, 0x3C, 0x40, 0xC5, 0x5C, 0x13]],
-            "********************",
-            5,
-        ),
-        (
-            "repeated round the end",
-            &[&[0xF5, 0xC2, 0x11, 0x40, 0xD2, 0x3C, 0x40, 0xC2, 0xC1, 0x13]],
-            "AA................AA",
-            2,
-        ),
-        (
-            "repeated over an attribute, with an alternate character",
-            &[
-                FORM,
-                &[0xF1, 0xC2, 0x11, 0x40, 0xC1, 0x3C, 0x40, 0xC4, 0x08, 0xC1],
-            ],
-            "@???..@.............",
-            3,
-        ),
-        (
-            "erased round the end, protected cells spared",
-            &[
-                FORM,
-                &[0xF1, 0xC2, 0x11, 0x40, 0xC3, 0xC5, 0xC6, 0x12, 0x40, 0xC4],
-            ],
-            "@A@.F.@.............",
-            3,
-        ),
-        (
-            "erased up to the stop, which stays",
-            &[
-                FORM,
-                &[
-                    0xF1, 0xC2, 0x11, 0x40, 0xC3, 0xC5, 0xC6, 0xC7, 0x11, 0x40, 0xC4, 0x12, 0x40,
-                    0xC5,
-                ],
-            ],
-            "@A@E.G@.............",
-            3,
-        ),
-        (
-            "erased where stop and address are one",
-            &[
-                FORM,
-                &[
-                    0xF1, 0xC2, 0x11, 0x40, 0xC3, 0xC5, 0xC6, 0xC7, 0x11, 0x40, 0xC4, 0x12, 0x40,
-                    0xC4,
-                ],
-            ],
-            "@A@...@.............",
-            3,
-        ),
-        (
-            "erased in a buffer without attributes",
-            &[&[
-                0xF5, 0xC2, 0xC1, 0xC2, 0xC3, 0x11, 0x40, 0xC1, 0x12, 0x40, 0xC2,
-            ]],
-            "A.C.................",
-            0,
-        ),
-        (
-            "a write from the cursor",
-            &[FORM, &[0xF1, 0xC2, 0xC5, 0xC6]],
-            "@A@EF.@.............",
-            3,
-        ),
-        (
-            "set attribute does nothing",
-            &[FORM, &[0xF1, 0xC2, 0x28, 0x42, 0xF2, 0xC5]],
-            "@A@E..@.............",
-            3,
-        ),
-        (
-            "a graphic escape",
-            &[&[0xF5, 0xC2, 0x08, 0xC1, 0xC1, 0x13]],
-            "?A..................",
-            2,
-        ),
-        (
-            "a hidden field",
-            &[&[
-                0xF5, 0xC2, 0x1D, 0x4C, 0xC1, 0x00, 0x08, 0xC1, 0x1D, 0x40, 0xC1,
-            ]],
-            "@*.*@A..............",
-            0,
-        ),
-        (
-            "a hidden field round the end",
-            &[&[
-                0xF5, 0xC2, 0x11, 0x40, 0xC2, 0x1D, 0x40, 0xC1, 0x11, 0x40, 0xD2, 0x1D, 0x4C, 0xC2,
-                0xC3,
-            ]],
-            "*.@A..............@*",
-            0,
-        ),
-        (
-            "characters of the table and others",
-            &[&[
-                0xF5, 0xC2, 0x40, 0x4A, 0x5C, 0x6F, 0x79, 0x7F, 0x81, 0xA1, 0xB0, 0xBB, 0xC0, 0xD0,
-                0xE0, 0xE1, 0xF9, 0xFF, 0x0C, 0x3F, 0x41, 0xA0,
-            ]],
-            " ?*?`\"a~^]{}\\?9?????",
-            0,
-        ),
-        (
-            "all that may be typed over is erased",
-            &[FORM, &[0xF1, 0x40, 0x11, 0x40, 0xC3, 0xC5, 0xC6], &[0x6F]],
-            "@A@...@.............",
-            3,
-        ),
-    ];
+    check(
+        &rt,
+        rt.alloc(),
+        &[
+            ("no record", &[], "....................", 0),
+            ("an erase", &["F5C2"], "....................", 0),
+            ("three fields", &[FORM], "@A@...@.............", 3),
+            (
+                "the channel's form of the command",
+                &["05C2 1D60 C1 1D40 13"],
+                "@A@.................",
+                3,
+            ),
+            (
+                "text over an attribute",
+                &[FORM, "F1C2 1140C1 C5C6"],
+                "@EF...@.............",
+                3,
+            ),
+            (
+                "text round the end",
+                &["F5C2 1140D3 C1C2C3 13"],
+                "BC.................A",
+                2,
+            ),
+            (
+                "a changed attribute",
+                &[FORM, "F1C2 1140C1 C5 2C01C04C"],
+                "@E@...@.............",
+                3,
+            ),
+            ("every cell", &["F5C2 3C4040C1"], "AAAAAAAAAAAAAAAAAAAA", 0),
+            (
+                "every cell, from the middle",
+                &["F5C2 1140C5 3C40C55C 13"],
+                "********************",
+                5,
+            ),
+            (
+                "repeated round the end",
+                &["F5C2 1140D2 3C40C2C1 13"],
+                "AA................AA",
+                2,
+            ),
+            (
+                "repeated over an attribute, with an alternate character",
+                &[FORM, "F1C2 1140C1 3C40C408C1"],
+                "@???..@.............",
+                3,
+            ),
+            (
+                "erased round the end, protected cells spared",
+                &[FORM, "F1C2 1140C3 C5C6 1240C4"],
+                "@A@.F.@.............",
+                3,
+            ),
+            (
+                "erased up to the stop, which stays",
+                &[FORM, "F1C2 1140C3 C5C6C7 1140C4 1240C5"],
+                "@A@E.G@.............",
+                3,
+            ),
+            (
+                "erased where stop and address are one",
+                &[FORM, "F1C2 1140C3 C5C6C7 1140C4 1240C4"],
+                "@A@...@.............",
+                3,
+            ),
+            (
+                "erased in a buffer without attributes",
+                &["F5C2 C1C2C3 1140C1 1240C2"],
+                "A.C.................",
+                0,
+            ),
+            (
+                "a write from the cursor",
+                &[FORM, "F1C2 C5C6"],
+                "@A@EF.@.............",
+                3,
+            ),
+            (
+                "set attribute does nothing",
+                &[FORM, "F1C2 2842F2 C5"],
+                "@A@E..@.............",
+                3,
+            ),
+            (
+                "a graphic escape",
+                &["F5C2 08C1 C1 13"],
+                "?A..................",
+                2,
+            ),
+            (
+                "a hidden field",
+                &["F5C2 1D4C C100 08C1 1D40 C1"],
+                "@*.*@A..............",
+                0,
+            ),
+            (
+                "a hidden field round the end",
+                &["F5C2 1140C2 1D40 C1 1140D2 1D4C C2C3"],
+                "*.@A..............@*",
+                0,
+            ),
+            (
+                "characters of the table and others",
+                &["F5C2 404A5C6F797F81A1B0BBC0D0E0E1F9FF0C3F41A0"],
+                " ?*?`\"a~^]{}\\?9?????",
+                0,
+            ),
+            (
+                "all that may be typed over is erased",
+                &[FORM, "F140 1140C3 C5C6", "6F"],
+                "@A@...@.............",
+                3,
+            ),
+        ],
+    )
+}
+
+#[test]
+fn least_screens(rt: HostRuntime) -> Result<(), Fail> {
     let alloc = rt.alloc();
-    for (name, records, want, cursor) in rows {
-        let screen = screen_after(alloc, records)?;
+    let least = Size { rows: 1, cols: 2 };
+    for (record, want) in [
+        ("F5C2 1D40 C1", "@A"),
+        ("F5C2 C1C2C3", "CB"),
+        ("F5C2 1D40 1D60", "@@"),
+        ("F5C2 1140C1 3C4040C1", ".A"),
+    ] {
+        let mut screen = new_screen(alloc, least, least)?;
+        write(alloc, &mut screen, record)?;
         let text = text_of(alloc, &screen)?;
-        assert!(rt; text.as_str() == want, "{name}: {text}");
-        assert_eq!(rt; screen.cursor(), cursor, "{name}");
+        assert!(rt; text.as_str() == want, "{text}");
     }
     Ok(())
 }
 
 #[test]
-fn least_and_largest_screens(rt: HostRuntime) -> Result<(), Fail> {
+fn largest_screens(rt: HostRuntime) -> Result<(), Fail> {
     let alloc = rt.alloc();
-    let least = Size { rows: 1, cols: 2 };
-    let rows: [(&[u8], &str); 4] = [
-        (&[0xF5, 0xC2, 0x1D, 0x40, 0xC1], "@A"),
-        (&[0xF5, 0xC2, 0xC1, 0xC2, 0xC3], "CB"),
-        (&[0xF5, 0xC2, 0x1D, 0x40, 0x1D, 0x60], "@@"),
-        (
-            &[0xF5, 0xC2, 0x11, 0x40, 0xC1, 0x3C, 0x40, 0x40, 0xC1],
-            ".A",
-        ),
-    ];
-    for (bytes, want) in rows {
-        let mut screen = new_screen(alloc, least, least)?;
-        write(&mut screen, bytes)?;
-        let text = text_of(alloc, &screen)?;
-        assert!(rt; text.as_str() == want, "{text}");
-    }
     let largest = Size {
         rows: 255,
         cols: 64,
     };
     let mut screen = new_screen(alloc, largest, largest)?;
-    write(
-        &mut screen,
-        &[0xF5, 0xC2, 0x11, 0x3F, 0xBF, 0x1D, 0x40, 0x13],
-    )?;
+    write(alloc, &mut screen, "F5C2 113FBF 1D40 13")?;
     assert_eq!(rt; screen.cursor(), 0);
     assert!(rt; screen.fields().eq([field(16_319, 0, 0, 16_319)]));
-    let refused = refusal(&mut screen, &[0xF1, 0xC2, 0x11, 0x3F, 0xC0])?;
-    assert!(rt;
-        refused
-            == Some(Refused {
-                at: 2,
-                why: Why::AddressOutside
-            })
-    );
+    let refused = refusal(alloc, &mut screen, "F1C2 113FC0")?;
+    let outside = Refused {
+        at: 2,
+        why: Why::AddressOutside,
+    };
+    assert!(rt; refused == Some(outside));
     Ok(())
 }

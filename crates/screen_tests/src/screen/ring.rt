@@ -15,8 +15,11 @@ fn positions_go_round(rt: HostRuntime) -> Result<(), Fail> {
     ];
     for (n, p, after, before) in neighbours {
         assert!(rt; p < n, "{p} of {n}");
-        assert_eq!(rt; next(n, p), after, "after {p} of {n}");
-        assert_eq!(rt; previous(n, p), before, "before {p} of {n}");
+        assert_eq!(rt;
+            (next(n, p), previous(n, p)),
+            (after, before),
+            "beside {p} of {n}"
+        );
     }
     // cells, position, steps, the position so far on, the position so far back
     let far: [(u32, u32, u32, u32, u32); 8] = [
@@ -31,8 +34,8 @@ fn positions_go_round(rt: HostRuntime) -> Result<(), Fail> {
     ];
     for (n, p, steps, on, back) in far {
         assert!(rt; p < n && steps <= n, "{p} of {n}, {steps}");
-        assert_eq!(rt; forward(n, p, steps), on, "{steps} on from {p} of {n}");
-        assert_eq!(rt; backward(n, p, steps), back, "{steps} back from {p} of {n}");
+        let found = (forward(n, p, steps), backward(n, p, steps));
+        assert_eq!(rt; found, (on, back), "{steps} from {p} of {n}");
     }
     // cells, from, to, steps on
     let distances: [(u32, u32, u32, u32); 7] = [
