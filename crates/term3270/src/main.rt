@@ -10,7 +10,7 @@ use std::alloc::Global;
 use std::process::ExitCode;
 use std::{env, io};
 use term_commands::{
-    Status, failure, run_check, run_convert, run_convert_back, run_press, run_show,
+    Demos, Status, failure, run_check, run_convert, run_convert_back, run_press, run_show,
 };
 
 /// What the command line asks for.
@@ -57,7 +57,11 @@ fn run(rt: &HostRuntime, matches: &ArgMatches<'_>) -> Status {
     let mut writer = rt.stdout();
     if let Some(path) = file_named(matches, "check", "LAYOUT") {
         let mut layout = file_at(rt, path);
-        let demos = has_flag(matches, "check", "demo");
+        let demos = if has_flag(matches, "check", "demo") {
+            Demos::Printed
+        } else {
+            Demos::Omitted
+        };
         return run_check(rt.alloc(), &mut layout, &mut reader, &mut writer, demos);
     }
     if let Some(path) = file_named(matches, "press", "KEYS") {

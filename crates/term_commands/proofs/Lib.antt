@@ -1,12 +1,13 @@
 pub mod Rows
 pub mod Prefixes
+pub mod Taking
+pub mod Joined
+pub mod Written
 pub mod Answered
 pub mod Checked
-pub mod Unwritten
 pub mod PlainLines
 pub mod ToldSizes
 pub mod Converted
 pub mod Texts
-pub mod TwoInputs
 pub mod DemoKeys
 pub mod Opened

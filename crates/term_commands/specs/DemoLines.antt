@@ -1,5 +1,5 @@
 -- The line of what is sent once the keys of a finding are pressed.
-use Rattle.std.specs.Prelude.{ℕ, Bool, true, false, List, [], ◌++◌, codes, Option, Some, None, Result, Ok, Err}
+use Rattle.std.specs.Prelude.{ℕ, false, List, [], ◌++◌, codes, Option, Some, None, Result, Ok, Err}
 use Rattle.hex.specs.Hex.{encode_upper}
 use Rattle.ds_screen.specs.Picture.{Picture}
 use Rattle.ds_screen.specs.Records.{new_picture}
@@ -11,9 +11,11 @@ use Rattle.scr_check.specs.declared.finding.Demo.{Demo}
 use Rattle.scr_check.specs.declared.finding.Finding.{Finding}
 use Rattle.scr_check.specs.declared.finding.Finding.TheVariants.{Undeclared, UndeclaredFixed, TooLong}
 use Rattle.scr_check.specs.Demos.{demo_keys}
+use Rattle.term_commands.specs.declared.fault.Fault.{Fault}
+use Rattle.term_commands.specs.declared.output.demo.Demos.{Demos}
+use Rattle.term_commands.specs.declared.output.demo.Demos.TheVariants.{Omitted, Printed}
 use Rattle.term_commands.specs.FindingLines.{finding_line}
-use Rattle.term_commands.specs.Printed.{Refusal}
-use Rattle.term_commands.specs.Show.{shown_after}
+use Rattle.term_commands.specs.Shown.{shown_after}
 
 -- the demo that a finding has
 abbrev pub demo_of : Finding → Option Demo
@@ -39,14 +41,14 @@ sends_on (Some v) (Some demo) = sends_line v demo
 abbrev pub finding_lines : List Declared → Option Picture → Finding → List ℕ
 finding_lines entries opened finding = finding_line entries finding ++ sends_on opened (demo_of finding)
 
--- the picture that is told, where demos are asked for
-abbrev pub asked : {E : Type 0} → Bool → Result Picture E → Option Picture
-asked false told = None
-asked true (Ok v) = Some v
-asked true (Err e) = None
+-- the picture from which demos go, where they are printed
+abbrev pub asked : {E : Type 0} → Demos → Result Picture E → Option Picture
+asked Omitted opened = None
+asked Printed (Ok v) = Some v
+asked Printed (Err e) = None
 
 -- ---- as the program holds it
 
 -- the picture that the records leave on a new terminal of the layout's geometry
-abbrev pub shown_on : Declaration → List (List ℕ) → Result Picture Refusal
+abbrev pub shown_on : Declaration → List (List ℕ) → Result Picture Fault
 shown_on layout records = shown_after 0 (new_picture layout.geometry) records
