@@ -2,6 +2,7 @@
 # make build  leaves the program at bin/term3270
 # make test   proves everything from nothing, then runs the golden cases of the built program
 # make cases  runs the golden cases alone
+# make edits  tries every edit that the prover must refuse, of all crates or, with CRATE=ds_codec, of one
 # make bench  times the program beside plain Rust
 RT := $(shell command -v rt 2>/dev/null)
 BUILT := crates/term3270/out/term3270
@@ -9,7 +10,7 @@ WIRE := crates/wire_bench/out/wire_bench
 SOURCES := $(shell find crates -path '*/out' -prune -o -name '*.rt' -print -o -name '*.antt' -print)
 need_toolchain = $(if $(RT),,$(error missing: the Rattle toolchain's command 'rt' on the PATH))
 
-.PHONY: run build test cases bench clean
+.PHONY: run build test cases edits bench clean
 
 run: bin/term3270
 	@bin/term3270 < examples/first.hex
@@ -31,6 +32,10 @@ test:
 
 cases: bin/term3270
 	@sh tests/cases.sh bin/term3270
+
+edits:
+	$(need_toolchain)
+	@sh tests/edits $(CRATE)
 
 bench: bin/term3270 $(WIRE)
 	@sh bench/run

@@ -9,3 +9,5 @@ pub mod Faults
 pub mod Walk
 pub mod Records
 pub mod Written
+pub mod Aids
+pub mod DigitPairs

@@ -17,10 +17,10 @@ use Rattle.ds_codec.specs.declared.write.Unwritable.TheVariants.{AddressOutside,
 use Rattle.ds_codec.specs.Geometry.{limit_of}
 use Rattle.ds_codec.specs.Address.{SpellsAddress, written_address, six_bit_code}
 use Rattle.ds_codec.specs.Character.{Glyph, is_text, is_glyph}
-use Rattle.ds_codec.specs.Command.{is_code_of, command_code_of, wcc_of}
+use Rattle.ds_codec.specs.Command.{is_code_of, command_code_of, wcc_of, written_code}
 use Rattle.ds_codec.specs.Order.{Item, item_of, text, start_field, start_field_extended, set_buffer_address, set_attribute, modify_field, insert_cursor, program_tab, repeat_to_address, erase_unprotected_to_address, graphic_escape, Site, SpellsPairs, SpellsCharacter, SpellsOrder}
 use Rattle.ds_codec.specs.Record.{Message, is_text_order, MayFollow, AreSpelled, SpellsRest, SpellsRecord}
-use Rattle.ds_codec.specs.Writing.{items_of, is_good_run, are_good_pairs, flaw_unless, flaw_of, item_at, follows_text, flaw_at, HaveNoFlaw, IsWritable, IsFlawHere, IsFlawAmong, IsValidItem, AreValid, written_character, written_order, written_code, written_rest, written_record, IsReadAgain}
+use Rattle.ds_codec.specs.Writing.{items_of, is_good_run, are_good_pairs, flaw_unless, flaw_of, item_at, follows_text, flaw_at, HaveNoFlaw, IsWritable, IsFlawHere, IsFlawAmong, IsValidItem, AreValid, written_character, written_order, written_rest, written_record, IsReadAgain}
 use Rattle.ds_codec.proofs.Below.{both_true}
 use Rattle.ds_codec.proofs.Steps.{some_is}
 use Rattle.ds_codec.proofs.Codes.{low_six, six_bit_spells}

@@ -31,6 +31,18 @@ is_code_of byte code = list_any (λ c. c == byte) (codes_of code)
 unfoldable pub command_code_at : ℕ → Option CommandCode
 command_code_at byte = find (is_code_of byte) all_command_codes
 
+-- the code that is written: SNA's form
+abbrev pub written_code : CommandCode → ℕ
+written_code Write = 0xF1
+written_code EraseWrite = 0xF5
+written_code EraseWriteAlternate = 0x7E
+written_code EraseAllUnprotected = 0x6F
+written_code ReadBuffer = 0xF2
+written_code ReadModified = 0xF6
+written_code ReadModifiedAll = 0x6E
+written_code WriteStructuredField = 0xF3
+written_code NoOperation = 0x03
+
 -- which command it is
 abbrev pub command_code_of : Command → CommandCode
 command_code_of (command.Write wcc) = Write

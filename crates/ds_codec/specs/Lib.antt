@@ -9,3 +9,4 @@ pub mod Order
 pub mod Record
 pub mod Reading
 pub mod Writing
+pub mod Digits

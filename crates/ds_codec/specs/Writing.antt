@@ -3,15 +3,13 @@ use Rattle.std.specs.Prelude.{◌≡◌, ℕ, zero, suc, ◌/◌, ◌%◌, ◌<�
 use Rattle.std.specs.List.{list_all, flat_map}
 use Rattle.ds_codec.specs.declared.size.Mode.{Mode}
 use Rattle.ds_codec.specs.declared.command.Command.{Command}
-use Rattle.ds_codec.specs.declared.command.CommandCode.{CommandCode}
-use Rattle.ds_codec.specs.declared.command.CommandCode.TheVariants.{Write, EraseWrite, EraseWriteAlternate, EraseAllUnprotected, ReadBuffer, ReadModified, ReadModifiedAll, WriteStructuredField, NoOperation}
 use Rattle.ds_codec.specs.declared.write.Unwritable.{Unwritable}
 use Rattle.ds_codec.specs.declared.write.Unwritable.TheVariants.{AddressOutside, BadText, BadPairs, BadCode, NotAllowed, OutOfMemory}
 use Rattle.ds_codec.specs.declared.order.OrderCode.TheVariants.{Sf, Sfe, Sba, Sa, Mf, Ic, Pt, Ra, Eua, Ge}
 use Rattle.ds_codec.specs.declared.order.Order.{Order}
 use Rattle.ds_codec.specs.Address.{written_address, six_bit_code}
 use Rattle.ds_codec.specs.Character.{Glyph, is_text, is_graphic, is_glyph}
-use Rattle.ds_codec.specs.Command.{command_code_of, wcc_of}
+use Rattle.ds_codec.specs.Command.{command_code_of, wcc_of, written_code}
 use Rattle.ds_codec.specs.Order.{Item, item_of, text, start_field, start_field_extended, set_buffer_address, set_attribute, modify_field, insert_cursor, program_tab, repeat_to_address, erase_unprotected_to_address, graphic_escape, code_of, is_set_type, have_types}
 use Rattle.ds_codec.specs.Record.{Message, is_text_order, SpellsRecord}
 use Rattle.ds_codec.specs.Reading.{read_of}
@@ -125,18 +123,6 @@ written_order mode cells program_tab = code_of Pt ∷ []
 written_order mode cells (repeat_to_address address character) = code_of Ra ∷ (written_address mode cells address ++ written_character character)
 written_order mode cells (erase_unprotected_to_address address) = code_of Eua ∷ written_address mode cells address
 written_order mode cells (graphic_escape code) = code_of Ge ∷ code ∷ []
-
--- the form of SNA
-abbrev pub written_code : CommandCode → ℕ
-written_code Write = 0xF1
-written_code EraseWrite = 0xF5
-written_code EraseWriteAlternate = 0x7E
-written_code EraseAllUnprotected = 0x6F
-written_code ReadBuffer = 0xF2
-written_code ReadModified = 0xF6
-written_code ReadModifiedAll = 0x6E
-written_code WriteStructuredField = 0xF3
-written_code NoOperation = 0x03
 
 abbrev pub written_rest : Mode → ℕ → Option ℕ → List Item → List ℕ
 written_rest mode cells None items = []

@@ -29,8 +29,56 @@ pub enum CommandCode {
     NoOperation,
 }
 
+impl Command {
+    ghost use Rattle.ds_codec.specs.Command.{command_code_of, wcc_of};
+
+    /// Which command it is.
+    pub fn code(self) -> CommandCode
+        ensures { result ≡ command_code_of self }
+    {
+        match self {
+            Command::Write(_) => CommandCode::Write,
+            Command::EraseWrite(_) => CommandCode::EraseWrite,
+            Command::EraseWriteAlternate(_) => CommandCode::EraseWriteAlternate,
+            Command::EraseAllUnprotected => CommandCode::EraseAllUnprotected,
+            Command::ReadBuffer => CommandCode::ReadBuffer,
+            Command::ReadModified => CommandCode::ReadModified,
+            Command::ReadModifiedAll => CommandCode::ReadModifiedAll,
+            Command::NoOperation => CommandCode::NoOperation,
+        }
+    }
+
+    /// The write control character of the three writes (GA23-0059, "Write control character").
+    pub fn wcc(self) -> Option<u8>
+        ensures { result ≡ wcc_of self }
+    {
+        match self {
+            Command::Write(wcc) | Command::EraseWrite(wcc) | Command::EraseWriteAlternate(wcc) =>
+                Some(wcc),
+            _ => None,
+        }
+    }
+}
+
 impl CommandCode {
-    ghost use Rattle.ds_codec.specs.Command.{command_code_at};
+    ghost use Rattle.ds_codec.specs.Command.{command_code_at, written_code};
+
+    /// The code that is written, of SNA's form; No-operation has one form.
+    pub fn byte(self) -> u8
+        ensures { result ≡ written_code self }
+    {
+        match self {
+            CommandCode::Write => 0xF1,
+            CommandCode::EraseWrite => 0xF5,
+            CommandCode::EraseWriteAlternate => 0x7E,
+            CommandCode::EraseAllUnprotected => 0x6F,
+            CommandCode::ReadBuffer => 0xF2,
+            CommandCode::ReadModified => 0xF6,
+            CommandCode::ReadModifiedAll => 0x6E,
+            CommandCode::WriteStructuredField => 0xF3,
+            CommandCode::NoOperation => 0x03,
+        }
+    }
 
     /// The command of a code, in the channel's form or in SNA's.
     #[tactic(auto, unfolding(crate::specs::Command::command_code_at))]

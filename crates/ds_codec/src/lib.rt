@@ -7,6 +7,7 @@ mod attribute;
 mod cell;
 mod character;
 mod command;
+mod digits;
 mod front;
 mod geometry;
 mod order;
@@ -15,12 +16,13 @@ mod refused;
 mod size;
 mod write;
 
-pub use address::{decode_address, encode_address};
+pub use address::{decode_address, encode_address, to_six_bit_code};
 pub use aid::Aid;
 pub use attribute::Attr;
 pub use cell::Cell;
-pub use character::Char;
+pub use character::{Char, is_graphic_code};
 pub use command::{Command, CommandCode};
+pub use digits::byte_of_digits;
 pub use front::last_attr;
 pub use geometry::{BadSize, Geometry};
 pub use order::{Order, OrderCode, Placed};
@@ -28,6 +30,3 @@ pub use record::{Orders, Record, one_reading};
 pub use refused::{Refused, Why};
 pub use size::{Mode, Size};
 pub use write::{Unwritable, write_record};
-
-#[cfg(test)]
-mod tests;

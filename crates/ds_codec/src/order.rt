@@ -55,7 +55,25 @@ pub enum OrderCode {
 }
 
 impl OrderCode {
-    ghost use Rattle.ds_codec.specs.Order.{order_code_at};
+    ghost use Rattle.ds_codec.specs.Order.{code_of, order_code_at};
+
+    /// The first byte of the order.
+    pub fn byte(self) -> u8
+        ensures { result ≡ code_of self }
+    {
+        match self {
+            OrderCode::Sf => 0x1D,
+            OrderCode::Sfe => 0x29,
+            OrderCode::Sba => 0x11,
+            OrderCode::Sa => 0x28,
+            OrderCode::Mf => 0x2C,
+            OrderCode::Ic => 0x13,
+            OrderCode::Pt => 0x05,
+            OrderCode::Ra => 0x3C,
+            OrderCode::Eua => 0x12,
+            OrderCode::Ge => 0x08,
+        }
+    }
 
     /// The order of a code.
     #[tactic(auto, unfolding(crate::specs::Order::order_code_at))]

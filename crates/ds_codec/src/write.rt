@@ -2,9 +2,9 @@
 
 ghost use Rattle.std.specs.Prelude.{◌≡◌, ◌++◌, ◌∷◌, ◌/◌, ◌≤◌, ◌<◌, length, true, None, IfOk, IfErr, OnOk, ℕ};
 ghost use Rattle.ds_codec.specs.Geometry.{limit_of};
-ghost use Rattle.ds_codec.specs.Order.{item_of, SpellsOrder};
+ghost use Rattle.ds_codec.specs.Order.{item_of, code_of, SpellsOrder};
 ghost use Rattle.ds_codec.specs.Record.{is_text_order};
-ghost use Rattle.ds_codec.specs.Writing.{items_of, is_good_run, are_good_pairs, flaw_of, flaw_unless, are_not_allowed, IsWritable, IsUnwritable, IsReadAgain, written_order, written_character, written_code, written_record, IsValidItem, AreValid, HaveNoFlaw, IsFlawHere, IsFlawAmong};
+ghost use Rattle.ds_codec.specs.Writing.{items_of, is_good_run, are_good_pairs, flaw_of, flaw_unless, are_not_allowed, IsWritable, IsUnwritable, IsReadAgain, written_order, written_character, written_record, IsValidItem, AreValid, HaveNoFlaw, IsFlawHere, IsFlawAmong};
 ghost use Rattle.std.specs.List.{flat_map, list_all};
 ghost use Rattle.ds_codec.specs.Character.{is_text};
 ghost use Rattle.ds_codec.specs.Address.{written_address};
@@ -13,9 +13,9 @@ ghost use Rattle.ds_codec.specs.declared.write.Unwritable.TheVariants.{OutOfMemo
 
 use crate::address::{encode_address, to_six_bit_code};
 use crate::character::{Char, is_graphic_code, is_text_byte};
-use crate::command::{Command, CommandCode};
+use crate::command::Command;
 use crate::front::{have_field_types, is_set_type_byte};
-use crate::order::Order;
+use crate::order::{Order, OrderCode};
 use crate::size::Mode;
 use std::alloc::{AllocError, AllocFailed, Global};
 use std::fmt;
@@ -84,8 +84,8 @@ fn write_all(
     ensures unwritable { IfErr result (λ e. IsUnwritable cells command (items_of orders.now) e) }
 {
     let mut bytes = Vec::new(alloc);
-    bytes.push(code_byte(command))?;
-    match wcc_byte(command) {
+    bytes.push(command.code().byte())?;
+    match command.wcc() {
         None => {
             if !orders.is_empty() {
                 return Err(Unwritable::NotAllowed);
@@ -129,34 +129,6 @@ impl fmt::Display for Unwritable {
 }
 
 impl std::error::Error for Unwritable {}
-
-/// The code that is written for a command.
-fn code_byte(command: Command) -> u8
-    ensures { result ≡ written_code (command_code_of command) }
-{
-    match command {
-        Command::Write(_) => 0xF1,
-        Command::EraseWrite(_) => 0xF5,
-        Command::EraseWriteAlternate(_) => 0x7E,
-        Command::EraseAllUnprotected => 0x6F,
-        Command::ReadBuffer => 0xF2,
-        Command::ReadModified => 0xF6,
-        Command::ReadModifiedAll => 0x6E,
-        Command::NoOperation => 0x03,
-    }
-}
-
-/// The write control character of the three writes.
-fn wcc_byte(command: Command) -> Option<u8>
-    ensures { result ≡ wcc_of command }
-{
-    match command {
-        Command::Write(wcc) | Command::EraseWrite(wcc) | Command::EraseWriteAlternate(wcc) => Some(
-            wcc,
-        ),
-        _ => None,
-    }
-}
 
 /// Whether a run of text can be written here.
 fn is_good_text(after_text: bool, run: &[u8]) -> bool
@@ -205,11 +177,11 @@ fn flaw(cells: u32, after_text: bool, order: &Order<'_>, k: usize) -> Option<Unw
 }
 
 /// An order that consists of a count of pairs, and the pairs.
-fn push_pairs(out: &mut Vec<u8>, code: u8, pairs: &[u8]) -> Result<(), AllocError>
+fn push_pairs(out: &mut Vec<u8>, code: OrderCode, pairs: &[u8]) -> Result<(), AllocError>
     requires { are_good_pairs pairs.now ≡ true }
-    ensures { OnOk result (out.new.items ≡ out.old.items ++ code ∷ (length pairs.now / 2) ∷ pairs.now) }
+    ensures { OnOk result (out.new.items ≡ out.old.items ++ code_of code ∷ (length pairs.now / 2) ∷ pairs.now) }
 {
-    out.push(code)?;
+    out.push(code.byte())?;
     out.push((pairs.len() / 2) as u8)?;
     out.extend_from_slice(pairs)
 }
@@ -217,16 +189,16 @@ fn push_pairs(out: &mut Vec<u8>, code: u8, pairs: &[u8]) -> Result<(), AllocErro
 /// An order that begins with an address.
 fn push_address(
     out: &mut Vec<u8>,
-    code: u8,
+    code: OrderCode,
     mode: Mode,
     cells: u32,
     address: u32,
 ) -> Result<(), AllocError>
     requires inside { address < cells }
     requires few { cells ≤ limit_of mode }
-    ensures { OnOk result (out.new.items ≡ out.old.items ++ code ∷ written_address mode cells address) }
+    ensures { OnOk result (out.new.items ≡ out.old.items ++ code_of code ∷ written_address mode cells address) }
 {
-    out.push(code)?;
+    out.push(code.byte())?;
     out.extend_from_slice(&encode_address(mode, cells, address))
 }
 
@@ -235,7 +207,7 @@ fn push_character(out: &mut Vec<u8>, character: Char) -> Result<(), AllocError>
     ensures { OnOk result (out.new.items ≡ out.old.items ++ written_character character) }
 {
     if character.alt() {
-        out.push(0x08)?;
+        out.push(OrderCode::Ge.byte())?;
     }
     out.push(character.code())?;
     Ok(())
@@ -256,19 +228,22 @@ fn push_good(
 {
     match order {
         Order::Text(run) => out.extend_from_slice(run),
-        Order::Sf(attribute) => out.extend_from_slice(&[0x1D, to_six_bit_code(attribute.bits())]),
-        Order::Sfe(pairs) => push_pairs(out, 0x29, pairs),
-        Order::Sba(address) => push_address(out, 0x11, mode, cells, *address),
-        Order::Sa(kind, value) => out.extend_from_slice(&[0x28, *kind, *value]),
-        Order::Mf(pairs) => push_pairs(out, 0x2C, pairs),
-        Order::Ic => out.extend_from_slice(&[0x13]),
-        Order::Pt => out.extend_from_slice(&[0x05]),
+        Order::Sf(attribute) => out.extend_from_slice(&[
+            OrderCode::Sf.byte(),
+            to_six_bit_code(attribute.bits()),
+        ]),
+        Order::Sfe(pairs) => push_pairs(out, OrderCode::Sfe, pairs),
+        Order::Sba(address) => push_address(out, OrderCode::Sba, mode, cells, *address),
+        Order::Sa(kind, value) => out.extend_from_slice(&[OrderCode::Sa.byte(), *kind, *value]),
+        Order::Mf(pairs) => push_pairs(out, OrderCode::Mf, pairs),
+        Order::Ic => out.extend_from_slice(&[OrderCode::Ic.byte()]),
+        Order::Pt => out.extend_from_slice(&[OrderCode::Pt.byte()]),
         Order::Ra(address, character) => {
-            push_address(out, 0x3C, mode, cells, *address)?;
+            push_address(out, OrderCode::Ra, mode, cells, *address)?;
             push_character(out, *character)
         }
-        Order::Eua(address) => push_address(out, 0x12, mode, cells, *address),
-        Order::Ge(code) => out.extend_from_slice(&[0x08, *code]),
+        Order::Eua(address) => push_address(out, OrderCode::Eua, mode, cells, *address),
+        Order::Ge(code) => out.extend_from_slice(&[OrderCode::Ge.byte(), *code]),
     }
 }
 

@@ -8,13 +8,13 @@ use Rattle.std.proofs.lemmas.List.Concat.{flat_map-cons}
 use Rattle.ds_codec.specs.declared.size.Mode.{Mode}
 use Rattle.ds_codec.specs.declared.size.Mode.TheVariants.{Bits14}
 use Rattle.ds_codec.specs.Address.{SpellsAddress, written_address, six_bit_code}
-use Rattle.ds_codec.specs.Aid.{is_aid}
+use Rattle.ds_codec.specs.Aid.{is_aid, is_short_aid}
 use Rattle.ds_codec.specs.Geometry.{limit_of, cells_of}
 use Rattle.ds_codec.proofs.Below.{both_true}
 use Rattle.ds_codec.proofs.Codes.{six_bit_spells}
 use Rattle.ds_screen.specs.Picture.{Picture, IsSound}
 use Rattle.ds_screen.specs.Fields.{attributes_from}
-use Rattle.ds_inbound.specs.Answer.{Sent, Answer, is_short_aid, lead_sent, fields_sent, short_answer, long_answer, answer_of, written_characters, written_field, written_fields, written_after, written_answer, bytes_sent}
+use Rattle.ds_inbound.specs.Answer.{Sent, Answer, lead_sent, fields_sent, short_answer, long_answer, answer_of, written_characters, written_field, written_fields, written_after, written_answer, bytes_sent}
 use Rattle.ds_inbound.specs.Inbound.{is_sendable, IsAddressThen, IsFieldThen, AreFieldsThen, SpellsAfter, SpellsInbound, SaysOnly}
 use Rattle.ds_inbound.specs.Reading.{read_of}
 use Rattle.ds_inbound.specs.Sending.{is_field_sendable, HasGoodCursor, IsSendable}

@@ -3,14 +3,14 @@ use Rattle.std.proofs.Common.{◌≡◌, ℕ, ◌+◌, ◌<◌, true, false, con
 use Rattle.std.specs.Prelude.{IfOk, IfErr}
 use Rattle.ds_codec.specs.declared.size.Mode.{Mode}
 use Rattle.ds_codec.specs.Address.{SpellsAddress}
-use Rattle.ds_codec.specs.Aid.{is_aid}
+use Rattle.ds_codec.specs.Aid.{is_aid, is_short_aid}
 use Rattle.ds_codec.specs.Character.{Glyph}
 use Rattle.ds_codec.specs.Reading.{◌>>=◌}
 use Rattle.ds_codec.proofs.Steps.{ok_is}
 use Rattle.ds_inbound.specs.declared.refused.Refused.{Refused}
 use Rattle.ds_inbound.specs.declared.refused.Why.{Why}
 use Rattle.ds_inbound.specs.declared.refused.Why.TheVariants.{Empty, UnknownAid, Truncated, BadAddress, BadCharacter, Null}
-use Rattle.ds_inbound.specs.Answer.{Sent, Answer, is_short_aid, short_answer}
+use Rattle.ds_inbound.specs.Answer.{Sent, Answer, short_answer}
 use Rattle.ds_inbound.specs.Inbound.{SpellsAfter, SpellsInbound, HasOneAnswer, SaysOnly, FaultsAt, IsCut, IsLost, IsRefusedAt}
 use Rattle.ds_inbound.specs.Reading.{Tail, long_of, answer_after, read_of}
 use Rattle.ds_inbound.proofs.Fronts.{AddressSays, address_says, inside_again, outside_again}

@@ -10,7 +10,8 @@ use Rattle.ds_screen.specs.Ring.{ring_on}
 use Rattle.ds_screen.specs.Picture.{Picture, cell_at, blank, IsSound}
 use Rattle.ds_screen.specs.Fields.{is_attribute, span_of, attributes_from}
 use Rattle.ds_screen.proofs.RingLaws.{on_lt}
-use Rattle.ds_inbound.specs.Answer.{is_short_aid, is_null, character_of, characters_at, is_modified_at, field_sent, fields_sent, lead_sent, answer_of, bytes_sent, is_real, IsReal}
+use Rattle.ds_inbound.specs.Answer.{is_null, character_of, characters_at, is_modified_at, field_sent, fields_sent, lead_sent, answer_of, bytes_sent, is_real, IsReal}
+use Rattle.ds_codec.specs.Aid.{is_short_aid}
 use Rattle.ds_inbound.specs.Inbound.{is_sendable}
 use Rattle.ds_inbound.specs.Sending.{is_field_sendable, IsSendable}
 use Rattle.ds_inbound.specs.Laws.{AnswersSayThemselves, AnswersAreReadAgain}

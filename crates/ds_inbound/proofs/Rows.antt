@@ -4,14 +4,14 @@ use Rattle.ds_codec.specs.declared.cell.Cell.{Cell}
 use Rattle.ds_codec.specs.declared.cell.Cell.TheVariants.{Field, Char}
 use Rattle.ds_codec.specs.declared.size.Mode.TheVariants.{Bits14}
 use Rattle.ds_codec.specs.Address.{six_bit_code}
-use Rattle.ds_codec.specs.Aid.{is_aid}
+use Rattle.ds_codec.specs.Aid.{is_aid, is_short_aid}
 use Rattle.ds_codec.specs.Character.{Glyph, glyph, is_text}
 use Rattle.ds_screen.specs.declared.lock.Lock.TheVariants.{Waiting}
 use Rattle.ds_screen.specs.Ring.{ring_on, ring_back, least}
 use Rattle.ds_screen.specs.Picture.{Picture, blank}
 use Rattle.ds_screen.specs.Fields.{attribute_before, span_of}
 use Rattle.ds_inbound.specs.declared.refused.Why.TheVariants.{Empty, UnknownAid, Truncated, BadAddress, BadCharacter, Null}
-use Rattle.ds_inbound.specs.Answer.{Sent, Answer, is_short_aid, characters_at, field_sent, fields_sent, answer_of, bytes_sent, buffer_of}
+use Rattle.ds_inbound.specs.Answer.{Sent, Answer, characters_at, field_sent, fields_sent, answer_of, bytes_sent, buffer_of}
 use Rattle.ds_inbound.specs.Characters.{pair_at, front_character}
 use Rattle.ds_inbound.specs.Reading.{place_at, front, answer_after, read_of}
 

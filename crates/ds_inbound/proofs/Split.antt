@@ -9,7 +9,8 @@ use Rattle.ds_inbound.specs.declared.refused.Refused.{Refused}
 use Rattle.ds_inbound.specs.declared.refused.Why.{Why}
 use Rattle.ds_inbound.specs.declared.item.Item.{Item}
 use Rattle.ds_inbound.specs.declared.item.Item.TheVariants as items
-use Rattle.ds_inbound.specs.Answer.{Sent, is_short_aid, written_characters}
+use Rattle.ds_inbound.specs.Answer.{Sent, written_characters}
+use Rattle.ds_codec.specs.Aid.{is_short_aid}
 use Rattle.ds_inbound.specs.Inbound.{AreGlyphsThen, AreFieldsThen, IsTailThen}
 use Rattle.ds_codec.specs.Character.{is_text}
 use Rattle.ds_inbound.specs.Characters.{front_character, characters_in}

@@ -1,12 +1,12 @@
 -- What a terminal sends: first what it says, then its bytes.
 use Rattle.std.specs.Prelude.{◌≡◌, ℕ, Bool, true, not, ◌&&◌, ◌==◌, List, [], ◌∷◌, ◌++◌, map, length, Option, Some, None, if◌then◌else◌}
-use Rattle.std.specs.List.{range_with_len, filter, flat_map, list_any, list_all}
+use Rattle.std.specs.List.{range_with_len, filter, flat_map, list_all}
 use Rattle.ds_codec.specs.declared.size.Mode.{Mode}
 use Rattle.ds_codec.specs.declared.cell.Cell.{Cell}
 use Rattle.ds_codec.specs.declared.cell.Cell.TheVariants.{Field, Char}
 use Rattle.ds_codec.specs.declared.order.OrderCode.TheVariants.{Sf, Sba}
 use Rattle.ds_codec.specs.Address.{six_bit_code, written_address}
-use Rattle.ds_codec.specs.Aid.{is_aid}
+use Rattle.ds_codec.specs.Aid.{is_aid, is_short_aid}
 use Rattle.ds_codec.specs.Attribute.{is_modified}
 use Rattle.ds_codec.specs.Character.{Glyph, null, is_glyph}
 use Rattle.ds_codec.specs.Order.{code_of}
@@ -27,13 +27,6 @@ pub record Answer : Type 0 where
   pub cursor : Option ℕ
   pub lead : List Glyph
   pub fields : List Sent
-
--- PA1, PA2, PA3 and Clear, which Read Modified sends alone
-abbrev pub short_aids : List ℕ
-short_aids = 0x6C ∷ 0x6E ∷ 0x6B ∷ 0x6D ∷ []
-
-unfoldable pub is_short_aid : ℕ → Bool
-is_short_aid byte = list_any (λ aid. aid == byte) short_aids
 
 -- ---- what a picture answers
 

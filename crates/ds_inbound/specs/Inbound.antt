@@ -4,12 +4,12 @@ use Rattle.std.specs.Prelude.{◌≡◌, ℕ, ◌+◌, ◌<◌, ◌≤◌, ◌�
 use Rattle.ds_codec.specs.declared.size.Mode.{Mode}
 use Rattle.ds_codec.specs.declared.order.OrderCode.TheVariants.{Sba, Ge}
 use Rattle.ds_codec.specs.Address.{SpellsAddress, IsReserved}
-use Rattle.ds_codec.specs.Aid.{is_aid}
+use Rattle.ds_codec.specs.Aid.{is_aid, is_short_aid}
 use Rattle.ds_codec.specs.Character.{Glyph, is_text, is_graphic, is_glyph}
 use Rattle.ds_codec.specs.Order.{code_of}
 use Rattle.ds_inbound.specs.declared.refused.Why.{Why}
 use Rattle.ds_inbound.specs.declared.refused.Why.TheVariants.{Empty, UnknownAid, Truncated, BadAddress, BadCharacter, Null}
-use Rattle.ds_inbound.specs.Answer.{Sent, Answer, is_short_aid, is_null, written_characters}
+use Rattle.ds_inbound.specs.Answer.{Sent, Answer, is_null, written_characters}
 
 -- a character that can be sent: any but the null
 abbrev pub is_sendable : Glyph → Bool

@@ -3,7 +3,7 @@ use Rattle.std.specs.Prelude.{◌≡◌, ℕ, zero, suc, ◌+◌, ◌-◌, nat_l
 use Rattle.ds_codec.specs.declared.size.Mode.{Mode}
 use Rattle.ds_codec.specs.declared.order.OrderCode.TheVariants.{Sba}
 use Rattle.ds_codec.specs.Address.{address_at}
-use Rattle.ds_codec.specs.Aid.{is_aid}
+use Rattle.ds_codec.specs.Aid.{is_aid, is_short_aid}
 use Rattle.ds_codec.specs.Character.{Glyph}
 use Rattle.ds_codec.specs.Order.{code_of}
 use Rattle.ds_codec.specs.Reading.{◌>>=◌}
@@ -13,7 +13,7 @@ use Rattle.ds_inbound.specs.declared.refused.Why.TheVariants.{Empty, UnknownAid,
 use Rattle.ds_inbound.specs.declared.item.Item.{Item}
 use Rattle.ds_inbound.specs.declared.item.Item.TheVariants as items
 use Rattle.ds_inbound.specs.declared.field.FieldSlice.{FieldSlice}
-use Rattle.ds_inbound.specs.Answer.{Sent, Answer, is_short_aid, short_answer}
+use Rattle.ds_inbound.specs.Answer.{Sent, Answer, short_answer}
 use Rattle.ds_inbound.specs.Characters.{front_character, characters_in}
 
 -- ---- characters and fields

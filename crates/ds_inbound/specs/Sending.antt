@@ -4,14 +4,14 @@ use Rattle.std.specs.List.{range_with_len, list_all}
 use Rattle.ds_codec.specs.declared.cell.Cell.{Cell}
 use Rattle.ds_codec.specs.declared.cell.Cell.TheVariants.{Field, Char}
 use Rattle.ds_codec.specs.declared.size.Mode.{Mode}
-use Rattle.ds_codec.specs.Aid.{is_aid}
+use Rattle.ds_codec.specs.Aid.{is_aid, is_short_aid}
 use Rattle.ds_codec.specs.Geometry.{limit_of}
 use Rattle.ds_codec.specs.Character.{Glyph}
 use Rattle.ds_screen.specs.declared.field.FieldAt.{FieldAt}
 use Rattle.ds_screen.specs.Ring.{ring_on}
 use Rattle.ds_screen.specs.Picture.{cell_at}
 use Rattle.ds_screen.specs.Fields.{is_attribute, field_at}
-use Rattle.ds_inbound.specs.Answer.{Sent, Answer, is_short_aid, is_null}
+use Rattle.ds_inbound.specs.Answer.{Sent, Answer, is_null}
 use Rattle.ds_inbound.specs.Inbound.{is_sendable}
 
 -- what is sent of a cell

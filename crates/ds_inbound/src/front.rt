@@ -8,7 +8,7 @@ ghost use Rattle.ds_inbound.specs.Reading.{inside, as_item, place_at, front};
 
 use crate::item::Item;
 use crate::refused::Why;
-use ds_codec::{Char, Mode, decode_address};
+use ds_codec::{Char, Mode, OrderCode, decode_address};
 
 /// The code behind the graphic escape.
 #[tactic(auto, unfolding(crate::specs::Characters::pair_at))]
@@ -43,8 +43,13 @@ fn read_char(bytes: &[u8]) -> Result<(Char, usize), Why>
 {
     match bytes {
         [] => Err(Why::Truncated),
-        [0x08, more @ ..] => pair(more),
-        [byte, ..] => plain(*byte),
+        [byte, more @ ..] => {
+            if *byte == OrderCode::Ge.byte() {
+                pair(more)
+            } else {
+                plain(*byte)
+            }
+        }
     }
 }
 
@@ -115,8 +120,13 @@ fn read_item(mode: Mode, cells: u32, bytes: &[u8]) -> Result<(Item, usize), Why>
 {
     match bytes {
         [] => Err(Why::Truncated),
-        [0x11, more @ ..] => place(mode, cells, more),
-        _ => character(bytes),
+        [byte, more @ ..] => {
+            if *byte == OrderCode::Sba.byte() {
+                place(mode, cells, more)
+            } else {
+                character(bytes)
+            }
+        }
     }
 }
 

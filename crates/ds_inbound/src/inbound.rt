@@ -2,7 +2,6 @@
 
 use crate::fields::Fields;
 use crate::front::{front_item, position, run_length};
-use crate::key::is_short;
 use crate::refused::{Refused, Why};
 use ds_codec::{Aid, Mode};
 use std::marker::Model;
@@ -138,7 +137,7 @@ fn read_after<'a>(mode: Mode, cells: u32, aid: Aid, rest: &'a [u8]) -> Result<In
             Ok(cursor) => read_tail(mode, cells, aid, cursor, body),
             Err(why) => Err(Refused { at: 1, why }),
         },
-        [] if is_short(aid) => Ok(Inbound {
+        [] if aid.is_short() => Ok(Inbound {
             mode,
             cells,
             aid,

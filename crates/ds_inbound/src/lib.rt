@@ -7,7 +7,6 @@ mod fields;
 mod front;
 mod inbound;
 mod item;
-mod key;
 mod laws;
 mod refused;
 mod write;
@@ -19,6 +18,3 @@ pub use inbound::Inbound;
 pub use laws::{answers_say_themselves, one_answer};
 pub use refused::{Refused, Why};
 pub use write::{write_buffer, write_inbound};
-
-#[cfg(test)]
-mod tests;

@@ -8,13 +8,13 @@ ghost use Rattle.ds_codec.specs.Character.{is_glyph};
 ghost use Rattle.ds_codec.specs.Writing.{written_character};
 ghost use Rattle.ds_screen.specs.Ring.{ring_on};
 ghost use Rattle.ds_screen.specs.Fields.{attributes_from};
-ghost use Rattle.ds_inbound.specs.Answer.{is_short_aid, is_null, characters_at, field_sent, fields_sent, lead_sent, answer_of, written_characters, written_field, written_fields, bytes_sent, written_cell, buffer_of};
+ghost use Rattle.ds_inbound.specs.Answer.{is_null, characters_at, field_sent, fields_sent, lead_sent, answer_of, written_characters, written_field, written_fields, bytes_sent, written_cell, buffer_of};
+ghost use Rattle.ds_codec.specs.Aid.{is_short_aid};
 ghost use Rattle.ds_inbound.specs.Inbound.{is_sendable, SaysOnly};
 ghost use Rattle.ds_inbound.specs.Reading.{read_of};
 ghost use Rattle.ds_inbound.specs.Sending.{sent_in, places_on, has_places, is_field_sendable, IsFieldOf, IsSendable};
 
-use crate::key::is_short;
-use ds_codec::{Aid, Attr, Cell, Char, Mode, encode_address};
+use ds_codec::{Aid, Cell, Char, OrderCode, encode_address, to_six_bit_code};
 use ds_screen::ring::next;
 use ds_screen::{Cells, FieldAt, Screen};
 use std::alloc::{AllocError, Global};
@@ -66,7 +66,7 @@ fn push_character(out: &mut Vec<u8>, character: Char) -> Result<(), AllocError>
     ensures { OnOk result (out.new.items ≡ out.old.items ++ written_character character) }
 {
     if character.alt() {
-        out.push(0x08)?;
+        out.push(OrderCode::Ge.byte())?;
     }
     out.push(character.code())?;
     Ok(())
@@ -135,7 +135,7 @@ fn push_field<C: Cells>(
         ++ written_field screen.now.geometry.mode (length screen.now.cells) (field_sent screen.now.cells field.now.at)) }
     ensures sendable { OnOk result (is_field_sendable (length screen.now.cells) (field_sent screen.now.cells field.now.at) ≡ true) }
 {
-    out.push(0x11)?;
+    out.push(OrderCode::Sba.byte())?;
     push_address(out, screen, field.place)?;
     push_run(out, screen, field.place, field.length)?;
     Ok(())
@@ -181,7 +181,7 @@ fn push_lead<C: Cells>(out: &mut Vec<u8>, screen: &Screen<C>) -> Result<(), Allo
 fn is_sent_alone(aid: Aid, all: bool) -> bool
     ensures { result ≡ (is_short_aid aid && not all) }
 {
-    is_short(aid) && !all
+    aid.is_short() && !all
 }
 
 fn write_answer<C: Cells>(
@@ -207,19 +207,15 @@ fn write_answer<C: Cells>(
     Ok(out)
 }
 
-/// The six bits of an attribute as they are written: the code of the low half of an address below 64.
-fn attribute_code(attribute: Attr) -> u8
-    ensures { result ≡ six_bit_code attribute }
-{
-    encode_address(Mode::Bits14, 64, u32::from(attribute.bits()))[1]
-}
-
 /// A cell, whatever it holds.
 fn push_cell(out: &mut Vec<u8>, cell: Cell) -> Result<(), AllocError>
     ensures { OnOk result (out.new.items ≡ out.old.items ++ written_cell cell) }
 {
     match cell {
-        Cell::Field(attribute) => out.extend_from_slice(&[0x1D, attribute_code(attribute)]),
+        Cell::Field(attribute) => out.extend_from_slice(&[
+            OrderCode::Sf.byte(),
+            to_six_bit_code(attribute.bits()),
+        ]),
         Cell::Char(character) => push_character(out, character),
     }
 }

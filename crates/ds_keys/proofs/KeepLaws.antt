@@ -173,7 +173,6 @@ delete_keeps v =
     (λ shut. keeps_same v.cells)
 
 input_keeps : (v : Picture) → KeepsStep v (erase_input_step v)
-unfolding erase_input_step
 input_keeps v = rule_keeps v.cells (cleared_cell v.cells) (λ p lt. cleared_each v.cells p)
 
 attention_keeps : (v : Picture) (aid : ℕ) → (aid == 0x6D) ≡ false → KeepsStep v (attention_step v aid)

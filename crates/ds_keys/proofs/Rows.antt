@@ -7,13 +7,13 @@ use Rattle.ds_codec.specs.Character.{glyph}
 use Rattle.ds_screen.specs.declared.lock.Lock.TheVariants.{Waiting, Free}
 use Rattle.ds_screen.specs.Ring.{ring_on, ring_back, ring_distance, least}
 use Rattle.ds_screen.specs.Picture.{Picture, blank, ruled}
-use Rattle.ds_screen.specs.Fields.{attribute_before}
+use Rattle.ds_screen.specs.Fields.{attribute_before, first_open}
 use Rattle.ds_screen.specs.Records.{cleared_cell}
 use Rattle.ds_keys.specs.declared.key.Key.{Key}
 use Rattle.ds_keys.specs.declared.key.Key.TheVariants.{Typed, Left, Right, Up, Tab, BackTab, NewLine, Home, EraseEof, EraseInput, Delete, Reset, Attention}
 use Rattle.ds_keys.specs.declared.pressed.Pressed.TheVariants.{Done, Inhibited, Ignored, Sent}
-use Rattle.ds_keys.specs.Moves.{start_ahead, start_back, first_open, settled, next_row}
-use Rattle.ds_keys.specs.KeyStep.{typed_cell, end_erased_cell, run_end, deleted_cell, typed_step, erase_eof_step, delete_step, erase_input_step, attention_step, free_step, step_of}
+use Rattle.ds_keys.specs.Moves.{start_ahead, start_back, settled, next_row}
+use Rattle.ds_keys.specs.KeyStep.{typed_cell, end_erased_cell, run_end, deleted_cell, typed_step, erase_eof_step, delete_step, attention_step, free_step, step_of}
 use Rattle.ds_keys.specs.KeyRuns.{after_key, after, answers}
 
 abbrev plain : ℕ → Cell
@@ -92,7 +92,7 @@ last_attribute = refl
 -- Erase Input: open characters and the modified data tag of the unprotected attribute, not of the protected one
 input_erased : after_key (screen 1 6 (Field 0x21 ∷ plain 0xC1 ∷ Field 1 ∷ plain 0xC2 ∷ Field 1 ∷ Field 0x20 ∷ []) 1) EraseInput ≡
     screen 1 6 (Field 0x21 ∷ plain 0xC1 ∷ Field 0 ∷ blank ∷ Field 0 ∷ Field 0x20 ∷ []) 3
-unfolding step_of free_step erase_input_step cleared_cell first_open ruled attribute_before least ring_on ring_back
+unfolding step_of free_step cleared_cell first_open ruled attribute_before least ring_on ring_back
 input_erased = refl
 
 -- a run of attributes that ends in an auto-skip one

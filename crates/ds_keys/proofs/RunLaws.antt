@@ -1,19 +1,18 @@
 -- Loops that store cells one after the other.
 use Rattle.std.proofs.Common.{◌≡◌, ℕ, ◌+◌, ◌-◌, ◌<◌, ◌≤◌, true, false, cond, eqb, ltb, List, length, set, Some, None, refl, sym, ◌∙◌, ap, arith, inl, inr}
 use Rattle.std.specs.Option.{unwrap_or}
-use Rattle.std.proofs.lemmas.Bool.{cond-true, cond-false, cases_eq, cases_Bool, le-ltb, eq-eqb, ne_eqb}
+use Rattle.std.proofs.lemmas.Bool.{cond-true, cond-false, cases_eq, le-ltb, eq-eqb, ne_eqb}
 use Rattle.ds_codec.specs.declared.cell.Cell.{Cell}
-use Rattle.ds_codec.specs.declared.cell.Cell.TheVariants.{Field, Char}
+use Rattle.ds_codec.specs.declared.cell.Cell.TheVariants.{Field}
 use Rattle.ds_codec.specs.Attribute.{with_modified}
 use Rattle.ds_screen.specs.Ring.{ring_on, ring_distance, least}
 use Rattle.ds_screen.specs.Picture.{Picture, blank, cell_at, ruled}
-use Rattle.ds_screen.specs.Fields.{is_attribute, is_at, attribute_before, is_open_under, ruling_bits}
-use Rattle.ds_screen.specs.Records.{cleared_cell}
+use Rattle.ds_screen.specs.Fields.{is_attribute, is_at, attribute_before}
 use Rattle.ds_screen.proofs.RingLaws.{least_at, least_none, on_cases, distance_ahead}
 use Rattle.ds_screen.proofs.RuledLaws.{as_ruled, cell_at-ruled, length-ruled, set-ruled, walk_step, walk_none}
 use Rattle.ds_keys.specs.Moves.{row_end}
 use Rattle.ds_keys.specs.KeyStep.{modified, marked_cell, run_end}
-use Rattle.ds_keys.specs.Kept.{so_far, moved_back, cleared_under}
+use Rattle.ds_keys.specs.Kept.{so_far, moved_back}
 
 abbrev pub with_cells : Picture → List Cell → Picture
 with_cells v cells = record v { cells = cells }
@@ -70,17 +69,6 @@ still_there v now b k p f behind lt stored =
     ap (λ (w : Picture). cell_at w.cells p) stored ∙ cell_at-ruled (length v.cells) (so_far v.cells b k f) p lt
     ∙ cond-false (ltb (ring_distance (length v.cells) b p) k) _ _ (le-ltb _ _ (omega (arith, distance_ahead (length v.cells) b p (omega arith))))
 
--- ---- what Erase Input makes of a cell
-pub cleared_kind : (bits : ℕ) (c : Cell) → is_attribute (cleared_under bits c) ≡ true → is_attribute c ≡ true
-cleared_kind bits (Field attribute) is = refl
-cleared_kind bits (Char character) is = elim (cases_Bool (is_open_under bits (Char character))) [
-  | inl opens ↦ absurd (blank_no (sym (ap is_attribute (cond-true (is_open_under bits (Char character)) _ _ opens)) ∙ is))
-  | inr shut ↦ absurd (blank_no (sym (ap is_attribute (cond-false (is_open_under bits (Char character)) _ _ shut)) ∙ is))
-]
-  where
-    blank_no : false ≡ true → ⊥
-    blank_no e = cc
-
 -- ---- marking
 mark_all : (cells : List Cell) → cells ≡ ruled (length cells) (cell_at cells)
 mark_all cells = as_ruled cells (length cells) (cell_at cells) refl (λ p lt. refl)
@@ -99,9 +87,3 @@ mark_some cells c q bits lt found there =
     ∙ cond-true (eqb q q) _ _ (eq-eqb q q refl) ∙ ap modified there)
     (λ p below apart. ap (λ o. cond (is_at o p) (modified (cell_at cells p)) (cell_at cells p)) (sym found)
     ∙ cond-false (eqb q p) _ _ (ne_eqb q p (λ same. apart (sym same))))
-
-pub clears_here : (cells : List Cell) (p bits : ℕ) (here result : Cell) → bits ≡ ruling_bits cells p → here ≡ cell_at cells p → result ≡ cleared_under bits here
-    → cleared_cell cells p ≡ result
-unfolding cleared_cell
-clears_here cells p bits here result rules reads is =
-    sym (is ∙ ap (λ b. cleared_under b here) rules ∙ ap (cleared_under (ruling_bits cells p)) reads)

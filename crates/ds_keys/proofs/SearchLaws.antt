@@ -5,10 +5,10 @@ use Rattle.std.proofs.lemmas.Bool.{cond-true, cond-false}
 use Rattle.ds_codec.specs.declared.cell.Cell.{Cell}
 use Rattle.ds_screen.specs.Ring.{ring_on, ring_back, least}
 use Rattle.ds_screen.specs.Picture.{cell_at}
-use Rattle.ds_screen.specs.Fields.{is_character, is_open}
+use Rattle.ds_screen.specs.Fields.{is_character}
 use Rattle.ds_screen.specs.Orders.{is_unprotected_attribute}
 use Rattle.ds_screen.proofs.RingLaws.{least_at, least_none, back_more}
-use Rattle.ds_keys.specs.Moves.{is_field_start, start_ahead, start_back, first_open, stops_cursor, settled_at, settled}
+use Rattle.ds_keys.specs.Moves.{is_field_start, start_ahead, start_back, stops_cursor, settled_at, settled}
 
 -- ---- field starts
 -- a test of the cell and of the cell before it is the one for a field's start
@@ -46,20 +46,6 @@ unfolding start_back
 back_none cells p misses =
     sym (ap (λ o. unwrap_or (option_map (λ d. ring_back (length cells) p (d + 1)) o) 0)
     (least_none (length cells) (λ d. is_field_start cells (ring_back (length cells) p (d + 1))) misses))
-
--- ---- open characters
-pub open_found : (cells : List Cell) (p k at : ℕ) → k < length cells → at ≡ ring_on (length cells) p k
-    → ((d : ℕ) → d < k → is_open cells (ring_on (length cells) p d) ≡ false) → is_open cells at ≡ true → at ≡ first_open cells p
-unfolding first_open
-open_found cells p k at few here misses hit =
-    let found : least (length cells) (λ d. is_open cells (ring_on (length cells) p d)) ≡ Some k =
-    least_at (length cells) k (λ d. is_open cells (ring_on (length cells) p d)) few misses (ap (is_open cells) (sym here) ∙ hit) in
-    here ∙ sym (ap (λ o. unwrap_or (option_map (ring_on (length cells) p) o) 0) found)
-
-pub open_none : (cells : List Cell) (p : ℕ) → ((d : ℕ) → d < length cells → is_open cells (ring_on (length cells) p d) ≡ false) → 0 ≡ first_open cells p
-unfolding first_open
-open_none cells p misses =
-    sym (ap (λ o. unwrap_or (option_map (ring_on (length cells) p) o) 0) (least_none (length cells) (λ d. is_open cells (ring_on (length cells) p d)) misses))
 
 -- ---- where the cursor settles
 pub stop_found : (cells : List Cell) (p k at : ℕ) → k < length cells → at ≡ ring_on (length cells) p k

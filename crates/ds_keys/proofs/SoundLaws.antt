@@ -13,13 +13,13 @@ use Rattle.ds_screen.specs.declared.lock.Lock.{Lock}
 use Rattle.ds_screen.specs.declared.lock.Lock.TheVariants.{Free, Waiting, Error}
 use Rattle.ds_screen.specs.Ring.{ring_on, ring_back, least}
 use Rattle.ds_screen.specs.Picture.{Picture, IsSound, blank, cell_at, ruled}
-use Rattle.ds_screen.specs.Fields.{is_open, is_character}
+use Rattle.ds_screen.specs.Fields.{is_open, first_open, is_character}
 use Rattle.ds_screen.specs.Records.{erased, cleared_cell}
 use Rattle.ds_screen.proofs.RingLaws.{search_cases, least_found, least_none, on_lt, back_lt}
 use Rattle.ds_screen.proofs.RuledLaws.{length-ruled}
 use Rattle.ds_keys.specs.declared.key.Key.{Key}
 use Rattle.ds_keys.specs.declared.key.Key.TheVariants.{Typed, Left, Right, Up, Down, Tab, BackTab, NewLine, Home, EraseEof, EraseInput, Delete, Reset, Attention}
-use Rattle.ds_keys.specs.Moves.{is_field_start, start_ahead, start_back, first_open, stops_cursor, settled_at, settled, row_end, next_row}
+use Rattle.ds_keys.specs.Moves.{is_field_start, start_ahead, start_back, stops_cursor, settled_at, settled, row_end, next_row}
 use Rattle.ds_keys.specs.KeyStep.{Step, sent, typed_cell, end_erased_cell, run_end, deleted_cell, typed_step, erase_eof_step, delete_step, erase_input_step, attention_step, free_step, error_step, step_under, step_of}
 use Rattle.ds_keys.specs.KeyRuns.{after_key, after}
 use Rattle.ds_keys.specs.Laws.{KeysStaySound}
@@ -144,7 +144,6 @@ delete_sound v s =
     (λ opens. edited_sound v (deleted_cell v.cells (run_end v.cells v.size.cols v.cursor) v.cursor) v.cursor s (cursor_lt v s)) (λ shut. locked_sound v Error s)
 
 input_sound : (v : Picture) → IsSound v → StepSound (erase_input_step v)
-unfolding erase_input_step
 input_sound v s = edited_sound v (cleared_cell v.cells) (first_open v.cells 0) s (open_lt v.cells 0 (omega (arith, cursor_lt v s)))
 
 erased_sound : (v : Picture) (aid : ℕ) → IsSound v → StepSound (sent (erased v.geometry.default v) aid)

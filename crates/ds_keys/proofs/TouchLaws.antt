@@ -158,7 +158,6 @@ delete_marks v q there =
     (λ shut. marks_nothing v Delete q (inhibited v) refl refl refl)
 
 input_marks : (v : Picture) (q : ℕ) → is_attribute (cell_at v.cells q) ≡ true → Marks v EraseInput q (erase_input_step v)
-unfolding erase_input_step
 input_marks v q there =
     ap (λ x. is_modified (bits_of x)) (cell_at-ruled (length v.cells) (cleared_cell v.cells) q (attribute_inside v.cells q there) ∙ cleared_says v.cells q there)
     ∙ reset_cell_so (cell_at v.cells q) there

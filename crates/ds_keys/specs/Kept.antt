@@ -3,11 +3,10 @@ use Rattle.std.specs.Prelude.{◌≡◌, ℕ, ◌+◌, ◌-◌, ◌<◌, ◌≤�
 use Rattle.ds_codec.specs.declared.cell.Cell.{Cell}
 use Rattle.ds_screen.specs.Ring.{ring_on, ring_back, ring_distance}
 use Rattle.ds_screen.specs.Picture.{Picture, blank, cell_at}
-use Rattle.ds_screen.specs.Fields.{is_attribute, is_open_under}
-use Rattle.ds_screen.specs.Records.{unprotected_unmodified}
+use Rattle.ds_screen.specs.Fields.{is_attribute, first_open}
 use Rattle.ds_keys.specs.declared.key.Key.{Key}
 use Rattle.ds_keys.specs.declared.key.Key.TheVariants.{Left, Right, Up, Down, Tab, BackTab, NewLine, Home}
-use Rattle.ds_keys.specs.Moves.{start_ahead, start_back, first_open, next_row}
+use Rattle.ds_keys.specs.Moves.{start_ahead, start_back, next_row}
 
 -- so many positions from b on, round the ring, hold what the rule says, the others what they held
 abbrev pub so_far : List Cell → ℕ → ℕ → (ℕ → Cell) → ℕ → Cell
@@ -25,10 +24,6 @@ moved_back cells end p = if p + 1 == end then blank else cell_at cells (p + 1)
 -- no attribute stands from one position up to another
 abbrev pub AreCharacters : List Cell → ℕ → ℕ → Type 0
 AreCharacters cells from end = (p : ℕ) → from ≤ p → p < end → is_attribute (cell_at cells p) ≡ false
-
--- what Erase Input makes of a cell, by the bits that rule it
-abbrev pub cleared_under : ℕ → Cell → Cell
-cleared_under bits cell = if is_open_under bits cell then blank else unprotected_unmodified cell
 
 -- the place to which a cursor key moves the cursor; for another key where it stands
 abbrev pub place_after : Picture → Key → ℕ

@@ -8,13 +8,13 @@ use Rattle.ds_screen.specs.declared.lock.Lock.{Lock}
 use Rattle.ds_screen.specs.declared.lock.Lock.TheVariants.{Free, Waiting, Error}
 use Rattle.ds_screen.specs.Ring.{ring_on, ring_back, ring_distance, least}
 use Rattle.ds_screen.specs.Picture.{Picture, blank, cell_at, ruled}
-use Rattle.ds_screen.specs.Fields.{is_attribute, is_at, is_open, attribute_before, governs}
-use Rattle.ds_screen.specs.Records.{erased, cleared_cell}
+use Rattle.ds_screen.specs.Fields.{is_attribute, is_at, is_open, first_open, attribute_before, governs}
+use Rattle.ds_screen.specs.Records.{erased, cleared}
 use Rattle.ds_keys.specs.declared.key.Key.{Key}
 use Rattle.ds_keys.specs.declared.key.Key.TheVariants.{Typed, Left, Right, Up, Down, Tab, BackTab, NewLine, Home, EraseEof, EraseInput, Delete, Reset, Attention}
 use Rattle.ds_keys.specs.declared.pressed.Pressed.{Pressed}
 use Rattle.ds_keys.specs.declared.pressed.Pressed.TheVariants.{Done, Inhibited, Ignored, Sent}
-use Rattle.ds_keys.specs.Moves.{start_ahead, start_back, first_open, settled, row_end, next_row}
+use Rattle.ds_keys.specs.Moves.{start_ahead, start_back, settled, row_end, next_row}
 
 -- ---- cells
 abbrev pub modified : Cell → Cell
@@ -87,8 +87,8 @@ erase_eof_step v = if_open v (edited v (end_erased_cell v.cells v.cursor) v.curs
 unfoldable pub delete_step : Picture → Step
 delete_step v = if_open v (edited v (deleted_cell v.cells (run_end v.cells v.size.cols v.cursor) v.cursor) v.cursor)
 
-unfoldable pub erase_input_step : Picture → Step
-erase_input_step v = edited v (cleared_cell v.cells) (first_open v.cells 0)
+abbrev pub erase_input_step : Picture → Step
+erase_input_step v = step (cleared v) Done
 
 abbrev pub sent : Picture → ℕ → Step
 sent v aid = step (record v { lock = Waiting; aid = aid }) (Sent aid)

@@ -1,16 +1,12 @@
 -- Where keys put the cursor, by least distance round the ring.
-use Rattle.std.specs.Prelude.{ℕ, ◌+◌, ◌-◌, ◌%◌, Bool, true, ◌&&◌, nat_lt, List, length, Option, Some, None, option_map, unwrap_or, if◌then◌else◌}
+use Rattle.std.specs.Prelude.{ℕ, ◌+◌, ◌-◌, ◌%◌, Bool, true, ◌&&◌, nat_lt, List, length, Option, Some, None, unwrap_or, if◌then◌else◌}
 use Rattle.ds_codec.specs.declared.cell.Cell.{Cell}
 use Rattle.ds_codec.specs.declared.cell.Cell.TheVariants.{Field, Char}
 use Rattle.ds_codec.specs.Attribute.{is_auto_skip}
-use Rattle.ds_screen.specs.Ring.{ring_on, ring_back, least}
+use Rattle.ds_screen.specs.Ring.{ring_on, ring_back, nearest}
 use Rattle.ds_screen.specs.Picture.{cell_at}
-use Rattle.ds_screen.specs.Fields.{is_character, is_open}
+use Rattle.ds_screen.specs.Fields.{is_character}
 use Rattle.ds_screen.specs.Orders.{is_unprotected_attribute}
-
--- the first of n places, one after the other, that passes the test
-abbrev pub nearest : ℕ → (ℕ → ℕ) → (ℕ → Bool) → Option ℕ
-nearest n place test = option_map place (least n (λ d. test (place d)))
 
 -- a field starts at a character behind an unprotected attribute
 abbrev pub is_field_start : List Cell → ℕ → Bool
@@ -23,10 +19,6 @@ start_ahead cells p = unwrap_or (nearest (length cells) (λ d. ring_on (length c
 -- the same going back
 unfoldable pub start_back : List Cell → ℕ → ℕ
 start_back cells p = unwrap_or (nearest (length cells) (λ d. ring_back (length cells) p (d + 1)) (is_field_start cells)) 0
-
--- the open character at the least distance going on, p itself first; 0 where there is none
-unfoldable pub first_open : List Cell → ℕ → ℕ
-first_open cells p = unwrap_or (nearest (length cells) (ring_on (length cells) p) (is_open cells)) 0
 
 -- a cursor that moves on by itself stops at a character or at an auto-skip attribute
 abbrev pub stops_cursor : Cell → Bool

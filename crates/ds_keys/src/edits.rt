@@ -1,15 +1,14 @@
 //! Keys that change the field that the cursor stands in (GA23-0059, "Keyboard").
 
 ghost use Rattle.std.specs.Prelude.{◌≡◌, ◌<◌, ◌≤◌, length};
-ghost use Rattle.ds_codec.specs.Character.{is_graphic};
 ghost use Rattle.ds_screen.specs.Picture.{ruled};
 ghost use Rattle.ds_keys.specs.KeyStep.{step, inhibited, marked_cell, typed_step, erase_eof_step, delete_step};
 
-use crate::fields::{is_open_at, position_count};
+use crate::fields::position_count;
 use crate::moves::settle;
 use crate::pressed::Pressed;
 use crate::runs::{end_of_run, null_on, positions_to_end, shift_back};
-use ds_codec::{Cell, Char};
+use ds_codec::{Cell, Char, is_graphic_code};
 use ds_screen::ring::forward;
 use ds_screen::{Cells, Lock, Screen};
 
@@ -33,25 +32,18 @@ fn mark<C: Cells>(screen: &mut Screen<C>, p: u32)
     }
 }
 
-/// Whether there is a character key of this code: 40 to FE.
-fn is_typed_code(code: u8) -> bool
-    ensures { result ≡ is_graphic code }
-{
-    0x40 <= code && code <= 0xFE
-}
-
 /// Types a code, 40 to FE, where the cursor stands: the field becomes modified, and the cursor goes on by
 /// one and settles.
 pub(crate) fn type_code<C: Cells>(screen: &mut Screen<C>, code: u8) -> Pressed
     ensures { step screen.new result ≡ typed_step screen.old code }
 {
-    if !is_typed_code(code) {
+    if !is_graphic_code(code) {
         return Pressed::Ignored;
     }
     let character = Char::new(code, false).unwrap();
     let n = position_count(screen);
     let cursor = screen.cursor();
-    if !is_open_at(screen, cursor) {
+    if !screen.is_open(cursor) {
         return inhibit(screen);
     }
     let next = settle(screen, forward(n, cursor, 1));
@@ -67,7 +59,7 @@ pub(crate) fn erase_eof<C: Cells>(screen: &mut Screen<C>) -> Pressed
 {
     let n = position_count(screen);
     let cursor = screen.cursor();
-    if !is_open_at(screen, cursor) {
+    if !screen.is_open(cursor) {
         return inhibit(screen);
     }
     let count = positions_to_end(screen, n, cursor);
@@ -81,7 +73,7 @@ pub(crate) fn delete<C: Cells>(screen: &mut Screen<C>) -> Pressed
     ensures { step screen.new result ≡ delete_step screen.old }
 {
     let cursor = screen.cursor();
-    if !is_open_at(screen, cursor) {
+    if !screen.is_open(cursor) {
         return inhibit(screen);
     }
     let end = end_of_run(screen, cursor);

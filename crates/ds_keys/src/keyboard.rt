@@ -7,9 +7,8 @@ ghost use Rattle.ds_keys.specs.Kept.{place_after};
 use crate::edits::{delete, erase_eof, type_code};
 use crate::fields::position_count;
 use crate::key::Key;
-use crate::moves::{open_from, place_ahead, place_back, row_after};
+use crate::moves::{place_ahead, place_back, row_after};
 use crate::pressed::Pressed;
-use crate::runs::clear_open;
 use ds_codec::Aid;
 use ds_screen::ring::{backward, forward};
 use ds_screen::{Cells, Lock, Screen};
@@ -38,8 +37,8 @@ fn place_of<C: Cells>(screen: &Screen<C>, key: Key) -> u32
         Key::Down => forward(n, cursor, cols),
         Key::Tab => place_ahead(screen, cursor),
         Key::BackTab => place_back(screen, cursor),
-        Key::NewLine => open_from(screen, row_after(n, cols, cursor)),
-        Key::Home => open_from(screen, 0),
+        Key::NewLine => screen.first_open(row_after(n, cols, cursor)),
+        Key::Home => screen.first_open(0),
         _ => cursor,
     }
 }
@@ -49,10 +48,7 @@ fn place_of<C: Cells>(screen: &Screen<C>, key: Key) -> u32
 fn erase_input<C: Cells>(screen: &mut Screen<C>) -> Pressed
     ensures { step screen.new result ≡ erase_input_step screen.old }
 {
-    let _count = position_count(screen);
-    let place = open_from(screen, 0);
-    clear_open(screen);
-    screen.move_cursor(place);
+    screen.clear_unprotected();
     Pressed::Done
 }
 
@@ -62,11 +58,10 @@ fn erase_input<C: Cells>(screen: &mut Screen<C>) -> Pressed
 fn attend<C: Cells>(screen: &mut Screen<C>, aid: Aid) -> Pressed
     ensures { step screen.new result ≡ attention_step screen.old aid }
 {
-    let byte = aid.byte();
-    if byte == 0x60 {
+    if aid == Aid::none() {
         return Pressed::Ignored;
     }
-    if byte == 0x6D {
+    if aid == Aid::clear() {
         screen.erase_default();
     }
     screen.set_aid(aid);

@@ -17,6 +17,3 @@ pub use keyboard::press;
 pub use laws::{keep_law, one_step, quiet_keep_law, sound_law, touched_law};
 pub use line::key_of_line;
 pub use pressed::Pressed;
-
-#[cfg(test)]
-mod tests;

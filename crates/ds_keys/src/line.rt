@@ -1,12 +1,10 @@
 //! Keys by their words, as key lines name them (our own).
 
-ghost use Rattle.std.specs.Prelude.{◌≡◌, ◌<◌, true, if◌then◌else◌, Some, None, IfSome};
-ghost use Rattle.ds_codec.specs.Aid.{is_aid};
-ghost use Rattle.ds_keys.specs.declared.key.Key.{Key};
-ghost use Rattle.ds_keys.specs.Lines.{cursor_words, edit_words, attention_words, first_functions, middle_functions, last_functions, words, key_in, hex_digit, is_typing, typed_key, key_of};
+ghost use Rattle.std.specs.Prelude.{◌≡◌, ◌<◌, true, IfSome};
+ghost use Rattle.ds_keys.specs.Lines.{cursor_words, edit_words, attention_words, first_functions, middle_functions, last_functions, words, key_in, is_typing, typed_key, key_of};
 
 use crate::key::Key;
-use ds_codec::Aid;
+use ds_codec::{Aid, byte_of_digits, is_graphic_code};
 
 /// A cursor key.
 fn cursor_key(word: &str) -> Option<Key>
@@ -38,94 +36,67 @@ fn edit_key(word: &str) -> Option<Key>
     }
 }
 
-/// The attention key of an identifier's byte.
-fn attention(byte: u8) -> Option<Key>
-    ensures { result ≡ (if is_aid byte then Some (Key.Attention byte) else None) }
-{
-    match Aid::from_byte(byte) {
-        Some(aid) => Some(Key::Attention(aid)),
-        None => None,
-    }
-}
-
 /// Enter, Clear or a PA key.
-#[tactic(auto, unfolding(ds_codec::specs::Aid::is_aid))]
 fn attention_key(word: &str) -> Option<Key>
     ensures { result ≡ key_in word.now attention_words }
 {
     match word {
-        "enter" => attention(0x7D),
-        "clear" => attention(0x6D),
-        "pa1" => attention(0x6C),
-        "pa2" => attention(0x6E),
-        "pa3" => attention(0x6B),
+        "enter" => Some(Key::Attention(Aid::enter())),
+        "clear" => Some(Key::Attention(Aid::clear())),
+        "pa1" => Some(Key::Attention(Aid::pa(1))),
+        "pa2" => Some(Key::Attention(Aid::pa(2))),
+        "pa3" => Some(Key::Attention(Aid::pa(3))),
         _ => None,
     }
 }
 
 /// PF1 to PF8.
-#[tactic(auto, unfolding(ds_codec::specs::Aid::is_aid))]
 fn first_function(word: &str) -> Option<Key>
     ensures { result ≡ key_in word.now first_functions }
 {
     match word {
-        "pf1" => attention(0xF1),
-        "pf2" => attention(0xF2),
-        "pf3" => attention(0xF3),
-        "pf4" => attention(0xF4),
-        "pf5" => attention(0xF5),
-        "pf6" => attention(0xF6),
-        "pf7" => attention(0xF7),
-        "pf8" => attention(0xF8),
+        "pf1" => Some(Key::Attention(Aid::pf(1))),
+        "pf2" => Some(Key::Attention(Aid::pf(2))),
+        "pf3" => Some(Key::Attention(Aid::pf(3))),
+        "pf4" => Some(Key::Attention(Aid::pf(4))),
+        "pf5" => Some(Key::Attention(Aid::pf(5))),
+        "pf6" => Some(Key::Attention(Aid::pf(6))),
+        "pf7" => Some(Key::Attention(Aid::pf(7))),
+        "pf8" => Some(Key::Attention(Aid::pf(8))),
         _ => None,
     }
 }
 
 /// PF9 to PF16.
-#[tactic(auto, unfolding(ds_codec::specs::Aid::is_aid))]
 fn middle_function(word: &str) -> Option<Key>
     ensures { result ≡ key_in word.now middle_functions }
 {
     match word {
-        "pf9" => attention(0xF9),
-        "pf10" => attention(0x7A),
-        "pf11" => attention(0x7B),
-        "pf12" => attention(0x7C),
-        "pf13" => attention(0xC1),
-        "pf14" => attention(0xC2),
-        "pf15" => attention(0xC3),
-        "pf16" => attention(0xC4),
+        "pf9" => Some(Key::Attention(Aid::pf(9))),
+        "pf10" => Some(Key::Attention(Aid::pf(10))),
+        "pf11" => Some(Key::Attention(Aid::pf(11))),
+        "pf12" => Some(Key::Attention(Aid::pf(12))),
+        "pf13" => Some(Key::Attention(Aid::pf(13))),
+        "pf14" => Some(Key::Attention(Aid::pf(14))),
+        "pf15" => Some(Key::Attention(Aid::pf(15))),
+        "pf16" => Some(Key::Attention(Aid::pf(16))),
         _ => None,
     }
 }
 
 /// PF17 to PF24.
-#[tactic(auto, unfolding(ds_codec::specs::Aid::is_aid))]
 fn last_function(word: &str) -> Option<Key>
     ensures { result ≡ key_in word.now last_functions }
 {
     match word {
-        "pf17" => attention(0xC5),
-        "pf18" => attention(0xC6),
-        "pf19" => attention(0xC7),
-        "pf20" => attention(0xC8),
-        "pf21" => attention(0xC9),
-        "pf22" => attention(0x4A),
-        "pf23" => attention(0x4B),
-        "pf24" => attention(0x4C),
-        _ => None,
-    }
-}
-
-/// The value of a hexadecimal digit of either case.
-fn hex_value(digit: u8) -> Option<u8>
-    ensures value { result ≡ hex_digit digit }
-    ensures small { IfSome result (λ value. value < 16) }
-{
-    match digit {
-        b'0'..=b'9' => Some(digit - b'0'),
-        b'A'..=b'F' => Some(digit - b'A' + 10),
-        b'a'..=b'f' => Some(digit - b'a' + 10),
+        "pf17" => Some(Key::Attention(Aid::pf(17))),
+        "pf18" => Some(Key::Attention(Aid::pf(18))),
+        "pf19" => Some(Key::Attention(Aid::pf(19))),
+        "pf20" => Some(Key::Attention(Aid::pf(20))),
+        "pf21" => Some(Key::Attention(Aid::pf(21))),
+        "pf22" => Some(Key::Attention(Aid::pf(22))),
+        "pf23" => Some(Key::Attention(Aid::pf(23))),
+        "pf24" => Some(Key::Attention(Aid::pf(24))),
         _ => None,
     }
 }
@@ -143,10 +114,8 @@ fn typed(line: &[u8]) -> Option<Key>
     requires { is_typing line.now ≡ true }
     ensures { result ≡ typed_key line.now }
 {
-    let high = hex_value(line[5])?;
-    let low = hex_value(line[6])?;
-    let code = 16 * high + low;
-    if 0x40 <= code && code <= 0xFE {
+    let code = byte_of_digits(line[5], line[6])?;
+    if is_graphic_code(code) {
         Some(Key::Typed(code))
     } else {
         None

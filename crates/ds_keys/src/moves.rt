@@ -1,9 +1,9 @@
 //! Where keys put the cursor (GA23-0059, "Keyboard").
 
 ghost use Rattle.std.specs.Prelude.{◌≡◌, ◌<◌, length};
-ghost use Rattle.ds_keys.specs.Moves.{start_ahead, start_back, first_open, settled, next_row};
+ghost use Rattle.ds_keys.specs.Moves.{start_ahead, start_back, settled, next_row};
 
-use crate::fields::{is_open_cell, position_count, ruled_on, ruling, starts_field};
+use crate::fields::{position_count, starts_field};
 use ds_codec::Cell;
 use ds_screen::ring::{backward, forward};
 use ds_screen::{Cells, Screen};
@@ -40,26 +40,6 @@ pub(crate) fn place_back<C: Cells>(screen: &Screen<C>, from: u32) -> u32
         if starts_field(before, screen.cell(at)) {
             return at;
         }
-    }
-    0
-}
-
-/// The open character at the least distance going on, `from` itself first; 0 where there is none.
-pub(crate) fn open_from<C: Cells>(screen: &Screen<C>, from: u32) -> u32
-    requires { from < length screen.now.cells }
-    ensures first { result ≡ first_open screen.now.cells from }
-    ensures inside { result < length screen.now.cells }
-{
-    let n = position_count(screen);
-    let mut bits = ruling(screen, backward(n, from, 1));
-    let mut at = from;
-    'steps: for steps in 0..n {
-        let cell = screen.cell(at);
-        bits = ruled_on(bits, &cell);
-        if is_open_cell(bits, &cell) {
-            return at;
-        }
-        at = forward(n, at, 1);
     }
     0
 }

@@ -4,12 +4,11 @@ ghost use Rattle.std.specs.Prelude.{◌≡◌, ◌+◌, ◌-◌, ◌<◌, ◌≤
 ghost use Rattle.ds_codec.specs.declared.cell.Cell.{Cell};
 ghost use Rattle.ds_screen.specs.Picture.{blank, cell_at, ruled};
 ghost use Rattle.ds_screen.specs.Fields.{is_attribute, attribute_from};
-ghost use Rattle.ds_screen.specs.Records.{cleared_cell};
 ghost use Rattle.ds_keys.specs.Moves.{row_end};
 ghost use Rattle.ds_keys.specs.KeyStep.{run_end};
-ghost use Rattle.ds_keys.specs.Kept.{so_far, steps_to, moved_back, cleared_under, AreCharacters};
+ghost use Rattle.ds_keys.specs.Kept.{so_far, steps_to, moved_back, AreCharacters};
 
-use crate::fields::{is_open_cell, position_count, ruled_on, ruling};
+use crate::fields::position_count;
 use ds_codec::{Cell, Char};
 use ds_screen::ring::{distance, forward};
 use ds_screen::{Cells, Screen};
@@ -98,47 +97,5 @@ pub(crate) fn shift_back<C: Cells>(screen: &mut Screen<C>, from: u32, end: u32)
     'places: for p in from..end {
         let character = character_behind(screen, p, end);
         screen.put_char(p, character);
-    }
-}
-
-/// What Erase Input makes of a cell, by the bits that rule it.
-fn cleared(bits: u8, cell: &Cell) -> Cell
-    ensures { result ≡ cleared_under bits cell.now }
-{
-    if is_open_cell(bits, cell) {
-        return Cell::Char(Char::null());
-    }
-    match cell {
-        Cell::Field(attribute) if !attribute.protected() => {
-            Cell::Field(attribute.with_modified(false))
-        }
-        Cell::Field(attribute) => Cell::Field(*attribute),
-        Cell::Char(character) => Cell::Char(*character),
-    }
-}
-
-/// Stores a cell: an attribute where one stands.
-fn store<C: Cells>(screen: &mut Screen<C>, p: u32, cell: Cell)
-    requires inside { p < length screen.old.cells }
-    requires kind { is_attribute cell ≡ true → is_attribute (cell_at screen.old.cells p) ≡ true }
-    ensures { screen.new ≡ record screen.old { cells = slice_set screen.old.cells p cell } }
-{
-    match cell {
-        Cell::Field(attribute) => screen.set_attr(p, attribute),
-        Cell::Char(character) => screen.put_char(p, character),
-    }
-}
-
-/// Makes open characters nulls and resets the modified data tag of unprotected attributes, in one pass over
-/// the buffer.
-pub(crate) fn clear_open<C: Cells>(screen: &mut Screen<C>)
-    ensures { screen.new ≡ record screen.old { cells = ruled (length screen.old.cells) (cleared_cell screen.old.cells) } }
-{
-    let n = position_count(screen);
-    let mut bits = ruling(screen, n - 1);
-    'places: for p in 0..n {
-        let cell = screen.cell(p);
-        bits = ruled_on(bits, &cell);
-        store(screen, p, cleared(bits, &cell));
     }
 }

@@ -7,6 +7,7 @@ pub mod TabLaws
 pub mod ActLaws
 pub mod ShowLaws
 pub mod SpanLaws
+pub mod RulingLaws
 pub mod EffectLaws
 pub mod GovernLaws
 pub mod PrintLaws

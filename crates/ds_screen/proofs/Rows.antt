@@ -10,7 +10,7 @@ use Rattle.ds_screen.specs.declared.lock.Lock.TheVariants.{Waiting, Free}
 use Rattle.ds_screen.specs.declared.refused.Why.TheVariants.{AddressOutside, NoFieldHere, NotAWrite}
 use Rattle.ds_screen.specs.Ring.{ring_on, ring_back, ring_distance, least, greatest}
 use Rattle.ds_screen.specs.Picture.{Picture, blank, ruled}
-use Rattle.ds_screen.specs.Fields.{attribute_before, span_of, fields_of}
+use Rattle.ds_screen.specs.Fields.{attribute_before, first_open, span_of, fields_of}
 use Rattle.ds_screen.specs.Orders.{text_cell, single_cell, repeated_cell, erased_cell, nulled_cell, first_from, effect_of, fault_of}
 use Rattle.ds_screen.specs.Records.{acts, cleared_cell, shown_of}
 
@@ -102,5 +102,5 @@ no_write = refl
 
 clears : shown_of (record shown_form { cells = Field 0x20 ∷ plain 0xC1 ∷ Field 1 ∷ plain 0xC2 ∷ blank ∷ blank ∷ Field 0x31 ∷ replicate 13 (plain 0xC3); cursor = 5; lock = Waiting }) EraseAllUnprotected []
     ≡ Ok (record shown_form { cells = Field 0x20 ∷ plain 0xC1 ∷ Field 0 ∷ blank ∷ blank ∷ blank ∷ Field 0x31 ∷ replicate 13 (plain 0xC3) })
-unfolding shown_of ruled cleared_cell attribute_before least ring_back
+unfolding shown_of ruled cleared_cell first_open attribute_before least ring_on ring_back
 clears = refl

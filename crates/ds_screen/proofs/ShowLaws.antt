@@ -1,5 +1,5 @@
 -- What a record makes of a picture, by its parts.
-use Rattle.std.proofs.Common.{◌≡◌, ℕ, cond, List, length, replicate, Some, None, Ok, Err, refl, sym, ◌∙◌, ap, subst}
+use Rattle.std.proofs.Common.{◌≡◌, ℕ, cond, List, replicate, Some, None, Ok, Err, refl, sym, ◌∙◌, ap, subst}
 use Rattle.ds_codec.specs.declared.cell.Cell.{Cell}
 use Rattle.ds_codec.specs.declared.size.Size.{Size}
 use Rattle.ds_codec.specs.declared.command.Command.{Command}
@@ -11,24 +11,16 @@ use Rattle.ds_screen.specs.declared.lock.Lock.{Lock}
 use Rattle.ds_screen.specs.declared.lock.Lock.TheVariants.{Free}
 use Rattle.ds_screen.specs.declared.refused.Why.TheVariants.{NotAWrite}
 use Rattle.ds_screen.specs.declared.refused.Refused.{Refused}
-use Rattle.ds_screen.specs.Picture.{Picture, blank, ruled}
+use Rattle.ds_screen.specs.Picture.{Picture, blank}
 use Rattle.ds_screen.specs.Orders.{Writing}
-use Rattle.ds_screen.specs.Records.{acts, begun, finished, finishes, restores, cleared_cell, first_open, shown_of, RecordShows, IsRefusedBy}
+use Rattle.ds_screen.specs.Records.{acts, begun, finished, finishes, restores, all_cleared, shown_of, RecordShows, IsRefusedBy}
 use Rattle.ds_screen.specs.Kept.{picture, Start, start_of}
 
 -- Erase All Unprotected
-pub clear_shows : (geometry : Sizes) (size : Size) (cells : List Cell) (cursor : ℕ) (lock : Lock) (aid : ℕ) (v : Picture) (message : Message) (command : Command) (after : List Cell) (place none : ℕ)
-    → picture geometry size cells cursor lock aid ≡ v → command ≡ message.command → command ≡ EraseAllUnprotected
-    → after ≡ ruled (length cells) (cleared_cell cells) → place ≡ first_open cells → none ≡ 0x60
-    → RecordShows v message (picture geometry size after place Free none)
+pub clear_shows : (v after : Picture) (message : Message) (command : Command) → command ≡ message.command → command ≡ EraseAllUnprotected
+    → after ≡ all_cleared v → RecordShows v message after
 unfolding shown_of
-clear_shows geometry size cells cursor lock aid v message command after place none is told all stored first free =
-    let P : Picture → Type 0 = λ u. RecordShows u message (picture geometry size after place Free none) in
-    subst P is
-    (ap (λ c. shown_of (picture geometry size cells cursor lock aid) c message.orders) (sym told ∙ all)
-    ∙ sym (ap (λ xs. Ok (picture geometry size xs place Free none)) stored
-    ∙ ap (λ p. Ok (picture geometry size (ruled (length cells) (cleared_cell cells)) p Free none)) first
-    ∙ ap (λ a. Ok (picture geometry size (ruled (length cells) (cleared_cell cells)) (first_open cells) Free a)) free))
+clear_shows v after message command told all is = ap (λ c. shown_of v c message.orders) (sym told ∙ all) ∙ ap (λ w. Ok w) (sym is)
 
 no_start : (v : Picture) (command : Command) (orders : List Site) → start_of v.geometry v.size v.cells v.cursor command ≡ None → (command ≡ EraseAllUnprotected → ⊥)
     → shown_of v command orders ≡ Err (record { at = 0; why = NotAWrite })

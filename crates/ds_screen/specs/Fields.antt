@@ -1,11 +1,11 @@
 -- Attributes, the fields that they begin, and what may be typed over.
-use Rattle.std.specs.Prelude.{ℕ, ◌-◌, Bool, true, false, not, ◌&&◌, ◌==◌, List, map, length, Option, Some, None, option_map}
+use Rattle.std.specs.Prelude.{ℕ, ◌-◌, Bool, true, false, not, ◌&&◌, ◌==◌, List, map, length, Option, Some, None, option_map, unwrap_or}
 use Rattle.std.specs.List.{range_with_len, filter}
 use Rattle.ds_codec.specs.declared.cell.Cell.{Cell}
 use Rattle.ds_codec.specs.declared.cell.Cell.TheVariants.{Field, Char}
 use Rattle.ds_codec.specs.Attribute.{is_protected}
 use Rattle.ds_screen.specs.declared.field.FieldAt.{FieldAt}
-use Rattle.ds_screen.specs.Ring.{ring_on, ring_back, least}
+use Rattle.ds_screen.specs.Ring.{ring_on, ring_back, least, nearest}
 use Rattle.ds_screen.specs.Picture.{cell_at}
 
 abbrev pub is_attribute : Cell → Bool
@@ -60,6 +60,10 @@ is_open_under ruling cell = is_character cell && not (is_protected ruling)
 -- a character that may be typed over: no attribute rules it, or an unprotected one
 abbrev pub is_open : List Cell → ℕ → Bool
 is_open cells p = is_open_under (ruling_bits cells p) (cell_at cells p)
+
+-- the open character at the least distance going on, p itself first; 0 where there is none
+unfoldable pub first_open : List Cell → ℕ → ℕ
+first_open cells p = unwrap_or (nearest (length cells) (ring_on (length cells) p) (is_open cells)) 0
 
 -- the positions that the attribute at q governs, from the one behind it on round the ring
 unfoldable pub span_of : List Cell → ℕ → List ℕ

@@ -1,5 +1,5 @@
 -- What a record does: erasing or not, its write control character, and its orders in turn.
-use Rattle.std.specs.Prelude.{◌≡◌, ℕ, ◌/◌, ◌%◌, Bool, true, false, ◌==◌, List, [], ◌∷◌, length, replicate, Option, Some, None, Result, Ok, Err, unwrap_or, if◌then◌else◌}
+use Rattle.std.specs.Prelude.{◌≡◌, ℕ, ◌/◌, ◌%◌, Bool, true, false, ◌==◌, List, [], ◌∷◌, length, replicate, Option, Some, None, Result, Ok, Err, if◌then◌else◌}
 use Rattle.ds_codec.specs.declared.cell.Cell.{Cell}
 use Rattle.ds_codec.specs.declared.cell.Cell.TheVariants.{Field, Char}
 use Rattle.ds_codec.specs.declared.size.Size.{Size}
@@ -14,9 +14,8 @@ use Rattle.ds_screen.specs.declared.effect.Effect.{Effect}
 use Rattle.ds_screen.specs.declared.refused.Why.{Why}
 use Rattle.ds_screen.specs.declared.refused.Why.TheVariants.{NotAWrite}
 use Rattle.ds_screen.specs.declared.refused.Refused.{Refused}
-use Rattle.ds_screen.specs.Ring.{least}
 use Rattle.ds_screen.specs.Picture.{Picture, blank, cell_at, ruled}
-use Rattle.ds_screen.specs.Fields.{is_open}
+use Rattle.ds_screen.specs.Fields.{is_open, first_open}
 use Rattle.ds_screen.specs.Orders.{Writing, effect_of, fault_of}
 
 -- the write control character resets every modified data tag, restores the keyboard, sounds the alarm
@@ -90,24 +89,24 @@ finishes wcc v (Err refused) = Err refused
 abbrev pub written : ℕ → List Site → Picture → Result Picture Refused
 written wcc orders v = finishes wcc v (acts orders (begun wcc v.cells v.cursor))
 
--- the least position that may be typed over, 0 where there is none
-abbrev pub first_open : List Cell → ℕ
-first_open cells = unwrap_or (least (length cells) (is_open cells)) 0
-
--- Erase All Unprotected: open characters become nulls, and unprotected attributes are not modified any more
+-- Erase Input and Erase All Unprotected: open characters become nulls, and unprotected attributes are not modified any
+-- more; the cursor goes to the least open position (our own rule where a field runs round the end)
 unfoldable pub cleared_cell : List Cell → ℕ → Cell
 cleared_cell cells p = if is_open cells p then blank else unprotected_unmodified (cell_at cells p)
 
 abbrev pub cleared : Picture → Picture
-cleared v =
-    record v { cells = ruled (length v.cells) (cleared_cell v.cells); cursor = first_open v.cells; lock = Free; aid = 0x60 }
+cleared v = record v { cells = ruled (length v.cells) (cleared_cell v.cells); cursor = first_open v.cells 0 }
+
+-- Erase All Unprotected frees the keyboard too
+abbrev pub all_cleared : Picture → Picture
+all_cleared v = record (cleared v) { lock = Free; aid = 0x60 }
 
 -- what a record makes of a picture, or why it is refused
 unfoldable pub shown_of : Picture → Command → List Site → Result Picture Refused
 shown_of v (Write wcc) orders = written wcc orders v
 shown_of v (EraseWrite wcc) orders = written wcc orders (erased v.geometry.default v)
 shown_of v (EraseWriteAlternate wcc) orders = written wcc orders (erased v.geometry.alternate v)
-shown_of v EraseAllUnprotected orders = Ok (cleared v)
+shown_of v EraseAllUnprotected orders = Ok (all_cleared v)
 shown_of v command orders = Err (record { at = 0; why = NotAWrite })
 
 -- the record leads from one picture to another

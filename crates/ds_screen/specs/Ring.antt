@@ -22,3 +22,7 @@ least (suc n) test = if test 0 then Some 0 else option_map suc (least n (λ d. t
 unfoldable pub greatest : ℕ → (ℕ → Bool) → Option ℕ
 greatest zero test = None
 greatest (suc n) test = if test n then Some n else greatest n test
+
+-- the first of n places, one after the other, that passes the test
+abbrev pub nearest : ℕ → (ℕ → ℕ) → (ℕ → Bool) → Option ℕ
+nearest n place test = option_map place (least n (λ d. test (place d)))

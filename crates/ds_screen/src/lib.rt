@@ -13,6 +13,9 @@ mod ranges;
 mod records;
 mod refused;
 pub mod ring;
+mod ruled_cell;
+mod ruled_cells;
+mod ruling;
 mod screen;
 mod shown;
 mod state;
@@ -31,6 +34,3 @@ pub use lock::Lock;
 pub use plain::PlainCells;
 pub use refused::{Refused, Why};
 pub use screen::Screen;
-
-#[cfg(test)]
-mod tests;

@@ -5,12 +5,12 @@ ghost use Rattle.std.specs.List.{list_all};
 ghost use Rattle.ds_codec.specs.Character.{is_text};
 ghost use Rattle.ds_screen.specs.Ring.{ring_on, ring_back, ring_distance};
 ghost use Rattle.ds_screen.specs.Picture.{cell_at, ruled};
-ghost use Rattle.ds_screen.specs.Fields.{ruling_bits, ruling_after, is_open_under};
 ghost use Rattle.ds_screen.specs.Orders.{text_cell, single_cell, repeated_cell, erased_cell};
 
 use crate::cells::Cells;
 use crate::ring::{distance, next, previous};
-use ds_codec::{Attr, Cell, Char};
+use crate::ruling::{is_open_cell, ruled_on, ruling};
+use ds_codec::{Cell, Char};
 
 /// Stores one cell, and gives the position after it.
 pub(crate) fn store<C: Cells>(cells: &mut C, b: u32, cell: Cell) -> u32
@@ -68,38 +68,6 @@ pub(crate) fn repeat<C: Cells>(cells: &mut C, b: u32, stop: u32, character: Char
     'steps: for steps in 0..reach(n, b, stop) {
         cells.put(at, Cell::Char(character));
         at = next(n, at);
-    }
-}
-
-/// The bits that rule a position, those of the attribute there or of the nearest before it; none in a
-/// buffer without attributes.
-pub(crate) fn ruling<C: Cells>(cells: &C, p: u32) -> u8
-    requires { p < length (C.content cells.now) }
-    ensures { result ≡ ruling_bits (C.content cells.now) p }
-{
-    match cells.attr_before(p) {
-        Some(q) => ruled_on(0, &cells.cell(q)),
-        None => 0,
-    }
-}
-
-/// The bits that rule a position, by those that rule the position before it.
-pub(crate) fn ruled_on(before: u8, cell: &Cell) -> u8
-    ensures { result ≡ ruling_after before cell.now }
-{
-    match cell {
-        Cell::Field(attribute) => attribute.bits(),
-        Cell::Char(_) => before,
-    }
-}
-
-/// Whether a cell may be typed over, by the bits that rule it.
-pub(crate) fn is_open_cell(ruling: u8, cell: &Cell) -> bool
-    ensures { result ≡ is_open_under ruling cell.now }
-{
-    match cell {
-        Cell::Field(_) => false,
-        Cell::Char(_) => !Attr::new(ruling).protected(),
     }
 }
 

@@ -3,15 +3,17 @@
 ghost use Rattle.std.specs.Prelude.{◌≡◌, ◌<◌, ◌≤◌, length, replicate, Ok, Err, Some, None, IfOk, IfErr, OnOk, IfSome, MatchOption};
 ghost use Rattle.ds_screen.specs.Picture.{blank, cell_at, ruled};
 ghost use Rattle.ds_screen.specs.State.{writing, IsInside};
-ghost use Rattle.ds_screen.specs.Records.{acts, begun, first_open, cleared_cell};
+ghost use Rattle.ds_screen.specs.Records.{acts, begun, cleared_cell};
+ghost use Rattle.ds_screen.specs.Fields.{first_open};
 ghost use Rattle.ds_screen.specs.Kept.{HasRoom, start_of};
 ghost use Rattle.ds_codec.specs.Geometry.{cells_of};
 ghost use Rattle.ds_screen.specs.Reset.{after_reset};
 
 use crate::cells::Cells;
 use crate::orders::act;
-use crate::ranges::{erase, is_open_cell, ruled_on, ruling};
+use crate::ranges::erase;
 use crate::refused::Refused;
+use crate::ruling::first_open_from;
 use crate::state::State;
 use crate::wcc::resets_modified;
 use ds_codec::{Cell, Command, Geometry, Record, Size};
@@ -76,36 +78,18 @@ pub(crate) fn reset_modified<C: Cells>(cells: &mut C, which: Reset)
     }
 }
 
-/// The least position that may be typed over, 0 where there is none.
-pub(crate) fn first_open_place<C: Cells>(cells: &C) -> u32
-    requires { 0 < length (C.content cells.now) }
-    ensures first { result ≡ first_open (C.content cells.now) }
-    ensures inside { result < length (C.content cells.now) }
-{
-    let n = cells.len();
-    let mut bits = ruling(cells, n - 1);
-    'places: for p in 0..n {
-        let cell = cells.cell(p);
-        bits = ruled_on(bits, &cell);
-        if is_open_cell(bits, &cell) {
-            return p;
-        }
-    }
-    0
-}
-
 /// Nulls what is open and resets the modified data tags of unprotected attributes, and gives the least
 /// open position (GA23-0059, "Erase All Unprotected"; the least position is our own rule where a field
 /// runs round the end).
 pub(crate) fn clear_unprotected<C: Cells>(cells: &mut C) -> u32
     requires { 0 < length (C.content cells.old) }
     ensures stored { C.content cells.new ≡ ruled (length (C.content cells.old)) (cleared_cell (C.content cells.old)) }
-    ensures first { result ≡ first_open (C.content cells.old) }
+    ensures first { result ≡ first_open (C.content cells.old) 0 }
     ensures inside { result < length (C.content cells.old) }
     ensures whole { length (C.content cells.new) ≡ length (C.content cells.old) }
     ensures room { C.capacity cells.new ≡ C.capacity cells.old }
 {
-    let cursor = first_open_place(cells);
+    let cursor = first_open_from(cells, 0);
     erase(cells, 0, 0);
     reset_modified(cells, Reset::Unprotected);
     cursor

@@ -9,6 +9,7 @@ use crate::fields::Fields;
 use crate::lock::Lock;
 use crate::records::{Base, clear_unprotected, prepare, write_orders};
 use crate::refused::{Refused, Why};
+use crate::ruling::{first_open_from, is_open_at};
 use crate::shown::row_text;
 use crate::wcc::{aid_after, lock_after, told};
 use ds_codec::{Aid, Attr, Cell, Char, Command, Geometry, Record, Size};
@@ -54,13 +55,13 @@ fn buffer_for<C: Cells>(alloc: Global, geometry: &Geometry) -> Result<C, AllocEr
 }
 
 impl<C: Cells> Screen<C> {
-    ghost use Rattle.std.specs.Prelude.{◌≡◌, ◌<◌, true, length, slice_set, string_bytes, IfOk, IfErr, OnOk, OnErr, IfSome};
+    ghost use Rattle.std.specs.Prelude.{◌≡◌, ◌<◌, true, false, length, slice_set, string_bytes, IfOk, IfErr, OnOk, OnErr, IfSome};
     ghost use Rattle.ds_codec.specs.declared.cell.Cell.{Cell};
     ghost use Rattle.ds_codec.specs.Geometry.{cells_of};
     ghost use Rattle.ds_screen.specs.Picture.{Picture, IsSound, cell_at};
-    ghost use Rattle.ds_screen.specs.Fields.{is_attribute, attribute_before, attribute_from, fields_of};
+    ghost use Rattle.ds_screen.specs.Fields.{is_attribute, attribute_before, attribute_from, is_open, first_open, fields_of};
     ghost use Rattle.ds_screen.specs.Shown.{printed_row};
-    ghost use Rattle.ds_screen.specs.Records.{new_picture, erased, told_of, RecordShows, IsRefusedBy};
+    ghost use Rattle.ds_screen.specs.Records.{new_picture, erased, cleared, all_cleared, told_of, RecordShows, IsRefusedBy};
 
     /// A new terminal of this geometry: nulls of the default size, the cursor at 0, the keyboard waiting
     /// for a record, no attention key. Reserves two buffers of the larger size.
@@ -185,6 +186,33 @@ impl<C: Cells> Screen<C> {
         self.cells.attr_from(p)
     }
 
+    /// Whether a position may be typed over: a character that no attribute rules, or an unprotected one.
+    pub fn is_open(&self, p: u32) -> bool
+        requires { p < length self.now.cells }
+        ensures { result ≡ is_open self.now.cells p }
+    {
+        is_open_at(&self.cells, p)
+    }
+
+    /// The open character at the least distance going on round the buffer, `from` itself first; 0 where
+    /// there is none.
+    pub fn first_open(&self, from: u32) -> u32
+        requires { from < length self.now.cells }
+        ensures first { result ≡ first_open self.now.cells from }
+        ensures inside { result < length self.now.cells }
+    {
+        first_open_from(&self.cells, from)
+    }
+
+    /// Nulls the open characters, resets the modified data tags of unprotected attributes, and puts the
+    /// cursor to the least open position: what Erase Input and Erase All Unprotected do to the buffer.
+    pub fn clear_unprotected(&mut self)
+        ensures cleared { self.new ≡ cleared self.old }
+        ensures sound { IsSound self.new }
+    {
+        self.cursor = clear_unprotected(&mut self.cells);
+    }
+
     /// Stores a character.
     pub fn put_char(&mut self, p: u32, character: Char)
         requires { p < length self.old.cells }
@@ -240,6 +268,20 @@ impl<C: Cells> Screen<C> {
         self.cursor = 0;
     }
 
+    /// Erase All Unprotected (GA23-0059, "Commands").
+    fn erase_all_unprotected(&mut self) -> Effect
+        ensures cleared { self.new ≡ all_cleared self.old }
+        ensures told { result ≡ record { alarm = false; restored = true } }
+    {
+        self.clear_unprotected();
+        self.lock = Lock::Free;
+        self.aid = Aid::none();
+        Effect {
+            alarm: false,
+            restored: true,
+        }
+    }
+
     /// Does what a record says, or refuses it at the least order at fault and changes nothing. A1: an
     /// address is not below the number of cells. A2: no attribute stands where one is to be changed. A3,
     /// at 0: the command is a read or No-operation. Works on the second buffer and takes no memory. An erase,
@@ -253,13 +295,7 @@ impl<C: Cells> Screen<C> {
     {
         let command = outbound.command();
         if let Command::EraseAllUnprotected = command {
-            self.cursor = clear_unprotected(&mut self.cells);
-            self.lock = Lock::Free;
-            self.aid = Aid::none();
-            return Ok(Effect {
-                alarm: false,
-                restored: true,
-            });
+            return Ok(self.erase_all_unprotected());
         }
         let now = Base {
             wcc: 0,

@@ -5,8 +5,7 @@ ghost use Rattle.std.specs.List.{range_with_len};
 ghost use Rattle.ds_screen.specs.Shown.{printed_code, printed_under, printed_cell};
 
 use crate::cells::Cells;
-use crate::ranges::{ruled_on, ruling};
-use crate::ring::previous;
+use crate::ruled_cells::RuledCells;
 use ds_codec::{Attr, Cell};
 use std::alloc::{AllocError, Global};
 
@@ -40,9 +39,9 @@ fn printed(code: u8) -> u8
     }
 }
 
-/// What is printed of a cell, by the bits that rule it.
-fn printed_cell_under(bits: u8, cell: &Cell) -> u8
-    ensures value { result ≡ printed_under bits cell.now }
+/// What is printed of a cell, by what rules it.
+fn printed_cell_under(ruling: Attr, cell: &Cell) -> u8
+    ensures value { result ≡ printed_under ruling cell.now }
     ensures ascii { result < 128 }
 {
     match cell {
@@ -51,7 +50,7 @@ fn printed_cell_under(bits: u8, cell: &Cell) -> u8
             let code = character.code();
             if code == 0 {
                 b'.'
-            } else if Attr::new(bits).hidden() {
+            } else if ruling.hidden() {
                 b'*'
             } else if character.alt() {
                 b'?'
@@ -73,13 +72,9 @@ pub(crate) fn row_text<C: Cells>(
     requires inside { start + columns ≤ length (C.content cells.now) }
     ensures { IfOk result (λ text. string_bytes text ≡ map (printed_cell (C.content cells.now)) (range_with_len start columns)) }
 {
-    let n = cells.len();
     let mut text = String::with_capacity(alloc, columns as usize)?;
-    let mut bits = ruling(cells, previous(n, start));
-    'places: for p in start..start + columns {
-        let cell = cells.cell(p);
-        bits = ruled_on(bits, &cell);
-        text.push(char::from(printed_cell_under(bits, &cell)))?;
+    'places: for found in RuledCells::new(cells, start, columns) {
+        text.push(char::from(printed_cell_under(found.ruling, &found.cell)))?;
     }
     Ok(text)
 }

@@ -5,7 +5,7 @@ use Rattle.std.specs.List.{range_with_len, filter, flat_map, slice_get}
 use Rattle.std.specs.Option.{option_to_list}
 use Rattle.std.proofs.lemmas.Bool.{cond-true, cond-false, cases_Bool, false≢true, not-true, eq-eqb, eqb-true, ltb-true}
 use Rattle.ds_codec.specs.declared.cell.Cell.{Cell}
-use Rattle.ds_codec.specs.Aid.{is_long_aid}
+use Rattle.ds_codec.specs.Aid.{is_long_aid, is_short_aid}
 use Rattle.ds_codec.specs.Attribute.{is_protected, is_modified}
 use Rattle.ds_codec.specs.Character.{Glyph, glyph, is_graphic}
 use Rattle.ds_screen.specs.declared.lock.Lock.TheVariants.{Free, Waiting}
@@ -21,7 +21,7 @@ use Rattle.ds_keys.specs.Laws.{Keeps}
 use Rattle.ds_keys.proofs.CellLaws.{same_kind, same_governs, keeps_same}
 use Rattle.ds_keys.proofs.TouchLaws.{touched_law}
 use Rattle.ds_inbound.specs.Answer as inbound
-use Rattle.ds_inbound.specs.Answer.{character_of, is_null, characters_at, is_modified_at, field_sent, fields_sent, is_short_aid}
+use Rattle.ds_inbound.specs.Answer.{character_of, is_null, characters_at, is_modified_at, field_sent, fields_sent}
 use Rattle.ds_inbound.proofs.Spans.{span_is_run}
 use Rattle.scr_layout.specs.declared.entry.Kind.{Kind}
 use Rattle.scr_layout.specs.declared.entry.Kind.TheVariants.{Input, Fixed}

@@ -5,7 +5,7 @@ use Rattle.std.specs.List.Sorted.{IsStrictlyIncreasing}
 use Rattle.std.proofs.lemmas.Bool.{cond-false, and_parts, not-true}
 use Rattle.std.proofs.lemmas.List.Kept.{IsStrictlyIncreasing-filter}
 use Rattle.ds_codec.specs.declared.cell.Cell.{Cell}
-use Rattle.ds_codec.specs.Aid.{long_aids, is_long_aid, is_aid}
+use Rattle.ds_codec.specs.Aid.{long_aids, is_long_aid, is_aid, is_short_aid}
 use Rattle.ds_codec.specs.Character.{Glyph}
 use Rattle.ds_screen.specs.declared.lock.Lock.TheVariants.{Free, Waiting}
 use Rattle.ds_screen.specs.Picture.{Picture, IsSound, cell_at}
@@ -14,7 +14,7 @@ use Rattle.ds_keys.specs.declared.key.Key.TheVariants.{Attention}
 use Rattle.ds_keys.specs.declared.pressed.Pressed.TheVariants.{Sent}
 use Rattle.ds_keys.specs.KeyStep.{sent, attention_step, free_step, step_under, step_of}
 use Rattle.ds_keys.specs.KeyRuns as keyed
-use Rattle.ds_inbound.specs.Answer.{Answer, is_short_aid, is_modified_at, fields_sent, field_sent, lead_sent, short_answer, long_answer, answer_of, bytes_sent, is_real}
+use Rattle.ds_inbound.specs.Answer.{Answer, is_modified_at, fields_sent, field_sent, lead_sent, short_answer, long_answer, answer_of, bytes_sent, is_real}
 use Rattle.ds_inbound.specs.Inbound.{SaysOnly}
 use Rattle.ds_inbound.proofs.Pictures.{answers_say}
 use Rattle.scr_check.specs.Promise.{is_among, due_answer}

@@ -14,8 +14,6 @@ mod header;
 mod laws;
 mod open_token;
 mod run;
-#[cfg(test)]
-mod tests;
 
 pub use codes::{EOR, IAC, RECORD_LIMIT, SB, SE, SUBNEGOTIATION_LIMIT, Verb};
 pub use deframer::Deframer;

@@ -12,7 +12,7 @@ push_run-requires-clause-few g c = field_length c.args.screen.now.cells c.args.f
 
 pub returns-clause-written : goal.returns-clause-written
 returns-clause-written g c =
-    field_bytes c.args.screen.now.geometry.mode c.args.screen.now.cells c.args.field.now c.args.out.now.items _ _ _ c.requires c.in_ok-push.ensures.items c.in_ok-push_address.ensures c.in_ok-push_run.ensures.written
+    field_bytes c.args.screen.now.geometry.mode c.args.screen.now.cells c.args.field.now c.args.out.now.items _ _ _ c.requires (rw c.byte.ensures at c.in_ok-push.ensures.items) c.in_ok-push_address.ensures c.in_ok-push_run.ensures.written
 
 pub returns-clause-sendable : goal.returns-clause-sendable
 returns-clause-sendable g c = field_sendable c.args.screen.now.cells c.args.field.now c.requires c.in_ok-push_run.ensures.sendable

@@ -1,7 +1,6 @@
 use Rattle.std.proofs.Common.{◌≡◌, ◌∷◌, [], ◌++◌, ◌&&◌, true, false, not, length, sym, ◌∙◌, ap}
 use Rattle.ds_codec.specs.Address.{written_address}
-use Rattle.ds_codec.specs.Aid.{is_aid}
-use Rattle.ds_inbound.specs.Answer.{is_short_aid}
+use Rattle.ds_codec.specs.Aid.{is_aid, is_short_aid}
 use Rattle.ds_inbound.proofs.Again.{short_sendable, long_sendable, short_bytes, long_bytes}
 use Rattle.ds_inbound.proofs.write.write_answer.Goals as goal
 

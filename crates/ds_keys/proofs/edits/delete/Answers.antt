@@ -7,9 +7,9 @@ use Rattle.ds_keys.proofs.RunLaws.{length_stored}
 use Rattle.ds_keys.proofs.EditLaws.{delete_inhibited, delete_done, marked_chars}
 use Rattle.ds_keys.proofs.edits.delete.Goals as goal
 
-pub returns-then-not-is_open_at : goal.returns-then-not-is_open_at
-returns-then-not-is_open_at g c =
-    delete_inhibited c.args.screen.now c.inhibit.new.screen c.inhibit.result c.cursor-cursor.result c.cursor-cursor.ensures.value (sym c.is_open_at.ensures ∙ c.if-not-is_open_at.true) c.inhibit.ensures
+pub returns-then-not-is_open : goal.returns-then-not-is_open
+returns-then-not-is_open g c =
+    delete_inhibited c.args.screen.now c.inhibit.new.screen c.inhibit.result c.cursor-cursor.result c.cursor-cursor.ensures.value (sym c.is_open.ensures ∙ c.if-not-is_open.true) c.inhibit.ensures
 
 pub shift_back-requires-clause-within : goal.shift_back-requires-clause-within
 shift_back-requires-clause-within g c =
@@ -27,5 +27,5 @@ pub returns : goal.returns
 returns g c =
     let v : Picture = c.args.screen.now in
     delete_done v c.mark.new.screen c.shift_back.new.screen c.cursor-cursor.result c.end_of_run-end.result c.cursor-cursor.ensures.value
-    (sym c.is_open_at.ensures ∙ c.if-not-is_open_at.false) (omega (arith, c.cursor-cursor.ensures.value, c.cursor-cursor.ensures.sound.whole, c.cursor-cursor.ensures.sound.cursor_inside))
+    (sym c.is_open.ensures ∙ c.if-not-is_open.false) (omega (arith, c.cursor-cursor.ensures.value, c.cursor-cursor.ensures.sound.whole, c.cursor-cursor.ensures.sound.cursor_inside))
     c.end_of_run-end.ensures.end c.end_of_run-end.ensures.ahead c.end_of_run-end.ensures.within c.end_of_run-end.ensures.characters c.mark.ensures c.shift_back.ensures

@@ -5,9 +5,9 @@ use Rattle.ds_keys.proofs.RunLaws.{length_stored}
 use Rattle.ds_keys.proofs.EditLaws.{eof_inhibited, eof_done}
 use Rattle.ds_keys.proofs.edits.erase_eof.Goals as goal
 
-pub returns-then-not-is_open_at : goal.returns-then-not-is_open_at
-returns-then-not-is_open_at g c =
-    eof_inhibited c.args.screen.now c.inhibit.new.screen c.inhibit.result c.cursor-cursor.result c.cursor-cursor.ensures.value (sym c.is_open_at.ensures ∙ c.if-not-is_open_at.true) c.inhibit.ensures
+pub returns-then-not-is_open : goal.returns-then-not-is_open
+returns-then-not-is_open g c =
+    eof_inhibited c.args.screen.now c.inhibit.new.screen c.inhibit.result c.cursor-cursor.result c.cursor-cursor.ensures.value (sym c.is_open.ensures ∙ c.if-not-is_open.true) c.inhibit.ensures
 
 pub null_on-requires-clause-inside : goal.null_on-requires-clause-inside
 null_on-requires-clause-inside g c =
@@ -23,5 +23,5 @@ pub returns : goal.returns
 returns g c =
     let v : Picture = c.args.screen.now in
     eof_done v c.mark.new.screen c.null_on.new.screen c.cursor-cursor.result c.positions_to_end-count.result c.cursor-cursor.ensures.value
-    (sym c.is_open_at.ensures ∙ c.if-not-is_open_at.false) (omega (arith, c.cursor-cursor.ensures.value, c.position_count-n.ensures.cursor_inside))
+    (sym c.is_open.ensures ∙ c.if-not-is_open.false) (omega (arith, c.cursor-cursor.ensures.value, c.position_count-n.ensures.cursor_inside))
     c.positions_to_end-count.ensures.steps c.mark.ensures c.null_on.ensures

@@ -10,20 +10,20 @@ use Rattle.ds_keys.proofs.RunLaws.{length_stored}
 use Rattle.ds_keys.proofs.EditLaws.{graphic_text, is_ignored, typed_inhibited, typed_done}
 use Rattle.ds_keys.proofs.edits.type_code.Goals as goal
 
-pub returns-then-not-is_typed_code : goal.returns-then-not-is_typed_code
-returns-then-not-is_typed_code g c = is_ignored c.args.screen.now c.args.code (sym c.is_typed_code.ensures ∙ c.if-not-is_typed_code.true)
+pub returns-then-not-is_graphic_code : goal.returns-then-not-is_graphic_code
+returns-then-not-is_graphic_code g c = is_ignored c.args.screen.now c.args.code (sym c.is_graphic_code.ensures ∙ c.if-not-is_graphic_code.true)
 
 pub unwrap-character-requires : goal.unwrap-character-requires
 unwrap-character-requires g c =
-    let known : is_text c.args.code ≡ true = graphic_text c.args.code (sym c.is_typed_code.ensures ∙ c.if-not-is_typed_code.false) in
+    let known : is_text c.args.code ≡ true = graphic_text c.args.code (sym c.is_graphic_code.ensures ∙ c.if-not-is_graphic_code.false) in
     let made : c.new.result ≡ Some (glyph c.args.code false) = c.new.ensures ∙ cond-true (is_text c.args.code) _ _ known in
     let P : Option Glyph → Type 0 = λ o. IsSome o in
     subst P (sym made) refl
 
-pub returns-then-not-is_open_at : goal.returns-then-not-is_open_at
-returns-then-not-is_open_at g c =
-    typed_inhibited c.args.screen.now c.inhibit.new.screen c.inhibit.result c.args.code c.cursor-cursor.result (sym c.is_typed_code.ensures ∙ c.if-not-is_typed_code.false)
-    c.cursor-cursor.ensures.value (sym c.is_open_at.ensures ∙ c.if-not-is_open_at.true) c.inhibit.ensures
+pub returns-then-not-is_open : goal.returns-then-not-is_open
+returns-then-not-is_open g c =
+    typed_inhibited c.args.screen.now c.inhibit.new.screen c.inhibit.result c.args.code c.cursor-cursor.result (sym c.is_graphic_code.ensures ∙ c.if-not-is_graphic_code.false)
+    c.cursor-cursor.ensures.value (sym c.is_open.ensures ∙ c.if-not-is_open.true) c.inhibit.ensures
 
 pub put_char-requires : goal.put_char-requires
 put_char-requires g c =
@@ -33,10 +33,10 @@ put_char-requires g c =
 pub returns : goal.returns
 returns g c =
     let v : Picture = c.args.screen.now in
-    let known : is_text c.args.code ≡ true = graphic_text c.args.code (sym c.is_typed_code.ensures ∙ c.if-not-is_typed_code.false) in
+    let known : is_text c.args.code ≡ true = graphic_text c.args.code (sym c.is_graphic_code.ensures ∙ c.if-not-is_graphic_code.false) in
     let made : Some c.unwrap-character.result ≡ Some (glyph c.args.code false) = sym c.unwrap-character.ensures ∙ c.new.ensures ∙ cond-true (is_text c.args.code) _ _ known in
     let character : c.unwrap-character.result ≡ glyph c.args.code false = cc in
     let goes = c.settle-next.ensures.settles ∙ ap (settled v.cells) (c.forward.ensures.on ∙ ap (λ n. ring_on n c.cursor-cursor.result 1) c.position_count-n.ensures.count) in
     typed_done v c.mark.new.screen c.put_char.new.self c.move_cursor.new.self c.args.code c.cursor-cursor.result c.settle-next.result c.unwrap-character.result
-    (sym c.is_typed_code.ensures ∙ c.if-not-is_typed_code.false) c.cursor-cursor.ensures.value (sym c.is_open_at.ensures ∙ c.if-not-is_open_at.false)
+    (sym c.is_graphic_code.ensures ∙ c.if-not-is_graphic_code.false) c.cursor-cursor.ensures.value (sym c.is_open.ensures ∙ c.if-not-is_open.false)
     (omega (arith, c.cursor-cursor.ensures.value, c.position_count-n.ensures.cursor_inside)) goes c.mark.ensures character c.put_char.ensures.changed c.move_cursor.ensures.changed

@@ -14,10 +14,8 @@ returns-in_default-prepare-clause-refused g c =
 
 pub returns-in-EraseAllUnprotected-clause-shows : goal.returns-in-EraseAllUnprotected-clause-shows
 returns-in-EraseAllUnprotected-clause-shows g c =
-    clear_shows c.self.inside.geometry c.self.inside.size (g.C.Cells.content c.self.inside.cells) c.self.inside.cursor c.self.inside.lock c.self.inside.aid
-    c.args.self.now c.args.outbound.now c.command-command.result (g.C.Cells.content c.clear_unprotected-self-inside.new.cells) c.clear_unprotected-self-inside.result
-    c.none-self-inside.result c.self.view_is c.command-command.ensures c.in-EraseAllUnprotected.is c.clear_unprotected-self-inside.ensures.stored
-    c.clear_unprotected-self-inside.ensures.first c.none-self-inside.ensures
+    clear_shows c.args.self.now c.erase_all_unprotected.new.self c.args.outbound.now c.command-command.result
+    c.command-command.ensures c.in-EraseAllUnprotected.is c.erase_all_unprotected.ensures.cleared
 
 pub returns-in_err-end-clause-refused : goal.returns-in_err-end-clause-refused
 returns-in_err-end-clause-refused g c =

@@ -1,0 +1,5 @@
+pub mod Refused
+pub mod Taking
+pub mod Terminal
+pub mod Runs
+pub mod Seen

@@ -1,0 +1,5 @@
+//! Tests of the wire over its public items.
+#![tactic(auto)]
+
+#[cfg(test)]
+mod wire;
