@@ -11,3 +11,6 @@ pub mod Converted
 pub mod Texts
 pub mod DemoKeys
 pub mod Opened
+pub mod Firsts
+pub mod NamedKeys
+pub mod ToldRecords

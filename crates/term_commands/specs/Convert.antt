@@ -5,7 +5,7 @@ use Rattle.ds_codec.specs.declared.refused.Refused.{Refused}
 use Rattle.ds_codec.specs.Record.{Message}
 use Rattle.ds_codec.specs.Reading.{read_of, ◌>>=◌}
 use Rattle.order_lines.specs.Print.{record_lines}
-use Rattle.scr_check.specs.declared.finding.Refusal.TheVariants.{Read}
+use Rattle.ds_terminal.specs.declared.refused.Refused.TheVariants.{Read}
 use Rattle.term_commands.specs.declared.fault.Fault.{Fault}
 use Rattle.term_commands.specs.declared.fault.Fault.TheVariants.{RecordRefused}
 use Rattle.term_commands.specs.declared.input.sizes.SizeLine.TheVariants.{Allowed}

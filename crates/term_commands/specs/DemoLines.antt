@@ -1,6 +1,5 @@
 -- The line of what is sent once the keys of a finding are pressed.
 use Rattle.std.specs.Prelude.{ℕ, false, List, [], ◌++◌, codes, Option, Some, None, Result, Ok, Err}
-use Rattle.hex.specs.Hex.{encode_upper}
 use Rattle.ds_screen.specs.Picture.{Picture}
 use Rattle.ds_screen.specs.Records.{new_picture}
 use Rattle.ds_keys.specs.KeyRuns as keyed
@@ -11,11 +10,11 @@ use Rattle.scr_check.specs.declared.finding.Demo.{Demo}
 use Rattle.scr_check.specs.declared.finding.Finding.{Finding}
 use Rattle.scr_check.specs.declared.finding.Finding.TheVariants.{Undeclared, UndeclaredFixed, TooLong}
 use Rattle.scr_check.specs.Demos.{demo_keys}
-use Rattle.term_commands.specs.declared.fault.Fault.{Fault}
+use Rattle.ds_terminal.specs.Runs.{RefusedRecord, all_shown}
 use Rattle.term_commands.specs.declared.output.demo.Demos.{Demos}
 use Rattle.term_commands.specs.declared.output.demo.Demos.TheVariants.{Omitted, Printed}
 use Rattle.term_commands.specs.FindingLines.{finding_line}
-use Rattle.term_commands.specs.Shown.{shown_after}
+use Rattle.term_commands.specs.Screen.{sent_line}
 
 -- the demo that a finding has
 abbrev pub demo_of : Finding → Option Demo
@@ -29,7 +28,7 @@ abbrev pub bytes_replayed : Picture → Demo → List ℕ
 bytes_replayed v demo = bytes_sent (keyed.after v (demo_keys demo)) false
 
 abbrev pub sends_line : Picture → Demo → List ℕ
-sends_line v demo = codes "sends " ++ (encode_upper (bytes_replayed v demo) ++ codes "\n")
+sends_line v demo = sent_line (codes "sends ") (bytes_replayed v demo)
 
 -- the line of a demo from a picture, if there are both
 abbrev pub sends_on : Option Picture → Option Demo → List ℕ
@@ -50,5 +49,5 @@ asked Printed (Err e) = None
 -- ---- as the program holds it
 
 -- the picture that the records leave on a new terminal of the layout's geometry
-abbrev pub shown_on : Declaration → List (List ℕ) → Result Picture Fault
-shown_on layout records = shown_after 0 (new_picture layout.geometry) records
+abbrev pub shown_on : Declaration → List (List ℕ) → Result Picture RefusedRecord
+shown_on layout records = all_shown 0 (new_picture layout.geometry) records

@@ -3,34 +3,22 @@ use Rattle.std.specs.Prelude.{◌≡◌, ℕ, List, ◌++◌, codes, Result, Ok,
 use Rattle.std.specs.Fmt.{decimal}
 use Rattle.std.specs.declared.io.ErrorKind.{ErrorKind}
 use Rattle.std.specs.declared.io.ErrorKind.TheVariants.{OutOfMemory as MemoryKind}
-use Rattle.ds_codec.specs.Refused.{why_words as read_words}
 use Rattle.ds_codec.specs.Writing.{flaw_words}
-use Rattle.ds_screen.specs.Refused.{why_words as apply_words}
 use Rattle.scr_layout.specs.declared.fault.LayoutError.{LayoutError}
 use Rattle.scr_layout.specs.declared.fault.LayoutError.TheVariants.{Refused, OutOfMemory as LayoutMemory}
 use Rattle.scr_layout.specs.Fault as layout
-use Rattle.scr_check.specs.declared.finding.Refusal.{Refusal}
-use Rattle.scr_check.specs.declared.finding.Refusal.TheVariants.{Read, Apply}
+use Rattle.ds_terminal.specs.Refused.{refused_text}
 use Rattle.term_commands.specs.declared.fault.Fault.{Fault}
 use Rattle.term_commands.specs.declared.fault.Fault.TheVariants.{BadLine, BadKeyLine, TooLong, LayoutRefused, RecordRefused, Unwritable}
 use Rattle.term_commands.specs.declared.fault.CommandError.{CommandError}
 use Rattle.term_commands.specs.declared.fault.CommandError.TheVariants.{Fault as Told, ReadFailed, OutOfMemory}
-
-abbrev pub refused_at : Refusal → ℕ
-refused_at (Read refused) = refused.at
-refused_at (Apply refused) = refused.at
-
-abbrev pub refused_words : Refusal → List ℕ
-refused_words (Read refused) = read_words refused.why
-refused_words (Apply refused) = apply_words refused.why
 
 abbrev pub fault_text : Fault → List ℕ
 fault_text (BadLine number) = codes "line " ++ (decimal number ++ codes " refused")
 fault_text (BadKeyLine number) = codes "keys line " ++ (decimal number ++ codes " refused")
 fault_text TooLong = codes "input too long"
 fault_text (LayoutRefused fault) = codes "layout refused: " ++ layout.fault_text fault
-fault_text (RecordRefused index refusal) =
-    codes "record " ++ (decimal index ++ (codes " refused at " ++ (decimal (refused_at refusal) ++ (codes ": " ++ refused_words refusal))))
+fault_text (RecordRefused index refused) = codes "record " ++ (decimal index ++ (codes " " ++ refused_text refused))
 fault_text (Unwritable index flaw) = codes "record " ++ (decimal index ++ (codes " unwritable: " ++ flaw_words flaw))
 
 abbrev pub fault_line : Fault → List ℕ

@@ -3,12 +3,13 @@ use Rattle.std.specs.Prelude.{◌≡◌, ℕ, List, map, Result, Ok, Err}
 use Rattle.std.specs.Option.{option_map}
 use Rattle.std.specs.Global.{Vec}
 use Rattle.std.specs.String.{string_bytes}
-use Rattle.ds_codec.specs.Reading.{read_of}
 use Rattle.ds_keys.specs.declared.key.Key.{Key}
 use Rattle.ds_screen.specs.Picture.{Picture}
+use Rattle.ds_terminal.specs.Runs.{RefusedRecord, all_shown}
 use Rattle.order_lines.specs.Told.{told_held}
 use Rattle.order_lines.specs.Draft.{draft_held}
 use Rattle.term_commands.specs.declared.fault.Fault.{Fault}
+use Rattle.term_commands.specs.declared.fault.Fault.TheVariants.{RecordRefused}
 use Rattle.term_commands.specs.declared.input.records.Line as held_line
 use Rattle.term_commands.specs.declared.input.records.Line.TheVariants as line
 use Rattle.term_commands.specs.declared.input.records.Records as held_records
@@ -23,7 +24,6 @@ use Rattle.term_commands.specs.Drafts as drafts
 use Rattle.term_commands.specs.Keys as keys
 use Rattle.term_commands.specs.Printed.{Printed}
 use Rattle.term_commands.specs.Records as records
-use Rattle.term_commands.specs.Shown.{shown_by, shown_after}
 
 abbrev pub records_held : List (Vec ℕ) → List (List ℕ)
 records_held records = map (λ bytes. bytes.items) records
@@ -60,15 +60,11 @@ drafts_seen told =
 
 -- ---- answers
 
--- the record led from one picture to the other, or was refused
-abbrev pub AppliesTo : Picture → Picture → ℕ → List ℕ → Result (Unit {0}) Fault → Type 0
-AppliesTo old new index bytes (Ok done) = shown_by index old (read_of old.geometry.mode bytes) ≡ Ok new
-AppliesTo old new index bytes (Err fault) = shown_by index old (read_of old.geometry.mode bytes) ≡ Err fault
-
--- the same of all records
-abbrev pub AppliesAll : Picture → Picture → List (Vec ℕ) → Result (Unit {0}) Fault → Type 0
-AppliesAll old new records (Ok done) = shown_after 0 old (records_held records) ≡ Ok new
-AppliesAll old new records (Err fault) = shown_after 0 old (records_held records) ≡ Err fault
+-- the records led from one picture to the other, or one is refused
+abbrev pub ShowsAll : Picture → Picture → List (Vec ℕ) → Result (Unit {0}) Fault → Type 0
+ShowsAll old new records (Ok done) = all_shown 0 old (records_held records) ≡ Ok new
+ShowsAll old new records (Err fault) =
+    (first : RefusedRecord) × (all_shown 0 old (records_held records) ≡ Err first) × (fault ≡ RecordRefused first.index first.why)
 
 -- an answer as it is printed
 abbrev pub answer_seen : Answer → Printed

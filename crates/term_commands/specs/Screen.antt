@@ -1,7 +1,8 @@
--- The text of a screen.
+-- The text of a screen, and of what it sends.
 use Rattle.std.specs.Prelude.{ℕ, List, ◌++◌, codes}
 use Rattle.std.specs.List.{flat_map, range_with_len}
 use Rattle.std.specs.Fmt.{decimal}
+use Rattle.hex.specs.Hex.{encode_upper}
 use Rattle.ds_screen.specs.declared.lock.Lock.{Lock}
 use Rattle.ds_screen.specs.declared.lock.Lock.TheVariants.{Free, Waiting, Error}
 use Rattle.ds_screen.specs.declared.field.FieldAt.{FieldAt}
@@ -30,3 +31,7 @@ row_line v row = codes "|" ++ (printed_row v row ++ codes "|\n")
 
 abbrev pub screen_text : Picture → List ℕ
 screen_text v = header_line v ++ (flat_map field_line (fields_of v.cells) ++ flat_map (row_line v) (range_with_len 0 v.size.rows))
+
+-- a word and the bytes that a terminal sends
+abbrev pub sent_line : List ℕ → List ℕ → List ℕ
+sent_line word bytes = word ++ (encode_upper bytes ++ codes "\n")

@@ -1,19 +1,18 @@
 -- What `show` prints, as a function of its input.
 use Rattle.std.specs.Prelude.{ℕ, List, Result, Ok}
 use Rattle.ds_codec.specs.Reading.{◌>>=◌}
-use Rattle.ds_screen.specs.Records.{new_picture}
 use Rattle.term_commands.specs.declared.fault.Fault.{Fault}
 use Rattle.term_commands.specs.declared.input.sizes.SizeLine.TheVariants.{Allowed}
 use Rattle.term_commands.specs.declared.status.Status.TheVariants.{Done}
 use Rattle.term_commands.specs.Printed.{Printed, printed, printed_or_fault}
 use Rattle.term_commands.specs.Records.{records_in}
 use Rattle.term_commands.specs.Screen.{screen_text}
-use Rattle.term_commands.specs.Shown.{shown_after}
+use Rattle.term_commands.specs.Shown.{shown_on}
 
 abbrev pub show : List ℕ → Result Printed Fault
 show input = do
   told ← records_in Allowed input
-  v ← shown_after 0 (new_picture told.geometry) told.records
+  v ← shown_on told.geometry told.records
   Ok (printed (screen_text v) Done)
 
 -- what `show` prints for an input, and its status

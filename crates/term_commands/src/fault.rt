@@ -2,13 +2,13 @@
 
 ghost use Rattle.std.specs.Prelude.{◌≡◌, Some};
 ghost use Rattle.std.specs.IoError.{error_kind};
-ghost use Rattle.term_commands.specs.Fault.{refused_at, refused_words, fault_text, layout_error, read_error};
+ghost use Rattle.term_commands.specs.Fault.{fault_text, layout_error, read_error};
 ghost use Rattle.term_commands.specs.Streams.{failure_of, IsWantOrFailure};
 ghost use Rattle.term_commands.specs.declared.fault.CommandError.TheVariants.{Fault as Told, OutOfMemory};
 
 use crate::status::Status;
 use ds_codec::Unwritable;
-use scr_check::Refusal;
+use ds_terminal::Refused;
 use scr_layout::{LayoutError, LayoutFault};
 use std::alloc::{AllocError, AllocFailed};
 use std::{fmt, io};
@@ -25,29 +25,9 @@ pub enum Fault {
     TooLong,
     LayoutRefused(LayoutFault),
     /// The record of this index, counted from 0, is refused.
-    RecordRefused(usize, Refusal),
+    RecordRefused(usize, Refused),
     /// The record of this index, counted from 0, cannot be written.
     Unwritable(usize, Unwritable),
-}
-
-/// The place in a record at which it is refused.
-fn refused_at(refusal: &Refusal) -> usize
-    ensures { result ≡ refused_at refusal.now }
-{
-    match refusal {
-        Refusal::Read(refused) => refused.at,
-        Refusal::Apply(refused) => refused.at,
-    }
-}
-
-/// The printed words of a refusal.
-fn refused_words(refusal: &Refusal) -> &'static str
-    ensures { result.now ≡ refused_words refusal.now }
-{
-    match refusal {
-        Refusal::Read(refused) => refused.why.words(),
-        Refusal::Apply(refused) => refused.why.words(),
-    }
 }
 
 impl fmt::Display for Fault {
@@ -59,11 +39,7 @@ impl fmt::Display for Fault {
             Fault::BadKeyLine(number) => write!(f, "keys line {number} refused"),
             Fault::TooLong => f.write_str("input too long"),
             Fault::LayoutRefused(fault) => write!(f, "layout refused: {fault}"),
-            Fault::RecordRefused(index, refusal) => {
-                let at = refused_at(refusal);
-                let words = refused_words(refusal);
-                write!(f, "record {index} refused at {at}: {words}")
-            }
+            Fault::RecordRefused(index, refused) => write!(f, "record {index} {refused}"),
             Fault::Unwritable(index, flaw) => write!(f, "record {index} unwritable: {flaw}"),
         }
     }

@@ -17,7 +17,7 @@ use crate::input::layout::read_layout;
 use crate::input::records::read_records;
 use crate::input::sizes::SizeLine;
 use crate::output::answer::{Answer, finish};
-use crate::output::demo::{Demos, demo_screen};
+use crate::output::demo::{Demos, demo_terminal};
 use crate::output::findings::push_findings;
 use crate::status::Status;
 use scr_check::{Finding, Verdict, check};
@@ -48,12 +48,12 @@ fn found(
         ≡ printed (flat_map (finding_lines layout.now.entries (asked demos (shown_on layout.now (records_held records.now)))) findings.now) Findings) }
 {
     let mut text = String::new(alloc);
-    let screen = demo_screen(alloc, layout, records, demos)?;
+    let terminal = demo_terminal(alloc, layout, records, demos)?;
     push_findings(
         alloc,
         &mut text,
         layout.entries(),
-        screen.as_ref(),
+        terminal.as_ref(),
         findings,
     )?;
     Ok(Answer {

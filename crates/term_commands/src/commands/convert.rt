@@ -17,7 +17,7 @@ use crate::output::answer::{Answer, finish};
 use crate::status::Status;
 use ds_codec::{Mode, Record};
 use order_lines::push_record;
-use scr_check::Refusal;
+use ds_terminal::Refused;
 use std::alloc::Global;
 use std::io::{Read, Write};
 
@@ -34,7 +34,7 @@ fn push_lines(
         Ok(record) => Ok(push_record(alloc, out, &record)?),
         Err(refused) => Err(CommandError::Fault(Fault::RecordRefused(
             index,
-            Refusal::Read(refused),
+            Refused::Read(refused),
         ))),
     }
 }

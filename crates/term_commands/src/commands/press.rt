@@ -1,14 +1,13 @@
 //! The command `press`: the operator's keys on a screen, with the bytes that go out.
 
-ghost use Rattle.std.specs.Prelude.{◌≡◌, ◌++◌, codes, false, IfErr, IfSome, OnOk};
+ghost use Rattle.std.specs.Prelude.{◌≡◌, ◌++◌, IfErr, IfSome, OnOk};
 ghost use Rattle.std.specs.String.{string_bytes};
-ghost use Rattle.hex.specs.Hex.{encode_upper};
-ghost use Rattle.ds_inbound.specs.Answer.{bytes_sent};
-ghost use Rattle.ds_keys.specs.KeyRuns.{after_key};
+ghost use Rattle.ds_terminal.specs.Seen.{key_reply_seen};
+ghost use Rattle.ds_terminal.specs.Terminal.{pressed};
 ghost use Rattle.term_commands.specs.declared.input.sizes.SizeLine.TheVariants.{Allowed};
 ghost use Rattle.term_commands.specs.Fault.{Gives};
 ghost use Rattle.term_commands.specs.Held.{answer_seen};
-ghost use Rattle.term_commands.specs.Press.{pressed_line, pressed_text, press, printed_press};
+ghost use Rattle.term_commands.specs.Press.{reply_line, turn_line, pressed_text, press, printed_press};
 ghost use Rattle.term_commands.specs.Records.{records_in};
 ghost use Rattle.term_commands.specs.Streams.{Prints};
 
@@ -17,56 +16,59 @@ use crate::input::keys::read_keys;
 use crate::input::records::read_records;
 use crate::input::sizes::SizeLine;
 use crate::output::answer::{Answer, finish};
-use crate::shown::apply_all;
+use crate::output::bytes::push_sent;
+use crate::shown::show_all;
 use crate::status::Status;
-use ds_inbound::write_inbound;
-use ds_keys::{Key, Pressed, press};
-use ds_screen::{PlainCells, Screen};
-use order_lines::push_bytes;
+use ds_keys::Key;
+use ds_screen::PlainCells;
+use ds_terminal::{KeyReply, Terminal};
 use std::alloc::{AllocError, Global};
 use std::io::{Read, Write};
 
-/// The bytes that are sent, as a line.
-fn push_sent(alloc: Global, out: &mut String, screen: &Screen<PlainCells>) -> Result<(), AllocError>
-    ensures { OnOk result (string_bytes out.new ≡ string_bytes out.old
-        ++ (codes "sent " ++ (encode_upper (bytes_sent screen.now false) ++ codes "\n"))) }
-{
-    let bytes = write_inbound(alloc, screen, false)?;
-    out.push_str("sent ")?;
-    push_bytes(alloc, out, bytes.as_slice())?;
-    out.push_str("\n")
-}
-
-/// The line of a key that was pressed.
-fn push_pressed(
+/// The line of a reply; the key leaves the cursor there.
+fn push_reply(
     alloc: Global,
     out: &mut String,
-    screen: &Screen<PlainCells>,
-    pressed: Pressed,
+    cursor: u32,
+    reply: &KeyReply,
 ) -> Result<(), AllocError>
-    ensures { OnOk result (string_bytes out.new ≡ string_bytes out.old ++ pressed_line pressed screen.now) }
+    ensures { OnOk result
+        (string_bytes out.new ≡ string_bytes out.old ++ reply_line cursor (key_reply_seen reply.now)) }
 {
-    let cursor = screen.cursor();
-    match pressed {
-        Pressed::Done => write!(out, "done {cursor}\n"),
-        Pressed::Inhibited => write!(out, "inhibited {cursor}\n"),
-        Pressed::Ignored => write!(out, "ignored {cursor}\n"),
-        Pressed::Sent(_) => push_sent(alloc, out, screen),
+    match reply {
+        KeyReply::Done => write!(out, "done {cursor}\n"),
+        KeyReply::Inhibited => write!(out, "inhibited {cursor}\n"),
+        KeyReply::Ignored => write!(out, "ignored {cursor}\n"),
+        KeyReply::Sent(bytes) => push_sent(alloc, out, "sent ", bytes.as_slice()),
     }
+}
+
+/// The line of a key that is pressed.
+fn push_key(
+    alloc: Global,
+    out: &mut String,
+    terminal: &mut Terminal<PlainCells>,
+    key: Key,
+) -> Result<(), AllocError>
+    ensures line { OnOk result (string_bytes out.new ≡ string_bytes out.old ++ turn_line (pressed terminal.old key)) }
+    ensures pressed { OnOk result (terminal.new ≡ (pressed terminal.old key).after) }
+{
+    let reply = terminal.press(alloc, key)?;
+    push_reply(alloc, out, terminal.screen().cursor(), &reply)
 }
 
 /// The lines of keys that are pressed in turn.
 fn push_keys(
     alloc: Global,
     out: &mut String,
-    screen: &mut Screen<PlainCells>,
+    terminal: &mut Terminal<PlainCells>,
     keys: &[Key],
 ) -> Result<(), AllocError>
-    ensures { OnOk result (string_bytes out.new ≡ string_bytes out.old ++ pressed_text screen.old keys.now) }
+    ensures { OnOk result
+        (string_bytes out.new ≡ string_bytes out.old ++ pressed_text terminal.old keys.now) }
 {
     for key in keys {
-        let pressed = press(screen, *key);
-        push_pressed(alloc, out, screen, pressed)?;
+        push_key(alloc, out, terminal, *key)?;
     }
     Ok(())
 }
@@ -81,10 +83,10 @@ fn press_keys<R: Read, K: Read>(
 {
     let told = read_records(alloc, reader, SizeLine::Allowed)?;
     let named = read_keys(alloc, keys)?;
-    let mut screen = Screen::<PlainCells>::new(alloc, told.geometry)?;
-    apply_all(&mut screen, told.records.as_slice())?;
+    let mut terminal = Terminal::<PlainCells>::new(alloc, told.geometry)?;
+    show_all(&mut terminal, told.records.as_slice())?;
     let mut text = String::new(alloc);
-    push_keys(alloc, &mut text, &mut screen, named.keys.as_slice())?;
+    push_keys(alloc, &mut text, &mut terminal, named.keys.as_slice())?;
     Ok(Answer {
         text,
         status: Status::Done,

@@ -11,9 +11,10 @@ use crate::input::records::read_records;
 use crate::input::sizes::SizeLine;
 use crate::output::answer::{Answer, finish};
 use crate::output::screen::screen_text;
-use crate::shown::apply_all;
+use crate::shown::show_all;
 use crate::status::Status;
-use ds_screen::{PlainCells, Screen};
+use ds_screen::PlainCells;
+use ds_terminal::Terminal;
 use std::alloc::Global;
 use std::io::{Read, Write};
 
@@ -21,10 +22,10 @@ fn show<R: Read>(alloc: Global, reader: &mut R) -> Result<Answer, CommandError>
     ensures { IfSome (R.remaining reader.old) (λ input. Gives answer_seen result (show input)) }
 {
     let told = read_records(alloc, reader, SizeLine::Allowed)?;
-    let mut screen = Screen::<PlainCells>::new(alloc, told.geometry)?;
-    apply_all(&mut screen, told.records.as_slice())?;
+    let mut terminal = Terminal::<PlainCells>::new(alloc, told.geometry)?;
+    show_all(&mut terminal, told.records.as_slice())?;
     Ok(Answer {
-        text: screen_text(alloc, &screen)?,
+        text: screen_text(alloc, terminal.screen())?,
         status: Status::Done,
     })
 }

@@ -5,14 +5,15 @@ ghost use Rattle.std.specs.String.{string_bytes};
 ghost use Rattle.ds_keys.specs.declared.key.Key.{Key};
 ghost use Rattle.ds_keys.specs.KeyRuns.{after};
 ghost use Rattle.scr_check.specs.Demos.{demo_keys};
-ghost use Rattle.term_commands.specs.DemoLines.{demo_of, bytes_replayed, sends_line, sends_on, asked, shown_on};
+ghost use Rattle.term_commands.specs.DemoLines.{demo_of, bytes_replayed, sends_on, asked, shown_on};
 
-use crate::shown::apply_all;
+use crate::output::bytes::push_sent;
+use crate::shown::show_all;
 use ds_codec::Aid;
 use ds_inbound::write_inbound;
-use ds_keys::{Key, press};
-use ds_screen::{PlainCells, Screen};
-use order_lines::push_bytes;
+use ds_keys::Key;
+use ds_screen::PlainCells;
+use ds_terminal::Terminal;
 use scr_check::{Demo, Finding};
 use scr_layout::Layout;
 use std::alloc::{AllocError, Global};
@@ -36,12 +37,18 @@ fn demo_of(finding: Finding) -> Option<Demo>
 }
 
 /// Presses a key so many times.
-fn press_times(screen: &mut Screen<PlainCells>, key: &Key, times: u32)
-    ensures { screen.new ≡ after screen.old (replicate times key.now) }
+fn press_times(
+    alloc: Global,
+    terminal: &mut Terminal<PlainCells>,
+    key: &Key,
+    times: u32,
+) -> Result<(), AllocError>
+    ensures { OnOk result (terminal.new ≡ after terminal.old (replicate times key.now)) }
 {
     for _ in 0..times {
-        press(screen, *key);
+        terminal.press(alloc, *key)?;
     }
+    Ok(())
 }
 
 /// The key Enter.
@@ -53,69 +60,67 @@ fn enter() -> Key
 }
 
 /// Presses the keys of a demo.
-fn press_demo(screen: &mut Screen<PlainCells>, demo: Demo)
-    ensures { screen.new ≡ after screen.old (demo_keys demo) }
+fn press_demo(
+    alloc: Global,
+    terminal: &mut Terminal<PlainCells>,
+    demo: Demo,
+) -> Result<(), AllocError>
+    ensures { OnOk result (terminal.new ≡ after terminal.old (demo_keys demo)) }
 {
     let Demo { rights, types } = demo;
-    press_times(screen, &Key::Right, rights);
-    press_times(screen, &Key::Typed(0xC1), types);
-    press(screen, enter());
+    press_times(alloc, terminal, &Key::Right, rights)?;
+    press_times(alloc, terminal, &Key::Typed(0xC1), types)?;
+    press_times(alloc, terminal, &enter(), 1)?;
+    Ok(())
 }
 
 /// What the terminal sends once the keys of a demo are pressed.
-fn replay(alloc: Global, screen: &mut Screen<PlainCells>, demo: Demo) -> Result<Vec<u8>, AllocError>
-    ensures { IfOk result (λ bytes. bytes.items ≡ bytes_replayed screen.old demo) }
-{
-    press_demo(screen, demo);
-    write_inbound(alloc, screen, false)
-}
-
-/// What is sent, as a line.
-fn push_replayed(
+fn replay(
     alloc: Global,
-    out: &mut String,
-    screen: &mut Screen<PlainCells>,
+    terminal: &mut Terminal<PlainCells>,
     demo: Demo,
-) -> Result<(), AllocError>
-    ensures { OnOk result (string_bytes out.new ≡ string_bytes out.old ++ sends_line screen.old demo) }
+) -> Result<Vec<u8>, AllocError>
+    ensures { IfOk result (λ bytes. bytes.items ≡ bytes_replayed terminal.old demo) }
 {
-    let bytes = replay(alloc, screen, demo)?;
-    out.push_str("sends ")?;
-    push_bytes(alloc, out, bytes.as_slice())?;
-    out.push_str("\n")
+    press_demo(alloc, terminal, demo)?;
+    write_inbound(alloc, terminal.screen(), false)
 }
 
-/// The screen that demos go from, where they are asked for: what the records leave on a new terminal, unless
-/// one of them is refused.
-pub fn demo_screen(
+/// The terminal that demos go from, where they are printed: a new one that showed the records, unless one of
+/// them is refused.
+pub fn demo_terminal(
     alloc: Global,
     layout: &Layout,
     records: &[Vec<u8>],
     demos: Demos,
-) -> Result<Option<Screen<PlainCells>>, AllocError>
-    ensures { IfOk result (λ screen. screen ≡ asked demos (shown_on layout.now (map (λ bytes. bytes.items) records.now))) }
+) -> Result<Option<Terminal<PlainCells>>, AllocError>
+    ensures { IfOk result (λ terminal. terminal ≡ asked demos (shown_on layout.now (map (λ bytes. bytes.items) records.now))) }
 {
     if demos == Demos::Omitted {
         return Ok(None);
     }
-    let mut screen = Screen::<PlainCells>::new(alloc, layout.geometry())?;
-    match apply_all(&mut screen, records) {
-        Ok(()) => Ok(Some(screen)),
+    let mut terminal = Terminal::<PlainCells>::new(alloc, layout.geometry())?;
+    match show_all(&mut terminal, records) {
+        Ok(()) => Ok(Some(terminal)),
         Err(_) => Ok(None),
     }
 }
 
-/// The line of what a finding's keys send from a copy of the screen; none where the finding has no demo.
+/// The line of what a finding's keys send from a copy of the terminal; none where the finding has no demo.
 pub fn push_sends(
     alloc: Global,
     out: &mut String,
-    screen: Option<&Screen<PlainCells>>,
+    terminal: Option<&Terminal<PlainCells>>,
     finding: Finding,
 ) -> Result<(), AllocError>
-    ensures { OnOk result (string_bytes out.new ≡ string_bytes out.old ++ sends_on (option_map (λ s. s.now) screen.entry) (demo_of finding)) }
+    ensures { OnOk result (string_bytes out.new ≡ string_bytes out.old
+        ++ sends_on (option_map (λ t. t.now) terminal.entry) (demo_of finding)) }
 {
-    match (screen, demo_of(finding)) {
-        (Some(screen), Some(demo)) => push_replayed(alloc, out, &mut screen.copied(alloc)?, demo),
+    match (terminal, demo_of(finding)) {
+        (Some(terminal), Some(demo)) => {
+            let bytes = replay(alloc, &mut terminal.copied(alloc)?, demo)?;
+            push_sent(alloc, out, "sends ", bytes.as_slice())
+        }
         (None, _) | (_, None) => Ok(()),
     }
 }

@@ -9,7 +9,8 @@ ghost use Rattle.term_commands.specs.DemoLines.{finding_lines};
 
 use crate::output::demo::push_sends;
 use ds_codec::Size;
-use ds_screen::{PlainCells, Screen};
+use ds_screen::PlainCells;
+use ds_terminal::Terminal;
 use scr_check::{Demo, Finding, Overlong, Refusal};
 use scr_layout::Entry;
 use std::alloc::{AllocError, Global};
@@ -117,34 +118,34 @@ fn push_finding(out: &mut String, entries: &[Entry], finding: Finding) -> Result
     }
 }
 
-/// The line of a finding and, from a screen, what its keys send.
+/// The line of a finding and, from a terminal, what its keys send.
 fn push_lines(
     alloc: Global,
     out: &mut String,
     entries: &[Entry],
-    screen: Option<&Screen<PlainCells>>,
+    terminal: Option<&Terminal<PlainCells>>,
     finding: Finding,
 ) -> Result<(), AllocError>
     ensures { OnOk result (string_bytes out.new ≡ string_bytes out.old
-        ++ finding_lines entries.now (option_map (λ s. s.now) screen.entry) finding) }
+        ++ finding_lines entries.now (option_map (λ t. t.now) terminal.entry) finding) }
 {
     push_finding(out, entries, finding)?;
-    push_sends(alloc, out, screen, finding)
+    push_sends(alloc, out, terminal, finding)
 }
 
-/// The lines of findings, in their order, with what their keys send where there is a screen to press them on.
+/// The lines of findings, in their order, with what their keys send where there is a terminal to press them on.
 pub fn push_findings(
     alloc: Global,
     out: &mut String,
     entries: &[Entry],
-    screen: Option<&Screen<PlainCells>>,
+    terminal: Option<&Terminal<PlainCells>>,
     findings: &[Finding],
 ) -> Result<(), AllocError>
     ensures { OnOk result (string_bytes out.new ≡ string_bytes out.old
-        ++ flat_map (finding_lines entries.now (option_map (λ s. s.now) screen.entry)) findings.now) }
+        ++ flat_map (finding_lines entries.now (option_map (λ t. t.now) terminal.entry)) findings.now) }
 {
     for finding in findings {
-        push_lines(alloc, out, entries, screen, *finding)?;
+        push_lines(alloc, out, entries, terminal, *finding)?;
     }
     Ok(())
 }

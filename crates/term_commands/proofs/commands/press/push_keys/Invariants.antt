@@ -5,4 +5,4 @@ use Rattle.term_commands.proofs.commands.press.push_keys.Given as goal
 
 abbrev pub invariant-loop-key : goal.invariant-loop-key
 invariant-loop-key l =
-    string_bytes l.out ++ pressed_text l.screen (drop l.key-index l.keys) ≡ string_bytes l.fn.out ++ pressed_text l.fn.screen l.keys
+    string_bytes l.out ++ pressed_text l.terminal (drop l.key-index l.keys) ≡ string_bytes l.fn.out ++ pressed_text l.fn.terminal l.keys

@@ -3,4 +3,4 @@ use Rattle.ds_keys.specs.KeyRuns.{after}
 use Rattle.term_commands.proofs.output.demo.press_times.Given as goal
 
 abbrev pub invariant-loop : goal.invariant-loop
-invariant-loop l = l.screen ≡ after l.fn.screen (replicate l.counter l.key)
+invariant-loop l = l.terminal ≡ after l.fn.terminal (replicate l.counter l.key)
