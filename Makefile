@@ -1,7 +1,8 @@
-# make run    shows examples/first.hex through the program, which is built where it is missing
+# make run    shows examples/first.hex through the program, which is built where it is missing, with a line for
+#             each crate as it is proved
 # make build  leaves the program at bin/term3270
 # make test   proves everything from nothing, then runs the golden cases of the built program
-# make cases  runs the golden cases alone
+# make cases  runs the golden cases and the manners of the program alone
 # make edits  tries every edit that the prover must refuse, of all crates or, with CRATE=ds_codec, of one
 # make bench  times the program beside plain Rust
 RT := $(shell command -v rt 2>/dev/null)
@@ -22,8 +23,7 @@ bin/term3270: $(BUILT)
 
 $(BUILT): $(SOURCES)
 	$(need_toolchain)
-	@echo "building the program: its proofs take some minutes" >&2
-	@log=$$(mktemp) && (cd crates/term3270 && rt run < stdin > $$log 2>&1) || { tail -n 20 $$log >&2; rm -f $$log; exit 1; }; rm -f $$log
+	@sh scripts/build
 	@touch $@
 
 test:
@@ -31,7 +31,7 @@ test:
 	@sh tests/run
 
 cases: bin/term3270
-	@sh tests/cases.sh bin/term3270
+	@sh tests/cases.sh bin/term3270 && sh tests/manners.sh bin/term3270
 
 edits:
 	$(need_toolchain)

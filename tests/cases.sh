@@ -1,17 +1,18 @@
 #!/bin/sh
-# Runs each folder of tests/cases: the program with the words of `args` (one a line) and `stdin`, in
-# a folder with the case's other files; compares bytes of standard output with `stdout` and the exit
-# status with `status` (0 where there is none). Where status 2 goes with no output, the fault is one of
-# the command line, and standard error must say it. A script `make-stdin` prints an input that is too
-# large to store.
+# Runs each case, a folder tests/cases/COMMAND/NAME: the program with the words of `args` (one a line) and
+# `stdin`, in a folder with the case's other files. Standard output is compared with `stdout`, standard error
+# with `stderr` where that file is there, and the exit status with `status` (0 where there is none). Where
+# status 2 goes with no output, the fault is one of the command line, and standard error must say it. A script
+# `make-stdin` prints an input that is too large to store.
 program=$(cd "$(dirname "$1")" && pwd)/$(basename "$1")
 cases=$(cd "$(dirname "$0")/cases" && pwd)
 work=$(mktemp -d) || exit 1
 trap 'rm -rf "$work"' EXIT
 passed=0
 failed=0
-for folder in "$cases"/*/; do
-  name=$(basename "$folder")
+for folder in "$cases"/*/*/; do
+  name=${folder#"$cases"/}
+  name=${name%/}
   rm -rf "$work/in" && cp -r "$folder" "$work/in"
   if [ -f "$work/in/make-stdin" ]; then sh "$work/in/make-stdin" > "$work/stdin"
   elif [ -f "$work/in/stdin" ]; then cp "$work/in/stdin" "$work/stdin"
@@ -25,14 +26,16 @@ for folder in "$cases"/*/; do
   (cd "$work/in" && "$program" "$@" < "$work/stdin" > "$work/stdout" 2> "$work/stderr")
   status=$?
   [ -f "$work/in/stdout" ] || : > "$work/in/stdout"
-  told=yes
-  if [ "$wanted" = 2 ] && [ ! -s "$work/in/stdout" ] && [ ! -s "$work/stderr" ]; then told=no; fi
-  if [ "$status" = "$wanted" ] && [ $told = yes ] && cmp -s "$work/in/stdout" "$work/stdout"; then
+  is_said=yes
+  if [ "$wanted" = 2 ] && [ ! -s "$work/in/stdout" ] && [ ! -s "$work/stderr" ]; then is_said=no; fi
+  if [ -f "$work/in/stderr" ] && ! cmp -s "$work/in/stderr" "$work/stderr"; then is_said=no; fi
+  if [ "$status" = "$wanted" ] && [ $is_said = yes ] && cmp -s "$work/in/stdout" "$work/stdout"; then
     passed=$((passed + 1))
   else
     failed=$((failed + 1))
     echo "case $name: status $status, wanted $wanted"
     diff "$work/in/stdout" "$work/stdout" | head -n 10
+    [ $is_said = yes ] || head -n 3 "$work/stderr"
   fi
 done
 echo "$passed passed, $failed failed"

@@ -285,8 +285,9 @@ impl<C: Cells> Screen<C> {
     /// Does what a record says, or refuses it at the least order at fault and changes nothing. A1: an
     /// address is not below the number of cells. A2: no attribute stands where one is to be changed. A3,
     /// at 0: the command is a read or No-operation. Works on the second buffer and takes no memory. An erase,
-    /// the copy that a Write begins with, a reset of all modified data tags and Erase All Unprotected go over
-    /// the whole buffer; everything else takes time linear in the record's bytes and the cells it touches.
+    /// the copy that a Write begins with, a reset of all modified data tags, Erase All Unprotected, and each
+    /// Erase Unprotected to Address and Program Tab go over up to the whole buffer; everything else takes time
+    /// linear in the record's bytes and the cells it changes.
     pub fn apply(&mut self, outbound: &Record<'_>) -> Result<Effect, Refused>
         ensures shows { OnOk result (RecordShows self.old outbound.now self.new) }
         ensures told { IfOk result (λ effect. effect ≡ told_of outbound.now.command) }

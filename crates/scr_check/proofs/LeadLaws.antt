@@ -16,7 +16,7 @@ use Rattle.ds_screen.specs.declared.refused.Refused as shown
 use Rattle.ds_screen.specs.Picture.{Picture}
 use Rattle.ds_screen.specs.Fields.{fields_of}
 use Rattle.ds_screen.specs.Orders.{Writing}
-use Rattle.ds_screen.specs.Records.{restores, new_picture, erased, begun, finished, acts, finishes, written, cleared, shown_of}
+use Rattle.ds_screen.specs.Records.{restores, new_picture, erased, begun, finished, acts, finishes, written, all_cleared, shown_of}
 use Rattle.scr_layout.specs.Layout.{Declaration}
 use Rattle.scr_check.specs.declared.finding.Finding.{Finding}
 use Rattle.scr_check.specs.declared.finding.Finding.TheVariants.{FirstNotErase, NotAWrite, KeyboardLocked, OtherSize, Unformatted}
@@ -83,7 +83,7 @@ unfolding shown_of
 shown_geometry v w (Write wcc) orders is = finished_geometry wcc v w (acts orders (begun wcc v.cells v.cursor)) is
 shown_geometry v w (EraseWrite wcc) orders is = finished_geometry wcc (erased v.geometry.default v) w _ is
 shown_geometry v w (EraseWriteAlternate wcc) orders is = finished_geometry wcc (erased v.geometry.alternate v) w _ is
-shown_geometry v w EraseAllUnprotected orders is = ap (λ (z : Picture). z.geometry) (ok_is w (cleared v) (Ok w) refl (sym is))
+shown_geometry v w EraseAllUnprotected orders is = ap (λ (z : Picture). z.geometry) (ok_is w (all_cleared v) (Ok w) refl (sym is))
 shown_geometry v w ReadBuffer orders is = absurd cc
 shown_geometry v w ReadModified orders is = absurd cc
 shown_geometry v w ReadModifiedAll orders is = absurd cc
@@ -223,7 +223,7 @@ shown_agrees a next lock aid (Write wcc) orders waits is = finishes_agrees wcc a
 shown_agrees a next lock aid (EraseWrite wcc) orders waits is = finishes_agrees wcc (erased a.geometry.default a) next lock aid _ waits is
 shown_agrees a next lock aid (EraseWriteAlternate wcc) orders waits is = finishes_agrees wcc (erased a.geometry.alternate a) next lock aid _ waits is
 shown_agrees a next lock aid EraseAllUnprotected orders waits is =
-    (cleared a, refl, subst (λ z. Agree z (cleared a)) (ok_is (cleared a) next (Ok (cleared a)) refl is) (agree_same (cleared a)))
+    (all_cleared a, refl, subst (λ z. Agree z (all_cleared a)) (ok_is (all_cleared a) next (Ok (all_cleared a)) refl is) (agree_same (all_cleared a)))
 shown_agrees a next lock aid ReadBuffer orders waits is = absurd cc
 shown_agrees a next lock aid ReadModified orders waits is = absurd cc
 shown_agrees a next lock aid ReadModifiedAll orders waits is = absurd cc

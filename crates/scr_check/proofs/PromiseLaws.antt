@@ -50,7 +50,6 @@ unfolding delete_step
 delete_stays v = either v.geometry (is_open v.cells v.cursor) _ _ refl refl
 
 input_stays : (v : Picture) → StaysIn v.geometry (erase_input_step v)
-unfolding erase_input_step
 input_stays v = refl
 
 attention_stays : (v : Picture) (aid : ℕ) → StaysIn v.geometry (attention_step v aid)

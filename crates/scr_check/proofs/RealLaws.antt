@@ -23,7 +23,7 @@ use Rattle.ds_screen.specs.declared.refused.Refused.{Refused}
 use Rattle.ds_screen.specs.Picture.{Picture, blank, cell_at, ruled}
 use Rattle.ds_screen.specs.Fields.{is_attribute, is_at, bits_of, attribute_before, is_open}
 use Rattle.ds_screen.specs.Orders.{Writing, byte_cell, text_cell, single_cell, is_reached, repeated_cell, erased_cell, nulled_cell, first_from, tabbed, effect_of, fault_of}
-use Rattle.ds_screen.specs.Records.{resets, unmodified, unprotected_unmodified, new_picture, erased, begun, finished, unless, acts, finishes, cleared_cell, cleared, shown_of}
+use Rattle.ds_screen.specs.Records.{resets, unmodified, unprotected_unmodified, new_picture, erased, begun, finished, unless, acts, finishes, cleared_cell, all_cleared, shown_of}
 use Rattle.ds_screen.proofs.RuledLaws.{length-ruled, cell_at-ruled}
 use Rattle.ds_keys.specs.declared.key.Key.{Key}
 use Rattle.ds_keys.specs.declared.key.Key.TheVariants.{Typed, Left, Right, Up, Down, Tab, BackTab, NewLine, Home, EraseEof, EraseInput, Delete, Reset, Attention}
@@ -227,7 +227,7 @@ shown_real v w (EraseWrite wcc) orders real each is =
 shown_real v w (EraseWriteAlternate wcc) orders real each is =
     written_real wcc orders (erased v.geometry.alternate v) w real (replicate_real (cells_of v.geometry.alternate)) is
 shown_real v w EraseAllUnprotected orders real each is =
-    subst (λ (z : Picture). AreReal z.cells) (ok_is (cleared v) w (Ok (cleared v)) refl is)
+    subst (λ (z : Picture). AreReal z.cells) (ok_is (all_cleared v) w (Ok (all_cleared v)) refl is)
     (ruled_real (length v.cells) (cleared_cell v.cells) (cleared_cell_real v.cells each))
 shown_real v w ReadBuffer orders real each is = absurd cc
 shown_real v w ReadModified orders real each is = absurd cc
@@ -294,7 +294,6 @@ delete_leaves v each =
     (λ shut. each)
 
 input_leaves : (v : Picture) → AreReal v.cells → LeavesReal (erase_input_step v)
-unfolding erase_input_step
 input_leaves v each = ruled_real (length v.cells) (cleared_cell v.cells) (cleared_cell_real v.cells each)
 
 attention_leaves : (v : Picture) (aid : ℕ) → AreReal v.cells → LeavesReal (attention_step v aid)

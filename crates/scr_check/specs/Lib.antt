@@ -7,3 +7,4 @@ pub mod Bindable
 pub mod Promise
 pub mod Leads
 pub mod Demos
+pub mod FindingText

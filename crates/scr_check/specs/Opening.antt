@@ -14,7 +14,7 @@ use Rattle.ds_screen.specs.Picture.{Picture}
 use Rattle.ds_screen.specs.Fields.{fields_of}
 use Rattle.ds_screen.specs.Records.{new_picture, shown_of}
 use Rattle.scr_layout.specs.Layout.{Declaration}
-use Rattle.scr_check.specs.declared.finding.Refusal.TheVariants.{Read, Apply}
+use Rattle.ds_terminal.specs.declared.refused.Refused.TheVariants.{Read, Apply}
 use Rattle.scr_check.specs.declared.finding.Finding.{Finding}
 use Rattle.scr_check.specs.declared.finding.Finding.TheVariants.{RecordRefused, NoRecord, FirstNotErase, NotAWrite, KeyboardLocked, OtherSize, Unformatted}
 

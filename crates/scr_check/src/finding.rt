@@ -1,16 +1,10 @@
 //! What the checker finds.
 
-use ds_codec::{Refused as ReadRefused, Size};
-use ds_screen::Refused as ApplyRefused;
+ghost use Rattle.std.specs.Prelude.{◌≡◌};
+ghost use Rattle.scr_check.specs.FindingText.{finding_number, demo_of};
 
-/// Why a record is refused.
-#[derive(Clone, Copy, Debug, PartialEq, Eq)]
-pub enum Refusal {
-    /// Its bytes are no record.
-    Read(ReadRefused),
-    /// The screen can't do what it says.
-    Apply(ApplyRefused),
-}
+use ds_codec::Size;
+use ds_terminal::Refused;
 
 /// Keys that show a finding: Right so many times, then the character C1 so many times, then Enter.
 #[derive(Clone, Copy, Debug, PartialEq, Eq)]
@@ -38,7 +32,7 @@ pub struct Overlong {
 #[derive(Clone, Copy, Debug, PartialEq, Eq)]
 pub enum Finding {
     /// F1: this record is refused.
-    RecordRefused(usize, Refusal),
+    RecordRefused(usize, Refused),
     /// F2: there is no record.
     NoRecord,
     /// F3: the first record is no Erase/Write and no Erase/Write Alternate.
@@ -63,4 +57,38 @@ pub enum Finding {
     OtherKind(usize),
     /// F13: a field without cells at this place that comes modified.
     EmptyModified(u32),
+}
+
+impl Finding {
+    /// The number that stands behind the F of its line, 1 to 13.
+    pub fn number(&self) -> u8
+        ensures { result ≡ finding_number self.now }
+    {
+        match self {
+            Finding::RecordRefused(_, _) => 1,
+            Finding::NoRecord => 2,
+            Finding::FirstNotErase => 3,
+            Finding::NotAWrite(_) => 4,
+            Finding::KeyboardLocked => 5,
+            Finding::OtherSize(_, _) => 6,
+            Finding::Unformatted => 7,
+            Finding::Undeclared(_, _) => 8,
+            Finding::UndeclaredFixed(_, _) => 9,
+            Finding::Missing(_) => 10,
+            Finding::TooLong(_) => 11,
+            Finding::OtherKind(_) => 12,
+            Finding::EmptyModified(_) => 13,
+        }
+    }
+
+    /// The keys that show it, where it has some: F8, F9, and F11 of an input.
+    pub fn demo(&self) -> Option<Demo>
+        ensures { result ≡ demo_of self.now }
+    {
+        match self {
+            Finding::Undeclared(_, demo) | Finding::UndeclaredFixed(_, demo) => Some(*demo),
+            Finding::TooLong(found) => found.demo,
+            _ => None,
+        }
+    }
 }

@@ -4,15 +4,13 @@
 mod binding;
 mod fields;
 mod finding;
+mod finding_text;
 mod laws;
 mod opening;
 mod places;
 mod verdict;
 
 pub use binding::{BindError, BindFault, Bound, bind};
-pub use finding::{Demo, Finding, Overlong, Refusal};
+pub use finding::{Demo, Finding, Overlong};
 pub use laws::{bind_law, yes_law};
 pub use verdict::{Verdict, check};
-
-#[cfg(test)]
-mod tests;

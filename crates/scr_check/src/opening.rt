@@ -5,9 +5,10 @@ ghost use Rattle.ds_codec.specs.Reading.{read_of};
 ghost use Rattle.scr_check.specs.Opening.{erases, writes, command_fault, is_free, is_size, ready, opening_of};
 ghost use Rattle.scr_check.specs.Seen.{Takes, TakesAll, IsReady, IsSoundOpening, opening_seen};
 
-use crate::finding::{Finding, Refusal};
-use ds_codec::{Command, Record, Size};
+use crate::finding::Finding;
+use ds_codec::{Command, Size};
 use ds_screen::{Lock, PlainCells, Screen};
+use ds_terminal::{apply_record, read_record};
 use scr_layout::Layout;
 use std::alloc::{AllocError, Global};
 
@@ -56,16 +57,16 @@ fn command_fault(index: usize, command: Command) -> Option<Finding>
 fn take(screen: &mut Screen<PlainCells>, index: usize, bytes: &[u8]) -> Result<(), Finding>
     ensures { Takes screen.old screen.new index bytes.now result }
 {
-    let record = match Record::read(screen.geometry().mode(), bytes) {
+    let record = match read_record(screen, bytes) {
         Ok(record) => record,
-        Err(refused) => return Err(Finding::RecordRefused(index, Refusal::Read(refused))),
+        Err(refused) => return Err(Finding::RecordRefused(index, refused)),
     };
     if let Some(finding) = command_fault(index, record.command()) {
         return Err(finding);
     }
-    match screen.apply(&record) {
+    match apply_record(screen, &record) {
         Ok(_) => Ok(()),
-        Err(refused) => Err(Finding::RecordRefused(index, Refusal::Apply(refused))),
+        Err(refused) => Err(Finding::RecordRefused(index, refused)),
     }
 }
 

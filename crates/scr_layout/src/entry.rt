@@ -7,7 +7,7 @@ use std::marker::Model;
 pub enum Kind {
     /// An unprotected field.
     Input,
-    /// A protected field that is sent all the same, as it comes modified.
+    /// A protected field. If it comes modified it is sent as it came.
     Fixed,
 }
 

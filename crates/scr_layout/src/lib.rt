@@ -13,6 +13,3 @@ pub use entry::{Entry, Kind};
 pub use fault::{LayoutError, LayoutFault, LayoutKey, LayoutRefusal};
 pub use layout::Layout;
 pub use size_text::size_of_text;
-
-#[cfg(test)]
-mod tests;

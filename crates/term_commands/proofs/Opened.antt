@@ -1,6 +1,6 @@
 -- Where the records open a picture it is shown; where something stands against them that has no demo.
 use Rattle.std.proofs.Common.{◌≡◌, ℕ, ◌+◌, Bool, true, false, List, [], ◌∷◌, ◌++◌, not, ◌&&◌, ◌==◌, refl, ap, sym, ◌∙◌}
-use Rattle.std.specs.Prelude.{Option, Some, None, Result, Ok, Err, if◌then◌else◌}
+use Rattle.std.specs.Prelude.{codes, Option, Some, None, Result, Ok, Err, if◌then◌else◌}
 use Rattle.std.specs.List.{flat_map}
 use Rattle.ds_codec.specs.declared.size.Size.{Size}
 use Rattle.ds_codec.specs.declared.refused.Refused as read
@@ -17,8 +17,8 @@ use Rattle.scr_check.specs.declared.finding.Finding.{Finding}
 use Rattle.scr_check.specs.declared.finding.Finding.TheVariants.{FirstNotErase, NotAWrite, KeyboardLocked, OtherSize, Unformatted}
 use Rattle.scr_check.specs.Opening.{erases, writes, unless_found, applied, taken, taken_from, is_free, is_size, is_none_of, ready, opening_of}
 use Rattle.scr_check.specs.Findings.{findings_of, told, answer_of}
-use Rattle.term_commands.specs.DemoLines.{demo_of, sends_on, asked, finding_lines, shown_on}
-use Rattle.term_commands.specs.FindingLines.{finding_line}
+use Rattle.scr_check.specs.FindingText.{demo_of, finding_text}
+use Rattle.term_commands.specs.DemoLines.{sends_on, asked, finding_lines, shown_on}
 use Rattle.term_commands.specs.declared.status.Status.TheVariants.{Findings}
 use Rattle.term_commands.specs.Printed.{printed}
 use Rattle.ds_terminal.specs.Runs.{RefusedRecord, shown_as, then_others, all_shown}
@@ -83,7 +83,7 @@ no_sends opened demo none = ap (sends_on opened) none
 one_finding : (entries : List Declared) (opened other : Option Picture) (finding : Finding) → demo_of finding ≡ None
     → finding_lines entries opened finding ≡ finding_lines entries other finding
 one_finding entries opened other finding none =
-    ap (λ (line : List ℕ). finding_line entries finding ++ line) (no_sends opened (demo_of finding) none ∙ sym (no_sends other (demo_of finding) none))
+    ap (λ (line : List ℕ). (finding_text entries finding ++ codes "\n") ++ line) (no_sends opened (demo_of finding) none ∙ sym (no_sends other (demo_of finding) none))
 
 by_opening : (demos : Demos) (layout : Declaration) (opened : Result Picture Finding) (shown : Result Picture RefusedRecord) → Fits opened shown
     → printed_verdict (finding_lines layout.entries (asked demos shown)) (told layout opened) ≡ printed_verdict (finding_lines layout.entries (asked demos opened)) (told layout opened)

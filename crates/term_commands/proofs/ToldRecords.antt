@@ -70,8 +70,8 @@ refused_line true false (Err e) line lines number geometry before told few text_
 refused_line true false (Ok bytes) line lines number geometry before told few text_is silent_is digits_is is others =
     limited bytes before (refused geometry (before ++ bytes ∷ [])) (λ next. taken take_record (number + 1) next lines) told (Tells geometry before (line ∷ lines) told) is
     (λ short room goes.
-      one_spelled geometry before line bytes lines told text_is silent_is (record { is_text = text_is; digits = digits_is; short = short })
-      (others (before ++ bytes ∷ []) (omega (arith, length-append before (bytes ∷ []))) goes))
+    one_spelled geometry before line bytes lines told text_is silent_is (record { is_text = text_is; digits = digits_is; short = short })
+    (others (before ++ bytes ∷ []) (omega (arith, length-append before (bytes ∷ []))) goes))
 
 told_refused : (lines : List (List ℕ)) (number : ℕ) (geometry : Sizes) (before : List (List ℕ)) (told : Records) → length before ≤ 1000
     → taken take_record number (refused geometry before) lines ≡ Ok told → Tells geometry before lines told
@@ -109,8 +109,8 @@ start_line true false None (Err e) size_line line lines number told text_is sile
 start_line true false None (Ok bytes) size_line line lines number told text_is silent_is sizes_is digits_is is others =
     limited bytes [] (refused usual_sizes (bytes ∷ [])) (λ next. taken take_record (number + 1) next lines) told (Starts size_line (line ∷ lines) told) is
     (λ short room goes.
-      unsized size_line line bytes lines told text_is silent_is sizes_is (record { is_text = text_is; digits = digits_is; short = short })
-      (told_refused lines (number + 1) usual_sizes (bytes ∷ []) told (omega arith) goes))
+    unsized size_line line bytes lines told text_is silent_is sizes_is (record { is_text = text_is; digits = digits_is; short = short })
+    (told_refused lines (number + 1) usual_sizes (bytes ∷ []) told (omega arith) goes))
 
 starts : (lines : List (List ℕ)) (number : ℕ) (size_line : SizeLine) (told : Records) → taken take_record number (no_records size_line) lines ≡ Ok told → Starts size_line lines told
 starts [] number size_line told is = let same : no_records size_line ≡ told = cc in rw (← same) (inr (tt, refl, tt), omega arith)
@@ -186,6 +186,7 @@ starts_again (line ∷ lines) number size_line geometry records tells few =
     (λ others. starts_again lines (number + 1) size_line geometry records others few)
 
 pub records_are_told : RecordsAreTold
-records_are_told size_line lines told =
-    (λ (later, is). let s = starts lines 1 size_line (record told { size_line = later }) is in record { lines_tell = s.0; few = s.1 },
-    λ (t : TellRecords size_line lines told). starts_again lines 1 size_line told.geometry told.records t.lines_tell t.few)
+records_are_told size_line lines told = (
+  λ (later, is). let s = starts lines 1 size_line (record told { size_line = later }) is in record { lines_tell = s.0; few = s.1 },
+  λ (t : TellRecords size_line lines told). starts_again lines 1 size_line told.geometry told.records t.lines_tell t.few,
+)

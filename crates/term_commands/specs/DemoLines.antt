@@ -8,20 +8,12 @@ use Rattle.scr_layout.specs.Entry.{Declared}
 use Rattle.scr_layout.specs.Layout.{Declaration}
 use Rattle.scr_check.specs.declared.finding.Demo.{Demo}
 use Rattle.scr_check.specs.declared.finding.Finding.{Finding}
-use Rattle.scr_check.specs.declared.finding.Finding.TheVariants.{Undeclared, UndeclaredFixed, TooLong}
 use Rattle.scr_check.specs.Demos.{demo_keys}
+use Rattle.scr_check.specs.FindingText.{demo_of, finding_text}
 use Rattle.ds_terminal.specs.Runs.{RefusedRecord, all_shown}
 use Rattle.term_commands.specs.declared.output.demo.Demos.{Demos}
 use Rattle.term_commands.specs.declared.output.demo.Demos.TheVariants.{Omitted, Printed}
-use Rattle.term_commands.specs.FindingLines.{finding_line}
 use Rattle.term_commands.specs.Screen.{sent_line}
-
--- the demo that a finding has
-abbrev pub demo_of : Finding → Option Demo
-demo_of (Undeclared place demo) = Some demo
-demo_of (UndeclaredFixed place demo) = Some demo
-demo_of (TooLong found) = found.demo
-demo_of finding = None
 
 -- what the terminal sends once the demo's keys are pressed on a picture
 abbrev pub bytes_replayed : Picture → Demo → List ℕ
@@ -38,7 +30,7 @@ sends_on (Some v) (Some demo) = sends_line v demo
 
 -- the line of a finding and, from a picture, what its keys send
 abbrev pub finding_lines : List Declared → Option Picture → Finding → List ℕ
-finding_lines entries opened finding = finding_line entries finding ++ sends_on opened (demo_of finding)
+finding_lines entries opened finding = (finding_text entries finding ++ codes "\n") ++ sends_on opened (demo_of finding)
 
 -- the picture from which demos go, where they are printed
 abbrev pub asked : {E : Type 0} → Demos → Result Picture E → Option Picture

@@ -11,7 +11,6 @@ pub mod Printed
 pub mod Shown
 pub mod Screen
 pub mod Show
-pub mod FindingLines
 pub mod DemoLines
 pub mod Check
 pub mod Press

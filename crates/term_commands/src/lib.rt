@@ -12,7 +12,7 @@ mod status;
 
 pub use commands::{run_check, run_convert, run_convert_back, run_press, run_show};
 pub use fault::failure;
-pub use law::convert_law;
+pub use law::{convert_law, lines_law};
 pub use output::demo::Demos;
 pub use status::Status;
 

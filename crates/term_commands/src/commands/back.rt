@@ -61,7 +61,8 @@ fn lines_written(
     geometry: &Geometry,
     drafts: &[Draft],
 ) -> Result<String, CommandError>
-    ensures { Gives string_bytes result (lines_written geometry.now geometry.now.default 0 (map draft_held drafts.now)) }
+    ensures { Gives string_bytes result
+        (lines_written geometry.now geometry.now.default 0 (map draft_held drafts.now)) }
 {
     let mut out = String::new(alloc);
     let mut size = geometry.default_size();
@@ -91,7 +92,8 @@ fn back<R: Read>(alloc: Global, reader: &mut R) -> Result<Answer, CommandError>
 /// first for the default size. At most 16,777,216 bytes and 1,000 records; the statuses are those of
 /// `run_show`.
 pub fn run_convert_back<R: Read, W: Write>(alloc: Global, reader: &mut R, writer: &mut W) -> Status
-    ensures { IfSome (R.remaining reader.old) (λ input. Prints (W.contents writer.old) (W.contents writer.new) result (printed_back input)) }
+    ensures { IfSome (R.remaining reader.old) (λ input.
+        Prints (W.contents writer.old) (W.contents writer.new) result (printed_back input)) }
 {
     let answer = back(alloc, reader);
     finish(alloc, writer, answer)

@@ -49,13 +49,7 @@ fn found(
 {
     let mut text = String::new(alloc);
     let terminal = demo_terminal(alloc, layout, records, demos)?;
-    push_findings(
-        alloc,
-        &mut text,
-        layout.entries(),
-        terminal.as_ref(),
-        findings,
-    )?;
+    push_findings(alloc, &mut text, layout, terminal.as_ref(), findings)?;
     Ok(Answer {
         text,
         status: Status::Findings,
@@ -104,8 +98,10 @@ fn check_records<L: Read, R: Read>(
     reader: &mut R,
     demos: Demos,
 ) -> Result<Answer, CommandError>
-    ensures answer { IfSome (L.remaining layout.old) (λ text. IfSome (R.remaining reader.old) (λ input. Gives answer_seen result (check demos text input))) }
-    ensures unread { IfSome (L.remaining layout.old) (λ text. IfErr (layout_in text) (λ fault. reader.new ≡ reader.old)) }
+    ensures answer { IfSome (L.remaining layout.old) (λ text. IfSome (R.remaining
+        reader.old) (λ input. Gives answer_seen result (check demos text input))) }
+    ensures unread { IfSome (L.remaining layout.old) (λ text. IfErr (layout_in text) (λ fault.
+        reader.new ≡ reader.old)) }
 {
     let layout = read_layout(alloc, layout)?;
     let told = read_records(alloc, reader, SizeLine::Refused)?;
@@ -125,9 +121,11 @@ pub fn run_check<L: Read, R: Read, W: Write>(
     writer: &mut W,
     demos: Demos,
 ) -> Status
-    ensures prints { IfSome (L.remaining layout.old) (λ text. IfSome (R.remaining reader.old) (λ input.
+    ensures prints { IfSome (L.remaining layout.old) (λ text. IfSome (R.remaining
+        reader.old) (λ input.
         Prints (W.contents writer.old) (W.contents writer.new) result (printed_check demos text input))) }
-    ensures unread { IfSome (L.remaining layout.old) (λ text. IfErr (layout_in text) (λ fault. reader.new ≡ reader.old)) }
+    ensures unread { IfSome (L.remaining layout.old) (λ text. IfErr (layout_in text) (λ fault.
+        reader.new ≡ reader.old)) }
 {
     let answer = check_records(alloc, layout, reader, demos);
     finish(alloc, writer, answer)

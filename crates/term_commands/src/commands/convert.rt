@@ -16,8 +16,8 @@ use crate::input::sizes::SizeLine;
 use crate::output::answer::{Answer, finish};
 use crate::status::Status;
 use ds_codec::{Mode, Record};
-use order_lines::push_record;
 use ds_terminal::Refused;
+use order_lines::push_record;
 use std::alloc::Global;
 use std::io::{Read, Write};
 
@@ -28,7 +28,8 @@ fn push_lines(
     index: usize,
     bytes: &[u8],
 ) -> Result<(), CommandError>
-    ensures { Gives (λ done. string_bytes out.new) result (joined (Ok (string_bytes out.old)) (lines_or_refusal index (read_of Bits14 bytes.now))) }
+    ensures { Gives (λ done. string_bytes out.new) result
+        (joined (Ok (string_bytes out.old)) (lines_or_refusal index (read_of Bits14 bytes.now))) }
 {
     match Record::read(Mode::Bits14, bytes) {
         Ok(record) => Ok(push_record(alloc, out, &record)?),
@@ -64,7 +65,8 @@ fn convert<R: Read>(alloc: Global, reader: &mut R) -> Result<Answer, CommandErro
 /// empty line; or the first fault of the lines, or the first record that is refused. The limits and
 /// the statuses are those of `run_show`.
 pub fn run_convert<R: Read, W: Write>(alloc: Global, reader: &mut R, writer: &mut W) -> Status
-    ensures { IfSome (R.remaining reader.old) (λ input. Prints (W.contents writer.old) (W.contents writer.new) result (printed_convert input)) }
+    ensures { IfSome (R.remaining reader.old) (λ input.
+        Prints (W.contents writer.old) (W.contents writer.new) result (printed_convert input)) }
 {
     let answer = convert(alloc, reader);
     finish(alloc, writer, answer)

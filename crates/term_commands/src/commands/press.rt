@@ -50,7 +50,8 @@ fn push_key(
     terminal: &mut Terminal<PlainCells>,
     key: Key,
 ) -> Result<(), AllocError>
-    ensures line { OnOk result (string_bytes out.new ≡ string_bytes out.old ++ turn_line (pressed terminal.old key)) }
+    ensures line { OnOk result (string_bytes out.new ≡ string_bytes out.old
+        ++ turn_line (pressed terminal.old key)) }
     ensures pressed { OnOk result (terminal.new ≡ (pressed terminal.old key).after) }
 {
     let reply = terminal.press(alloc, key)?;
@@ -78,8 +79,10 @@ fn press_keys<R: Read, K: Read>(
     reader: &mut R,
     keys: &mut K,
 ) -> Result<Answer, CommandError>
-    ensures answer { IfSome (R.remaining reader.old) (λ input. IfSome (K.remaining keys.old) (λ lines. Gives answer_seen result (press input lines))) }
-    ensures unread { IfSome (R.remaining reader.old) (λ input. IfErr (records_in Allowed input) (λ fault. keys.new ≡ keys.old)) }
+    ensures answer { IfSome (R.remaining reader.old) (λ input. IfSome (K.remaining
+        keys.old) (λ lines. Gives answer_seen result (press input lines))) }
+    ensures unread { IfSome (R.remaining reader.old) (λ input.
+        IfErr (records_in Allowed input) (λ fault. keys.new ≡ keys.old)) }
 {
     let told = read_records(alloc, reader, SizeLine::Allowed)?;
     let named = read_keys(alloc, keys)?;
@@ -105,9 +108,11 @@ pub fn run_press<R: Read, K: Read, W: Write>(
     keys: &mut K,
     writer: &mut W,
 ) -> Status
-    ensures prints { IfSome (R.remaining reader.old) (λ input. IfSome (K.remaining keys.old) (λ lines.
+    ensures prints { IfSome (R.remaining reader.old) (λ input. IfSome (K.remaining
+        keys.old) (λ lines.
         Prints (W.contents writer.old) (W.contents writer.new) result (printed_press input lines))) }
-    ensures unread { IfSome (R.remaining reader.old) (λ input. IfErr (records_in Allowed input) (λ fault. keys.new ≡ keys.old)) }
+    ensures unread { IfSome (R.remaining reader.old) (λ input.
+        IfErr (records_in Allowed input) (λ fault. keys.new ≡ keys.old)) }
 {
     let answer = press_keys(alloc, reader, keys);
     finish(alloc, writer, answer)

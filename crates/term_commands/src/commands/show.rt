@@ -35,7 +35,8 @@ fn show<R: Read>(alloc: Global, reader: &mut R) -> Result<Answer, CommandError>
 /// records of 32,768 bytes. After a read or a write that failed the status is `Failed`, where memory
 /// was refused `NoMemory`, and a front of the text was written.
 pub fn run_show<R: Read, W: Write>(alloc: Global, reader: &mut R, writer: &mut W) -> Status
-    ensures { IfSome (R.remaining reader.old) (λ input. Prints (W.contents writer.old) (W.contents writer.new) result (printed_show input)) }
+    ensures { IfSome (R.remaining reader.old) (λ input.
+        Prints (W.contents writer.old) (W.contents writer.new) result (printed_show input)) }
 {
     let answer = show(alloc, reader);
     finish(alloc, writer, answer)

@@ -25,7 +25,8 @@ pub fn at_most(count: usize, most: usize) -> Result<(), Fault>
 
 /// All that a reader has left, up to one byte more than an input can have.
 fn read_some<R: Read>(alloc: Global, reader: &mut R) -> Result<Vec<u8>, CommandError>
-    ensures bytes { IfOk result (λ text. IfSome (R.remaining reader.old) (λ input. text.items ≡ take 16777217 input)) }
+    ensures bytes { IfOk result (λ text. IfSome (R.remaining reader.old) (λ input. text.items
+        ≡ take 16777217 input)) }
     ensures failed { IfErr result IsNoFault }
 {
     let mut text = Vec::new(alloc);
@@ -38,7 +39,8 @@ fn read_some<R: Read>(alloc: Global, reader: &mut R) -> Result<Vec<u8>, CommandE
 
 /// All that a reader has left: at most 16,777,216 bytes.
 pub fn read_all<R: Read>(alloc: Global, reader: &mut R) -> Result<Vec<u8>, CommandError>
-    ensures bytes { IfSome (R.remaining reader.old) (λ input. Gives (λ v. v.items) result (within_limit input)) }
+    ensures bytes { IfSome (R.remaining reader.old) (λ input. Gives (λ v. v.items) result
+        (within_limit input)) }
     ensures short { IfOk result (λ text. length text.items ≤ 16777216) }
 {
     let text = read_some(alloc, reader)?;

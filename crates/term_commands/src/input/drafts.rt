@@ -65,7 +65,8 @@ fn line_told(alloc: Global, size_line: SizeLine, line: &[u8]) -> Result<OrderLin
 
 /// The sizes are told.
 fn resize(mut drafts: Drafts, geometry: Geometry) -> Drafts
-    ensures { drafts_seen result ≡ record (drafts_seen drafts) { size_line = Refused; geometry = geometry } }
+    ensures { drafts_seen result
+        ≡ record (drafts_seen drafts) { size_line = Refused; geometry = geometry } }
 {
     drafts.size_line = SizeLine::Refused;
     drafts.geometry = geometry;
@@ -89,7 +90,8 @@ fn begin(
     number: usize,
     command: Command,
 ) -> Result<Drafts, CommandError>
-    ensures { Gives drafts_seen result (after_command number (drafts_seen drafts) command (drafts_seen drafts).current) }
+    ensures { Gives drafts_seen result
+        (after_command number (drafts_seen drafts) command (drafts_seen drafts).current) }
 {
     if drafts.current.is_some() {
         return Err(CommandError::Fault(Fault::BadLine(number)));
@@ -105,7 +107,8 @@ fn begin(
 
 /// An order of the record that has begun.
 fn add(mut drafts: Drafts, number: usize, order: OwnedOrder) -> Result<Drafts, CommandError>
-    ensures { Gives drafts_seen result (after_order number (drafts_seen drafts) (item_held order) (drafts_seen drafts).current) }
+    ensures { Gives drafts_seen result
+        (after_order number (drafts_seen drafts) (item_held order) (drafts_seen drafts).current) }
 {
     let Some(mut draft) = drafts.current.take() else {
         return Err(CommandError::Fault(Fault::BadLine(number)));
@@ -122,7 +125,8 @@ fn add_words(
     number: usize,
     told: Told,
 ) -> Result<Drafts, CommandError>
-    ensures { Gives drafts_seen result (after_told number (drafts_seen drafts) (words (told_held told))) }
+    ensures { Gives drafts_seen result
+        (after_told number (drafts_seen drafts) (words (told_held told))) }
 {
     match told {
         Told::Command(command) => begin(alloc, drafts, number, command),
@@ -137,7 +141,8 @@ fn add_line(
     number: usize,
     line: OrderLine,
 ) -> Result<Drafts, CommandError>
-    ensures { Gives drafts_seen result (after_told number (drafts_seen drafts) (order_line_seen line)) }
+    ensures { Gives drafts_seen result
+        (after_told number (drafts_seen drafts) (order_line_seen line)) }
 {
     match line {
         OrderLine::Empty => end(drafts),
@@ -160,14 +165,16 @@ impl TakesLines for Drafts {
 /// The sizes and the records that the lines of a text add, or their first fault.
 fn take_drafts(alloc: Global, text: &[u8], none: Drafts) -> Result<Drafts, CommandError>
     requires { length text.now ≤ 16777216 }
-    ensures { Gives drafts_seen result (taken take_order_line 1 (drafts_seen none) (lines_in text.now)) }
+    ensures { Gives drafts_seen result
+        (taken take_order_line 1 (drafts_seen none) (lines_in text.now)) }
 {
     take_lines(alloc, text, none)
 }
 
 /// The sizes and the records of order lines, or the first fault of the lines.
 pub fn read_drafts<R: Read>(alloc: Global, reader: &mut R) -> Result<Drafts, CommandError>
-    ensures { IfSome (R.remaining reader.old) (λ input. Gives drafts_seen result (drafts_in input)) }
+    ensures { IfSome (R.remaining reader.old) (λ input. Gives drafts_seen result
+        (drafts_in input)) }
 {
     let text = read_all(alloc, reader)?;
     let none = Drafts {

@@ -48,7 +48,8 @@ pub fn is_ignored(line: &[u8]) -> bool
 
 /// The text that a line is, if it is UTF-8.
 pub fn text_of(line: &[u8]) -> Option<&str>
-    ensures { MatchOption result (is_utf8 line.now ≡ false) (λ text. (text.now ≡ line.now) × (is_utf8 line.now ≡ true)) }
+    ensures { MatchOption result (is_utf8 line.now ≡ false) (λ text. (text.now
+        ≡ line.now) × (is_utf8 line.now ≡ true)) }
 {
     match str::from_utf8(line) {
         Ok(text) => Some(text),

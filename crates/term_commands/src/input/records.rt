@@ -128,7 +128,8 @@ impl TakesLines for Records {
 /// The sizes and the records that the lines of a text add, or their first fault.
 fn take_records(alloc: Global, text: &[u8], none: Records) -> Result<Records, CommandError>
     requires { length text.now ≤ 16777216 }
-    ensures { Gives records_seen result (taken take_record 1 (records_seen none) (lines_in text.now)) }
+    ensures { Gives records_seen result
+        (taken take_record 1 (records_seen none) (lines_in text.now)) }
 {
     take_lines(alloc, text, none)
 }
@@ -140,7 +141,8 @@ pub fn read_records<R: Read>(
     reader: &mut R,
     size_line: SizeLine,
 ) -> Result<Records, CommandError>
-    ensures { IfSome (R.remaining reader.old) (λ input. Gives records_seen result (records_in size_line input)) }
+    ensures { IfSome (R.remaining reader.old) (λ input. Gives records_seen result
+        (records_in size_line input)) }
 {
     let text = read_all(alloc, reader)?;
     let none = Records {

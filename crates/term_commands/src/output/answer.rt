@@ -40,7 +40,8 @@ fn write_text<W: Write>(writer: &mut W, text: &[u8]) -> bool
 
 /// Writes an answer, and tells its status, or `Failed` where a write failed.
 fn write_answer<W: Write>(writer: &mut W, answer: &Answer) -> Status
-    ensures { IsWritten (W.contents writer.old) (W.contents writer.new) (answer_seen answer.now) result }
+    ensures { IsWritten (W.contents writer.old) (W.contents writer.new)
+        (answer_seen answer.now) result }
 {
     if write_text(writer, answer.text.as_bytes()) {
         answer.status

@@ -14,7 +14,8 @@ pub fn push_sent(
     word: &str,
     bytes: &[u8],
 ) -> Result<(), AllocError>
-    ensures { OnOk result (string_bytes out.new ≡ string_bytes out.old ++ sent_line word.now bytes.now) }
+    ensures { OnOk result (string_bytes out.new ≡ string_bytes out.old
+        ++ sent_line word.now bytes.now) }
 {
     out.push_str(word)?;
     push_bytes(alloc, out, bytes)?;

@@ -5,7 +5,8 @@ ghost use Rattle.std.specs.String.{string_bytes};
 ghost use Rattle.ds_keys.specs.declared.key.Key.{Key};
 ghost use Rattle.ds_keys.specs.KeyRuns.{after};
 ghost use Rattle.scr_check.specs.Demos.{demo_keys};
-ghost use Rattle.term_commands.specs.DemoLines.{demo_of, bytes_replayed, sends_on, asked, shown_on};
+ghost use Rattle.scr_check.specs.FindingText.{demo_of};
+ghost use Rattle.term_commands.specs.DemoLines.{bytes_replayed, sends_on, asked, shown_on};
 
 use crate::output::bytes::push_sent;
 use crate::shown::show_all;
@@ -23,17 +24,6 @@ use std::alloc::{AllocError, Global};
 pub enum Demos {
     Omitted,
     Printed,
-}
-
-/// The demo that a finding has.
-fn demo_of(finding: Finding) -> Option<Demo>
-    ensures { result ≡ demo_of finding }
-{
-    match finding {
-        Finding::Undeclared(_, demo) | Finding::UndeclaredFixed(_, demo) => Some(demo),
-        Finding::TooLong(found) => found.demo,
-        _ => None,
-    }
 }
 
 /// Presses a key so many times.
@@ -94,7 +84,8 @@ pub fn demo_terminal(
     records: &[Vec<u8>],
     demos: Demos,
 ) -> Result<Option<Terminal<PlainCells>>, AllocError>
-    ensures { IfOk result (λ terminal. terminal ≡ asked demos (shown_on layout.now (map (λ bytes. bytes.items) records.now))) }
+    ensures { IfOk result (λ terminal. terminal ≡ asked demos (shown_on layout.now (map (λ bytes.
+        bytes.items) records.now))) }
 {
     if demos == Demos::Omitted {
         return Ok(None);
@@ -116,7 +107,7 @@ pub fn push_sends(
     ensures { OnOk result (string_bytes out.new ≡ string_bytes out.old
         ++ sends_on (option_map (λ t. t.now) terminal.entry) (demo_of finding)) }
 {
-    match (terminal, demo_of(finding)) {
+    match (terminal, finding.demo()) {
         (Some(terminal), Some(demo)) => {
             let bytes = replay(alloc, &mut terminal.copied(alloc)?, demo)?;
             push_sent(alloc, out, "sends ", bytes.as_slice())

@@ -51,7 +51,8 @@ fn push_field(out: &mut String, field: FieldAt) -> Result<(), AllocError>
 }
 
 fn push_fields(out: &mut String, screen: &Screen<PlainCells>) -> Result<(), AllocError>
-    ensures { OnOk result (string_bytes out.new ≡ string_bytes out.old ++ flat_map field_line (fields_of screen.now.cells)) }
+    ensures { OnOk result (string_bytes out.new ≡ string_bytes out.old
+        ++ flat_map field_line (fields_of screen.now.cells)) }
 {
     for field in screen.fields() {
         push_field(out, field)?;
@@ -73,7 +74,8 @@ fn push_row(
 }
 
 fn push_rows(alloc: Global, out: &mut String, screen: &Screen<PlainCells>) -> Result<(), AllocError>
-    ensures { OnOk result (string_bytes out.new ≡ string_bytes out.old ++ flat_map (row_line screen.now) (range_with_len 0 screen.now.size.rows)) }
+    ensures { OnOk result (string_bytes out.new ≡ string_bytes out.old
+        ++ flat_map (row_line screen.now) (range_with_len 0 screen.now.size.rows)) }
 {
     let size = screen.size();
     for row in 0..size.rows {

@@ -1,6 +1,8 @@
 //! Streams that fail, and ones that are not read before their turn.
 
-use crate::{Demos, Status, run_check, run_convert, run_convert_back, run_press, run_show};
+use crate::{
+    Demos, Status, lines_law, run_check, run_convert, run_convert_back, run_press, run_show,
+};
 use std::alloc::Global;
 use std::io;
 use std::io::{Read, Write};
@@ -150,6 +152,11 @@ fn a_failed_file_fails_its_command(rt: HostRuntime) -> Result<(), Fail> {
         }
     }
     Ok(())
+}
+
+#[test]
+fn the_law_of_lines_is_called(_rt: HostRuntime) {
+    lines_law();
 }
 
 #[test]

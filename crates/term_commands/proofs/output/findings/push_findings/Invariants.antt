@@ -7,5 +7,5 @@ use Rattle.term_commands.proofs.output.findings.push_findings.Given as goal
 
 abbrev pub invariant-loop-finding : goal.invariant-loop-finding
 invariant-loop-finding l =
-    string_bytes l.out ++ flat_map (finding_lines l.entries (option_map (λ t. t.now) l.terminal)) (drop l.finding-index l.findings)
-    ≡ string_bytes l.fn.out ++ flat_map (finding_lines l.entries (option_map (λ t. t.now) l.terminal)) l.findings
+    string_bytes l.out ++ flat_map (finding_lines l.layout.entries (option_map (λ t. t.now) l.terminal)) (drop l.finding-index l.findings)
+    ≡ string_bytes l.fn.out ++ flat_map (finding_lines l.layout.entries (option_map (λ t. t.now) l.terminal)) l.findings

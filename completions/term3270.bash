@@ -1,0 +1,17 @@
+# Completions of term3270 for bash: source this file, or put it into bash-completion's folder under the name term3270.
+_term3270() {
+  local word=${COMP_WORDS[COMP_CWORD]} command=${COMP_WORDS[1]}
+  COMPREPLY=()
+  if [ "$COMP_CWORD" -eq 1 ]; then
+    COMPREPLY=($(compgen -W 'show check press convert help --help --version' -- "$word"))
+    return
+  fi
+  case $command in
+    show) COMPREPLY=($(compgen -W '--help' -- "$word")) ;;
+    check) COMPREPLY=($(compgen -W '--demo --help' -- "$word") $(compgen -f -- "$word")) ;;
+    press) COMPREPLY=($(compgen -W '--help' -- "$word") $(compgen -f -- "$word")) ;;
+    convert) COMPREPLY=($(compgen -W '--back --help' -- "$word")) ;;
+    help) COMPREPLY=($(compgen -W 'show check press convert' -- "$word")) ;;
+  esac
+}
+complete -o filenames -F _term3270 term3270

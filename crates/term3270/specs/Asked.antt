@@ -1,0 +1,40 @@
+-- What the parsed words of a command line ask for.
+use Rattle.std.specs.Prelude.{◌≡◌, Bool, true, false, List, Option, Some, None, codes}
+use Rattle.std.specs.Borrow.{Bor}
+use Rattle.clap.specs.Words.{Row, Text, first_of, one_of}
+use Rattle.term3270.specs.declared.asked.Asked.{Asked}
+use Rattle.term3270.specs.declared.asked.Asked.TheVariants.{Show, Check, Press, Convert, ConvertBack}
+
+-- an option was given, or wasn't
+abbrev pub IsOption : Text → List Row → Bool → Type 0
+IsOption option rows given = (one_of option rows ≡ Some (codes "true") → given ≡ true)
+    × (one_of option rows ≡ Some (codes "false") → given ≡ false)
+    × (one_of option rows ≡ None → given ≡ false)
+
+-- the path that was given
+abbrev pub IsPath : Text → List Row → Bor Text → Type 0
+IsPath word rows path = (text : Text) → first_of word rows ≡ Some text → path.now ≡ text
+
+abbrev pub IsCheck : List Row → Asked → Type 0
+IsCheck rows (Check layout demos) = IsPath (codes "LAYOUT") rows layout × IsOption (codes "demo") rows demos
+IsCheck rows _ = ⊥
+
+abbrev pub IsPress : List Row → Asked → Type 0
+IsPress rows (Press keys) = IsPath (codes "KEYS") rows keys
+IsPress rows _ = ⊥
+
+abbrev pub IsConvert : List Row → Asked → Type 0
+IsConvert rows Convert = IsOption (codes "back") rows false
+IsConvert rows ConvertBack = IsOption (codes "back") rows true
+IsConvert rows _ = ⊥
+
+-- the command that is named, with its path and its option; the default command is show
+pub record AsksFor (name : Text) (rows : List Row) (asked : Asked) : Type 0 where
+  pub show : name ≡ codes "show" → asked ≡ Show
+  pub check : name ≡ codes "check" → IsCheck rows asked
+  pub press : name ≡ codes "press" → IsPress rows asked
+  pub convert : name ≡ codes "convert" → IsConvert rows asked
+
+abbrev pub Asks : Option (Text × List Row) → Asked → Type 0
+Asks None asked = asked ≡ Show
+Asks (Some command) asked = AsksFor command.0 command.1 asked

@@ -1,0 +1,5 @@
+pub mod Names
+pub mod NameLaws
+pub mod PairWords
+pub mod PairStages
+pub mod PairLaws

@@ -1,0 +1,20 @@
+//! The two ends of a TN3270 or TN3270E session, as machines that take an event and give bytes (RFC 1576, RFC 2355).
+//!
+//! A core is handed the events of a [`tn_wire::Deframer`], and what it answers goes over the line by other hands: it
+//! reads nothing, writes nothing and waits for nothing. No call takes memory.
+#![tactic(auto)]
+
+mod device;
+mod heard;
+mod host;
+mod laws;
+mod option;
+mod reply;
+mod session;
+mod terminal;
+
+pub use device::{Device, DeviceName, ScreenModel};
+pub use host::HostCore;
+pub use laws::{delivery_law, pair_law};
+pub use session::{Agreed, Out, SessionFault, Told};
+pub use terminal::TermCore;

@@ -1,0 +1,62 @@
+#!/bin/sh
+# Compares the commands and long options that --help prints with those of the manual page and the completions, and
+# tries what a stream that fails prints.
+# The last line is 'N passed, M failed'.
+program=$(cd "$(dirname "$1")" && pwd)/$(basename "$1")
+root=$(cd "$(dirname "$0")/.." && pwd)
+passed=0
+failed=0
+
+# The first words of a help's block, as 'Commands:'.
+commands_of_help() { "$program" --help | awk '/^[A-Z].*:$/ { inside = $0 == "Commands:" } inside && /^  [a-z]/ { print $1 }' | sort; }
+
+# The long options of a help; with a command, of its help.
+options_of_help() { "$program" "$@" --help | awk '/^[A-Z].*:$/ { inside = $0 == "Options:" } inside' | grep -oE -e '--[a-z]+' | sort -u; }
+
+compare() {
+  if [ "$(echo $2)" = "$(echo $3)" ]; then
+    passed=$((passed + 1))
+  else
+    failed=$((failed + 1))
+    echo "$1: wanted '$(echo $2)', found '$(echo $3)'"
+  fi
+}
+
+# What bash offers after these words, the last of them begun.
+offered_by_bash() {
+  bash -c '. "$0/completions/term3270.bash"; COMP_WORDS=("$@"); COMP_CWORD=$(($# - 1)); _term3270; printf "%s\n" "${COMPREPLY[@]}"' \
+    "$root" term3270 "$@" | sort -u
+}
+
+# The tagged lines of a section of the manual page.
+tags_of_page() { awk -v name="$1" '/^\.SH/ { inside = $0 == ".SH " name } inside && tag; { tag = $0 == ".TP" }' "$root/docs/term3270.1"; }
+
+# A line of the zsh completion's case, and its commands.
+line_of_zsh() { grep -E "^    $1\) " "$root/completions/_term3270"; }
+commands_of_zsh() { sed -n "s/^    '\([a-z]*\):.*/\1/p" "$root/completions/_term3270" | sort; }
+options_in() { grep -oE -e '--[a-z]+' | sort -u; }
+
+commands=$(commands_of_help)
+compare 'the manual page, commands' "$commands" "$(tags_of_page COMMANDS | sed 's/^\.B //' | sort)"
+compare 'zsh, commands' "$commands" "$(commands_of_zsh)"
+compare 'bash, commands' "$commands" "$(offered_by_bash '' | grep -v '^-')"
+compare 'bash, options' "$(options_of_help)" "$(offered_by_bash -)"
+compare 'zsh, options' "$(options_of_help)" "$(grep -A 1 "_describe 'command' commands$" "$root/completions/_term3270" | sed -n 2p | options_in)"
+all=$(options_of_help)
+for command in $commands; do
+  [ "$command" != help ] || continue
+  options=$(options_of_help "$command")
+  all="$all
+$options"
+  compare "bash, options of $command" "$options" "$(offered_by_bash "$command" -)"
+  compare "zsh, options of $command" "$options" "$(line_of_zsh "$command" | options_in)"
+done
+compare 'bash, help of a command' "$(echo "$commands" | grep -v '^help$')" "$(offered_by_bash help '')"
+compare 'the manual page, options' "$(echo "$all" | sort -u)" "$(tags_of_page OPTIONS | tr -d '\\' | options_in)"
+compare 'a write that fails' 'term3270: standard output: No space left on device (os error 28) 3' \
+  "$("$program" 2>&1 < "$root/examples/first.hex" > /dev/full; echo " $?")"
+compare 'a read that fails' 'term3270: standard input: Is a directory (os error 21) 3' "$("$program" 2>&1 < /; echo " $?")"
+compare 'help that is not written' 'term3270: No space left on device (os error 28) 3' \
+  "$("$program" --help 2>&1 > /dev/full; echo " $?")"
+echo "$passed passed, $failed failed"
+[ "$failed" -eq 0 ]
