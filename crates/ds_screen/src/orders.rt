@@ -1,6 +1,7 @@
 //! Orders, one after the other (GA23-0059, "Orders").
 
 ghost use Rattle.std.specs.Prelude.{◌≡◌, ◌<◌, ◌≤◌, true, false, length, IfOk, IfErr, OnOk, IfSome, Some, None};
+ghost use Rattle.ds_codec.specs.declared.cell.Cell.{Cell};
 ghost use Rattle.ds_codec.specs.Order.{item_of, text, repeat_to_address, erase_unprotected_to_address};
 ghost use Rattle.ds_screen.specs.Fields.{is_attribute, bits_of};
 ghost use Rattle.ds_screen.specs.Picture.{cell_at};
@@ -38,19 +39,31 @@ fn attribute_at<C: Cells>(cells: &C, p: u32) -> Result<Attr, Why>
     }
 }
 
-/// Stores a cell at the buffer address, and goes on by one.
-fn stored<C: Cells>(cells: &mut C, state: State, cell: Cell, nulling: bool) -> State
+/// Stores a cell at the buffer address, and goes on by one. A Program Tab that comes next nulls nothing.
+fn stored<C: Cells>(cells: &mut C, state: State, cell: Cell) -> State
     requires { state.address < length (C.content cells.old) }
-    ensures stores { writing (C.content cells.new) result ≡ after_storing (writing (C.content cells.old) state) cell nulling }
+    ensures stores { writing (C.content cells.new) result ≡ after_storing (writing (C.content cells.old) state) cell false }
     ensures inside { result.address < length (C.content cells.old) }
     ensures whole { length (C.content cells.new) ≡ length (C.content cells.old) }
     ensures room { C.capacity cells.new ≡ C.capacity cells.old }
 {
     let address = store(cells, state.address, cell);
+    state.at(address)
+}
+
+/// Stores a character as text is stored: a Program Tab that comes next nulls what it passes.
+fn stored_as_text<C: Cells>(cells: &mut C, state: State, character: Char) -> State
+    requires { state.address < length (C.content cells.old) }
+    ensures stores { writing (C.content cells.new) result ≡ after_storing (writing (C.content cells.old) state) (Cell.Char character) true }
+    ensures inside { result.address < length (C.content cells.old) }
+    ensures whole { length (C.content cells.new) ≡ length (C.content cells.old) }
+    ensures room { C.capacity cells.new ≡ C.capacity cells.old }
+{
+    let address = store(cells, state.address, Cell::Char(character));
     State {
         cursor: state.cursor,
         address,
-        nulling,
+        nulling: true,
     }
 }
 
@@ -124,17 +137,17 @@ pub(crate) fn act<C: Cells>(cells: &mut C, state: State, order: &Order<'_>) -> R
 {
     match order {
         Order::Text(run) => Ok(put_text(cells, state, run)),
-        Order::Sf(attribute) => Ok(stored(cells, state, Cell::Field(*attribute), false)),
+        Order::Sf(attribute) => Ok(stored(cells, state, Cell::Field(*attribute))),
         Order::Sfe(pairs) => {
             let attribute = last_attr(pairs).unwrap_or(Attr::new(0));
-            Ok(stored(cells, state, Cell::Field(attribute), false))
+            Ok(stored(cells, state, Cell::Field(attribute)))
         }
         Order::Sba(address) => Ok(state.at(position(cells.len(), *address)?)),
         Order::Sa(_, _) => Ok(state.at(state.address)),
         Order::Mf(pairs) => {
             let before = attribute_at(cells, state.address)?;
             let attribute = last_attr(pairs).unwrap_or(before);
-            Ok(stored(cells, state, Cell::Field(attribute), false))
+            Ok(stored(cells, state, Cell::Field(attribute)))
         }
         Order::Ic => Ok(State {
             cursor: state.address,
@@ -146,7 +159,7 @@ pub(crate) fn act<C: Cells>(cells: &mut C, state: State, order: &Order<'_>) -> R
         Order::Eua(stop) => erase_unprotected_to_address(cells, state, *stop),
         Order::Ge(code) => {
             let character = Char::new(*code, true).unwrap();
-            Ok(stored(cells, state, Cell::Char(character), true))
+            Ok(stored_as_text(cells, state, character))
         }
     }
 }

@@ -5,3 +5,4 @@ pub mod Plain
 pub mod ToldAgain
 pub mod Spelled
 pub mod Inside
+pub mod Said

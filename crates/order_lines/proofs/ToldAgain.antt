@@ -110,7 +110,7 @@ cut_again ds rest digits =
     let behind : drop (length ds + 1) (ds ++ 32 ∷ rest) ≡ rest = drop-append-add ds (32 ∷ rest) 1 in
     rw (n, inside, front, behind) refl
 
-no_escape : (x y : ℕ) → starts_with nat_eq (x ∷ y ∷ []) (codes "GE ") ≡ false
+pub no_escape : (x y : ℕ) → starts_with nat_eq (x ∷ y ∷ []) (codes "GE ") ≡ false
 no_escape x y =
     elim (eqb 71 x) as (λ t. (t && (eqb 69 y && false)) ≡ false) [
       | true ↦ elim (eqb 69 y) as (λ t. (t && false) ≡ false) [ true ↦ refl | false ↦ refl ]

@@ -1,6 +1,7 @@
 //! Laws on the lines of records.
 
 ghost use Rattle.order_lines.specs.Laws.{LinesTellAgain, RecordsAreWrittenAgain, OnlyInsideIsWritten};
+ghost use Rattle.order_lines.specs.Says.{TellsWhatIsSaid};
 
 /// The lines that are printed of a record say its command and its orders again, whatever record can be
 /// read. It does nothing: its contract is the law.
@@ -13,4 +14,10 @@ pub fn line_law()
 pub fn record_law()
     ensures again { RecordsAreWrittenAgain }
     ensures only { OnlyInsideIsWritten }
+{}
+
+/// What is told of a line is exactly what it says, in whatever order its name is looked for. It does nothing:
+/// its contract is the law.
+pub fn told_law()
+    ensures { TellsWhatIsSaid }
 {}

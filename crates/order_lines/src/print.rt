@@ -47,14 +47,16 @@ fn push_pairs(out: &mut String, pairs: &[u8]) -> Result<(), AllocError>
 }
 
 fn push_named(out: &mut String, name: &str, byte: u8) -> Result<(), AllocError>
-    ensures { OnOk result (string_bytes out.new ≡ string_bytes out.old ++ (name.now ++ hex_byte byte)) }
+    ensures { OnOk result (string_bytes out.new ≡ string_bytes out.old ++ (name.now
+        ++ hex_byte byte)) }
 {
     out.push_str(name)?;
     push_hex(out, byte)
 }
 
 fn push_character(out: &mut String, character: Char) -> Result<(), AllocError>
-    ensures { OnOk result (string_bytes out.new ≡ string_bytes out.old ++ character_word character) }
+    ensures { OnOk result (string_bytes out.new ≡ string_bytes out.old
+        ++ character_word character) }
 {
     if character.alt() {
         push_named(out, "GE ", character.code())
@@ -64,14 +66,16 @@ fn push_character(out: &mut String, character: Char) -> Result<(), AllocError>
 }
 
 fn push_repeat(out: &mut String, address: u32, character: Char) -> Result<(), AllocError>
-    ensures { OnOk result (string_bytes out.new ≡ string_bytes out.old ++ (codes "RA " ++ (decimal address ++ (codes " " ++ character_word character)))) }
+    ensures { OnOk result (string_bytes out.new ≡ string_bytes out.old ++ (codes "RA "
+        ++ (decimal address ++ (codes " " ++ character_word character)))) }
 {
     write!(out, "RA {address} ")?;
     push_character(out, character)
 }
 
 fn push_order(alloc: Global, out: &mut String, order: &Order<'_>) -> Result<(), AllocError>
-    ensures { OnOk result (string_bytes out.new ≡ string_bytes out.old ++ order_words (item_of order.now)) }
+    ensures { OnOk result (string_bytes out.new ≡ string_bytes out.old
+        ++ order_words (item_of order.now)) }
 {
     match order {
         Order::Text(run) => {
@@ -116,14 +120,16 @@ fn push_command(out: &mut String, command: Command) -> Result<(), AllocError>
 }
 
 fn push_order_line(alloc: Global, out: &mut String, placed: &Placed<'_>) -> Result<(), AllocError>
-    ensures { OnOk result (string_bytes out.new ≡ string_bytes out.old ++ order_line (site_of placed.now)) }
+    ensures { OnOk result (string_bytes out.new ≡ string_bytes out.old
+        ++ order_line (site_of placed.now)) }
 {
     push_order(alloc, out, &placed.order)?;
     out.push_str("\n")
 }
 
 fn push_orders(alloc: Global, out: &mut String, message: &Record<'_>) -> Result<(), AllocError>
-    ensures { OnOk result (string_bytes out.new ≡ string_bytes out.old ++ flat_map order_line message.now.orders) }
+    ensures { OnOk result (string_bytes out.new ≡ string_bytes out.old
+        ++ flat_map order_line message.now.orders) }
 {
     for placed in message.orders() {
         push_order_line(alloc, out, &placed)?;
@@ -133,7 +139,8 @@ fn push_orders(alloc: Global, out: &mut String, message: &Record<'_>) -> Result<
 
 /// The lines of a record: its command, an order a line, and an empty line.
 pub fn push_record(alloc: Global, out: &mut String, message: &Record<'_>) -> Result<(), AllocError>
-    ensures { OnOk result (string_bytes out.new ≡ string_bytes out.old ++ record_lines message.now) }
+    ensures { OnOk result (string_bytes out.new ≡ string_bytes out.old
+        ++ record_lines message.now) }
 {
     push_command(out, message.command())?;
     out.push_str("\n")?;

@@ -173,7 +173,8 @@ fn text_line(alloc: Global, rest: &[u8]) -> Result<Option<OwnedOrder>, AllocErro
 
 /// The pairs of Start Field Extended.
 fn extended_line(alloc: Global, rest: &[u8]) -> Result<Option<OwnedOrder>, AllocError>
-    ensures { IfOk result (λ told. option_map item_held told ≡ option_map start_field_extended (pairs_told rest.now)) }
+    ensures { IfOk result (λ told. option_map item_held told
+        ≡ option_map start_field_extended (pairs_told rest.now)) }
 {
     match pairs(alloc, rest)? {
         Some(pairs) => Ok(Some(OwnedOrder::Sfe(pairs))),
@@ -183,7 +184,8 @@ fn extended_line(alloc: Global, rest: &[u8]) -> Result<Option<OwnedOrder>, Alloc
 
 /// The pairs of Modify Field.
 fn modify_line(alloc: Global, rest: &[u8]) -> Result<Option<OwnedOrder>, AllocError>
-    ensures { IfOk result (λ told. option_map item_held told ≡ option_map modify_field (pairs_told rest.now)) }
+    ensures { IfOk result (λ told. option_map item_held told
+        ≡ option_map modify_field (pairs_told rest.now)) }
 {
     match pairs(alloc, rest)? {
         Some(pairs) => Ok(Some(OwnedOrder::Mf(pairs))),

@@ -58,7 +58,8 @@ pub fn pair(word: &[u8]) -> Option<(u8, u8)>
 
 /// The pair at the front, with a space before it, and what follows.
 fn first_pair(words: &[u8]) -> Option<(u8, u8, &[u8])>
-    ensures told { option_map (λ first. (first.0, first.1, first.2.now)) result ≡ first_pair_of words.now }
+    ensures told { option_map (λ first. (first.0, first.1, first.2.now)) result
+        ≡ first_pair_of words.now }
     ensures shorter { IfSome result (λ first. length first.2.now < length words.now) }
 {
     match words {
@@ -73,7 +74,8 @@ fn first_pair(words: &[u8]) -> Option<(u8, u8, &[u8])>
 
 /// The types and values of pairs, each with a space before it, up to the end of the line.
 pub fn pairs(alloc: Global, words: &[u8]) -> Result<Option<Vec<u8>>, AllocError>
-    ensures { IfOk result (λ pairs. option_map (λ bytes. bytes.items) pairs ≡ pairs_told words.now) }
+    ensures { IfOk result (λ pairs. option_map (λ bytes. bytes.items) pairs
+        ≡ pairs_told words.now) }
 {
     let mut bytes = Vec::new(alloc);
     let mut rest = words;

@@ -4,7 +4,7 @@ use Rattle.ds_inbound.specs.Characters.{characters_in}
 use Rattle.ds_inbound.specs.Reading.{sent_of}
 use Rattle.ds_inbound.specs.declared.field.FieldSlice.{FieldSlice}
 use Rattle.scr_layout.specs.Entry.{Declared}
-use Rattle.scr_check.specs.declared.binding.Bound.{Bound}
+use Rattle.scr_check.specs.declared.bound.Bound.{Bound}
 use Rattle.scr_check.specs.declared.binding.BindFault.{BindFault}
 use Rattle.scr_check.specs.declared.binding.BindError.{BindError}
 use Rattle.scr_check.specs.declared.binding.BindError.TheVariants.{OutOfMemory, Refused}

@@ -7,19 +7,11 @@ ghost use Rattle.ds_inbound.specs.Reading.{sent_of};
 ghost use Rattle.scr_check.specs.Binding.{is_bound, bound_of};
 ghost use Rattle.scr_check.specs.Bound.{Gives, BindsField, bound_seen};
 
+use crate::bound::Bound;
 use ds_inbound::{FieldSlice, Inbound, chars};
 use scr_layout::{Entry, Layout};
 use std::alloc::{AllocError, AllocFailed, Global};
 use thiserror::Error;
-
-/// A field of an answer, and the entry that declares it.
-#[derive(Clone, Copy, Debug, PartialEq, Eq)]
-pub struct Bound<'a> {
-    /// The entry's index in the layout.
-    pub entry: usize,
-    /// The field's characters as they were sent, lent from the answer.
-    pub raw: &'a [u8],
-}
 
 /// Why an answer is not that of a layout's screen.
 #[derive(Clone, Copy, Debug, PartialEq, Eq, Error)]

@@ -2,6 +2,7 @@
 #![tactic(auto)]
 
 mod binding;
+mod bound;
 mod fields;
 mod finding;
 mod finding_text;
@@ -10,7 +11,8 @@ mod opening;
 mod places;
 mod verdict;
 
-pub use binding::{BindError, BindFault, Bound, bind};
+pub use binding::{BindError, BindFault, bind};
+pub use bound::Bound;
 pub use finding::{Demo, Finding, Overlong};
 pub use laws::{bind_law, yes_law};
 pub use verdict::{Verdict, check};

@@ -9,3 +9,5 @@ mod inbound;
 mod keys;
 #[cfg(test)]
 mod screen;
+#[cfg(test)]
+mod terminal;

@@ -1,61 +1,109 @@
--- What is printed for a reader's bytes, whatever a writer takes.
-use Rattle.std.proofs.Common.{◌≡◌, ℕ, true, ltb, List, [], length, take, Ok, Err, refl, sym, subst, ap, ◌∙◌, arith, inl, inr, length-take, append-nil}
-use Rattle.std.specs.Prelude.{Option, Some, None, IfSome, IfOk, Result}
+-- What is answered to the bytes of a reader, whether they are known or not.
+use Rattle.std.proofs.Common.{◌≡◌, ◌≤◌, ◌<◌, ℕ, true, false, ltb, List, [], length, take, Ok, Err, refl, sym, subst, ap, ◌∙◌, arith, inl, inr, length-take, append-nil}
+use Rattle.std.specs.Prelude.{Option, Some, None, IfSome, Result}
 use Rattle.std.specs.Io.KnownBytes.{Appends}
 use Rattle.std.proofs.lemmas.Bool.{cases_lt, lt-ltb}
 use Rattle.std.proofs.lemmas.List.{take_all}
+use Rattle.ds_codec.specs.Reading.{◌>>=◌}
+use Rattle.term_commands.specs.declared.fault.Fault.{Fault}
+use Rattle.term_commands.specs.declared.fault.Fault.TheVariants.{TooLong}
+use Rattle.term_commands.specs.declared.fault.CommandError.{CommandError}
+use Rattle.term_commands.specs.declared.fault.CommandError.TheVariants.{Fault as Told, ReadFailed, OutOfMemory}
+use Rattle.term_commands.specs.declared.output.answer.Answer.{Answer}
 use Rattle.term_commands.specs.declared.status.Status.{Status}
 use Rattle.term_commands.specs.declared.status.Status.TheVariants.{Done, Findings, BadInput, Failed, NoMemory}
-use Rattle.term_commands.specs.declared.fault.Fault.{Fault}
-use Rattle.term_commands.specs.declared.answer.Answer.{Answer}
-use Rattle.term_commands.specs.Input.{within_limit}
-use Rattle.term_commands.specs.Printed.{Printed}
-use Rattle.term_commands.specs.Kinds.{answer_seen}
-use Rattle.term_commands.specs.Streams.{AppendsFront, IsWantOrFailure, IsWritten, Prints}
+use Rattle.term_commands.specs.Fault.{Gives, fault_line}
+use Rattle.term_commands.specs.Held.{answer_seen}
+use Rattle.term_commands.specs.Lines.{at_most, within_limit}
+use Rattle.term_commands.specs.Printed.{Printed, printed, printed_or_fault}
+use Rattle.term_commands.specs.Streams.{AppendsFront, IsWritten, IsStopped, Finishes, Prints}
+
+-- ---- the limit of an input
 
 -- one byte more than an input can have tells that it is too long
-pub up_to_limit : {A : Type 0} (read : List ℕ → Result A Fault) (input : List ℕ) → within_limit read (take 16777217 input) ≡ within_limit read input
-up_to_limit read input =
+same_limit : (input text : List ℕ) → text ≡ take 16777217 input → within_limit input ≡ within_limit text
+unfolding within_limit
+same_limit input text is =
     elim (cases_lt 16777216 (length input)) [
       | inl long ↦
-          let cut : length (take 16777217 input) ≡ 16777217 = omega (arith, length-take 16777217 input) in
-          let first : ltb 16777216 (length (take 16777217 input)) ≡ true = rw cut refl in
-          rw (first, lt-ltb 16777216 (length input) long) refl
-      | inr short ↦ ap (within_limit read) (take_all 16777217 input (omega arith))
+          let cut : length text ≡ 16777217 = omega (arith, ap length is, length-take 16777217 input) in
+          rw (cut, lt-ltb 16777216 (length input) long) refl
+      | inr short ↦ ap within_limit (sym (is ∙ take_all 16777217 input (omega arith)))
     ]
+
+bounded : (text : List ℕ) (fits : Result (Unit {0}) Fault) → fits ≡ at_most (length text) 16777216 → within_limit text ≡ (fits >>= λ short. Ok text)
+unfolding within_limit
+bounded text fits is = rw is refl
+
+pub limited : (known : Option (List ℕ)) (text : List ℕ) (fits : Result (Unit {0}) Fault)
+    → IfSome known (λ input. text ≡ take 16777217 input) → fits ≡ at_most (length text) 16777216
+    → IfSome known (λ input. within_limit input ≡ (fits >>= λ short. Ok text))
+limited None text fits is test = tt
+limited (Some input) text fits is test = same_limit input text is ∙ bounded text fits test
+
+-- ---- one step after another
+
+pub goes_on : {A B T : Type 0} (view : T → B) (known : Option (List ℕ)) (first : List ℕ → Result A Fault) (value : A) (rest : A → Result B Fault) (result : Result T CommandError)
+    → IfSome known (λ input. first input ≡ Ok value) → Gives view result (rest value) → IfSome known (λ input. Gives view result (first input >>= rest))
+goes_on view None first value rest result is gives = tt
+goes_on view (Some input) first value rest result is gives = rw is gives
+
+fails : {A B S T : Type 0} (seen : S → A) (view : T → B) (first : Result A Fault) (rest : A → Result B Fault) (error : CommandError)
+    → Gives seen (Err error) first → Gives view (Err error) (first >>= rest)
+fails seen view first rest (Told fault) is = rw is refl
+fails seen view first rest ReadFailed is = tt
+fails seen view first rest OutOfMemory is = tt
+
+pub ends : {A B S T : Type 0} (seen : S → A) (view : T → B) (known : Option (List ℕ)) (first : List ℕ → Result A Fault) (rest : A → Result B Fault) (error : CommandError)
+    → IfSome known (λ input. Gives seen (Err error) (first input)) → IfSome known (λ input. Gives view (Err error) (first input >>= rest))
+ends seen view None first rest error is = tt
+ends seen view (Some input) first rest error is = fails seen view (first input) rest error is
+
+-- ---- the end of a command
 
 nothing_written : (known : Option (List ℕ)) → Appends known known []
 nothing_written None = tt
 nothing_written (Some bytes) = sym (append-nil bytes)
 
-pub stops : (due : List ℕ → Printed) (known old : Option (List ℕ)) (status : Status) → IsWantOrFailure status → IfSome known (λ input. Prints old old status (due input))
-stops due None old status want = tt
-stops due (Some input) old Done want = absurd want
-stops due (Some input) old Findings want = absurd want
-stops due (Some input) old BadInput want = absurd want
-stops due (Some input) old Failed want = ([], (due input).text, refl, nothing_written old)
-stops due (Some input) old NoMemory want = ([], (due input).text, refl, nothing_written old)
+no_front : (old : Option (List ℕ)) (text : List ℕ) → AppendsFront old old text
+no_front old text = ([], text, refl, nothing_written old)
 
 all_is_front : (old new : Option (List ℕ)) (text : List ℕ) → Appends old new text → AppendsFront old new text
 all_is_front old new text all = (text, [], sym (append-nil text), all)
 
--- a text that was written as a whole
-pub prints_all : (old new : Option (List ℕ)) (due : Printed) → Appends old new due.text → Prints old new due.status due
-prints_all old new due all = by_status due.status refl
-  where
-    by_status : (status : Status) → status ≡ due.status → Prints old new status due
-    by_status Done same = (same, all)
-    by_status Findings same = (same, all)
-    by_status BadInput same = (same, all)
-    by_status Failed same = all_is_front old new due.text all
-    by_status NoMemory same = all_is_front old new due.text all
+prints_all : (old new : Option (List ℕ)) (due : Printed) (status : Status) → status ≡ due.status → Appends old new due.text → Prints old new status due
+prints_all old new due Done same all = (same, all)
+prints_all old new due Findings same all = (same, all)
+prints_all old new due BadInput same all = (same, all)
+prints_all old new due Failed same all = all_is_front old new due.text all
+prints_all old new due NoMemory same all = all_is_front old new due.text all
 
--- what is answered to the bytes that were read is what is due for all
-pub answered : {A E : Type 0} (read : List ℕ → Result A Fault) (due : Result A Fault → Printed) (known old new : Option (List ℕ)) (text : List ℕ) (answer : Result Answer E) (status : Status)
-    → IfSome known (λ input. text ≡ take 16777217 input) → IfOk answer (λ told. answer_seen told ≡ due (within_limit read text)) → IsWritten old new answer status
-    → IfSome known (λ input. Prints old new status (due (within_limit read input)))
-answered read due None old new text answer status is told written = tt
-answered read due (Some input) old new text (Ok answer) status is told written =
-    let same : answer_seen answer ≡ due (within_limit read input) = told ∙ ap (λ t. due (within_limit read t)) is ∙ ap due (up_to_limit read input) in
-    subst (λ (p : Printed). Prints old new status p) same written
-answered read due (Some input) old new text (Err e) status is told (want, same) = rw (want, same) ([], (due (within_limit read input)).text, refl, nothing_written old)
+prints_written : (old new : Option (List ℕ)) (due : Printed) (status : Status) → IsWritten old new due status → Prints old new status due
+prints_written old new due status (inl (same, all)) = prints_all old new due status same all
+prints_written old new due status (inr (failed, front)) = rw failed front
+
+prints_nothing : (old new : Option (List ℕ)) (due : Printed) (status want : Status) → want ≡ Failed → IsStopped old new want status → Prints old new status due
+prints_nothing old new due status want is (same, kept) = rw (same, is, kept) (no_front old due.text)
+
+out_of_memory : (old new : Option (List ℕ)) (due : Printed) (status : Status) → IsStopped old new NoMemory status → Prints old new status due
+out_of_memory old new due status (same, kept) = rw (same, kept) (no_front old due.text)
+
+-- what was answered is printed, or the fault
+pub finishes : (due : Result Printed Fault) (old new : Option (List ℕ)) (answer : Result Answer CommandError) (status : Status)
+    → Gives answer_seen answer due → Finishes old new answer status → Prints old new status (printed_or_fault due)
+finishes due old new (Ok answer) status is written = rw is (prints_written old new (answer_seen answer) status written)
+finishes due old new (Err (Told fault)) status is (inl written) = rw is (prints_written old new (printed (fault_line fault) BadInput) status written)
+finishes due old new (Err (Told fault)) status is (inr stopped) = out_of_memory old new (printed_or_fault due) status stopped
+finishes due old new (Err ReadFailed) status is stopped = prints_nothing old new (printed_or_fault due) status Failed refl stopped
+finishes due old new (Err OutOfMemory) status is stopped = out_of_memory old new (printed_or_fault due) status stopped
+
+pub finished : (due : List ℕ → Result Printed Fault) (known old new : Option (List ℕ)) (answer : Result Answer CommandError) (status : Status)
+    → IfSome known (λ input. Gives answer_seen answer (due input)) → Finishes old new answer status → IfSome known (λ input. Prints old new status (printed_or_fault (due input)))
+finished due None old new answer status is written = tt
+finished due (Some input) old new answer status is written = finishes (due input) old new answer status is written
+
+pub both_finished : (due : List ℕ → List ℕ → Result Printed Fault) (known other old new : Option (List ℕ)) (answer : Result Answer CommandError) (status : Status)
+    → IfSome known (λ input. IfSome other (λ more. Gives answer_seen answer (due input more))) → Finishes old new answer status
+    → IfSome known (λ input. IfSome other (λ more. Prints old new status (printed_or_fault (due input more))))
+both_finished due None other old new answer status is written = tt
+both_finished due (Some input) other old new answer status is written = finished (due input) other old new answer status is written

@@ -3,8 +3,7 @@ use Rattle.std.proofs.Common.{◌≡◌, ℕ, zero, suc, ◌+◌, List, [], ◌�
 use Rattle.ds_screen.specs.Picture.{Picture}
 use Rattle.ds_keys.specs.declared.key.Key.{Key}
 use Rattle.ds_keys.specs.declared.key.Key.TheVariants.{Typed, Right, Attention}
-use Rattle.ds_keys.specs.declared.pressed.Pressed.{Pressed}
-use Rattle.ds_keys.specs.KeyStep.{Step, KeyStep}
+use Rattle.ds_terminal.specs.Terminal.{KeyReply, KeyTurn, key_turn, pressed}
 use Rattle.ds_keys.specs.KeyRuns.{after, after_key}
 use Rattle.scr_check.specs.declared.finding.Demo.{Demo}
 use Rattle.scr_check.specs.Demos.{demo_keys}
@@ -25,25 +24,16 @@ unfolding after
 again v key zero = refl
 again v key (suc n) = again (after_key v key) key n
 
--- a key that was pressed
-stepped : (before next : Picture) (key : Key) (pressed : Pressed) → KeyStep before key next pressed → next ≡ after_key before key
-stepped before next key pressed is = ap (λ (s : Step). s.after) is
-
-pub pressed_again : (v before next : Picture) (key : Key) (pressed : Pressed) (n : ℕ) → before ≡ after v (replicate n key) → KeyStep before key next pressed
+pub pressed_again : (v before next : Picture) (key : Key) (reply : KeyReply) (n : ℕ) → before ≡ after v (replicate n key) → key_turn next reply ≡ pressed before key
     → next ≡ after v (replicate (n + 1) key)
-pressed_again v before next key pressed n so is =
+pressed_again v before next key reply n so is =
     let more : suc n ≡ n + 1 = omega arith in
-    stepped before next key pressed is ∙ ap (λ w. after_key w key) so ∙ again v key n ∙ ap (λ (m : ℕ). after v (replicate m key)) more
+    ap (λ (turn : KeyTurn). turn.after) is ∙ ap (λ w. after_key w key) so ∙ again v key n ∙ ap (λ (m : ℕ). after v (replicate m key)) more
 
--- one key alone
-alone : (v : Picture) (key : Key) → after_key v key ≡ after v (key ∷ [])
-unfolding after
-alone v key = refl
-
-pub demo_pressed : (v moved typed next : Picture) (pressed : Pressed) (demo : Demo) → moved ≡ after v (replicate demo.rights Right)
-    → typed ≡ after moved (replicate demo.types (Typed 0xC1)) → KeyStep typed (Attention 0x7D) next pressed → next ≡ after v (demo_keys demo)
-demo_pressed v moved typed next pressed demo moves types is =
-    stepped typed next (Attention 0x7D) pressed is ∙ alone typed (Attention 0x7D)
+pub demo_pressed : (v moved typed next : Picture) (demo : Demo) → moved ≡ after v (replicate demo.rights Right)
+    → typed ≡ after moved (replicate demo.types (Typed 0xC1)) → next ≡ after typed (replicate 1 (Attention 0x7D)) → next ≡ after v (demo_keys demo)
+demo_pressed v moved typed next demo moves types enters =
+    enters
     ∙ ap (λ w. after w (Attention 0x7D ∷ [])) types
     ∙ sym (in_parts moved (replicate demo.types (Typed 0xC1)) (Attention 0x7D ∷ []))
     ∙ ap (λ w. after w (replicate demo.types (Typed 0xC1) ++ Attention 0x7D ∷ [])) moves

@@ -11,7 +11,8 @@ use Rattle.ds_codec.proofs.Below.{both_true}
 use Rattle.order_lines.specs.Told.{Told, told_of}
 use Rattle.scr_layout.specs.SizeText.{size_of_text}
 use Rattle.term_commands.specs.Sizes.{is_space, geometry_from, geometry_in, geometry_told}
-use Rattle.term_commands.specs.Drafts.{comment, sized, bad, sized_or_told, text_said, said_of}
+use Rattle.term_commands.specs.declared.input.sizes.SizeLine.TheVariants.{Allowed}
+use Rattle.term_commands.specs.Drafts.{comment, sizes, bad, sizes_or_words, text_told, line_told}
 use Rattle.term_commands.specs.Law.{TellsSizes}
 
 -- both sizes can be addressed
@@ -54,23 +55,23 @@ from_line line geometry told =
       | false ↦ λ none. absurd cc
     ] told
 
-is_sized : (found : Option Sizes) (told : Option Told) (geometry : Sizes) → sized_or_told found told ≡ sized geometry → found ≡ Some geometry
+is_sized : (found : Option Sizes) (told : Option Told) (geometry : Sizes) → sizes_or_words found told ≡ sizes geometry → found ≡ Some geometry
 is_sized (Some found) told geometry said = cc
 is_sized None (Some told) geometry said = absurd cc
 is_sized None None geometry said = absurd cc
 
-from_text : (line : List ℕ) (geometry : Sizes) → text_said true line ≡ sized geometry → AreAddressed geometry
+from_text : (line : List ℕ) (geometry : Sizes) → text_told Allowed line ≡ sizes geometry → AreAddressed geometry
 from_text [] geometry said = absurd cc
 from_text (b ∷ bs) geometry said =
-    elim (eqb b 0x23) as (λ t. cond t comment (sized_or_told (geometry_told (b ∷ bs)) (told_of (b ∷ bs))) ≡ sized geometry → AreAddressed geometry) [
+    elim (eqb b 0x23) as (λ t. cond t comment (sizes_or_words (geometry_told (b ∷ bs)) (told_of (b ∷ bs))) ≡ sizes geometry → AreAddressed geometry) [
       | true ↦ λ other. absurd cc
       | false ↦ λ some. from_line (b ∷ bs) geometry (is_sized (geometry_told (b ∷ bs)) (told_of (b ∷ bs)) geometry some)
     ] said
 
-from_said : (line : List ℕ) (geometry : Sizes) → said_of true line ≡ sized geometry → AreAddressed geometry
-unfolding said_of
+from_said : (line : List ℕ) (geometry : Sizes) → line_told Allowed line ≡ sizes geometry → AreAddressed geometry
+unfolding line_told
 from_said line geometry said =
-    elim (is_utf8 line) as (λ t. cond t (text_said true line) bad ≡ sized geometry → AreAddressed geometry) [
+    elim (is_utf8 line) as (λ t. cond t (text_told Allowed line) bad ≡ sizes geometry → AreAddressed geometry) [
       | true ↦ λ some. from_text line geometry some
       | false ↦ λ other. absurd cc
     ] said

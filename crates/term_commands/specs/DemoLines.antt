@@ -1,6 +1,5 @@
 -- The line of what is sent once the keys of a finding are pressed.
-use Rattle.std.specs.Prelude.{ℕ, Bool, true, false, List, [], ◌++◌, codes, Option, Some, None, Result, Ok, Err}
-use Rattle.hex.specs.Hex.{encode_upper}
+use Rattle.std.specs.Prelude.{ℕ, false, List, [], ◌++◌, codes, Option, Some, None, Result, Ok, Err}
 use Rattle.ds_screen.specs.Picture.{Picture}
 use Rattle.ds_screen.specs.Records.{new_picture}
 use Rattle.ds_keys.specs.KeyRuns as keyed
@@ -9,25 +8,19 @@ use Rattle.scr_layout.specs.Entry.{Declared}
 use Rattle.scr_layout.specs.Layout.{Declaration}
 use Rattle.scr_check.specs.declared.finding.Demo.{Demo}
 use Rattle.scr_check.specs.declared.finding.Finding.{Finding}
-use Rattle.scr_check.specs.declared.finding.Finding.TheVariants.{Undeclared, UndeclaredFixed, TooLong}
 use Rattle.scr_check.specs.Demos.{demo_keys}
-use Rattle.term_commands.specs.FindingLines.{finding_line}
-use Rattle.term_commands.specs.Printed.{Refusal}
-use Rattle.term_commands.specs.Show.{shown_after}
-
--- the demo that a finding has
-abbrev pub demo_of : Finding → Option Demo
-demo_of (Undeclared place demo) = Some demo
-demo_of (UndeclaredFixed place demo) = Some demo
-demo_of (TooLong found) = found.demo
-demo_of finding = None
+use Rattle.scr_check.specs.FindingText.{demo_of, finding_text}
+use Rattle.ds_terminal.specs.Runs.{RefusedRecord, all_shown}
+use Rattle.term_commands.specs.declared.output.demo.Demos.{Demos}
+use Rattle.term_commands.specs.declared.output.demo.Demos.TheVariants.{Omitted, Printed}
+use Rattle.term_commands.specs.Screen.{sent_line}
 
 -- what the terminal sends once the demo's keys are pressed on a picture
 abbrev pub bytes_replayed : Picture → Demo → List ℕ
 bytes_replayed v demo = bytes_sent (keyed.after v (demo_keys demo)) false
 
 abbrev pub sends_line : Picture → Demo → List ℕ
-sends_line v demo = codes "sends " ++ (encode_upper (bytes_replayed v demo) ++ codes "\n")
+sends_line v demo = sent_line (codes "sends ") (bytes_replayed v demo)
 
 -- the line of a demo from a picture, if there are both
 abbrev pub sends_on : Option Picture → Option Demo → List ℕ
@@ -37,16 +30,16 @@ sends_on (Some v) (Some demo) = sends_line v demo
 
 -- the line of a finding and, from a picture, what its keys send
 abbrev pub finding_lines : List Declared → Option Picture → Finding → List ℕ
-finding_lines entries opened finding = finding_line entries finding ++ sends_on opened (demo_of finding)
+finding_lines entries opened finding = (finding_text entries finding ++ codes "\n") ++ sends_on opened (demo_of finding)
 
--- the picture that is told, where demos are asked for
-abbrev pub asked : {E : Type 0} → Bool → Result Picture E → Option Picture
-asked false told = None
-asked true (Ok v) = Some v
-asked true (Err e) = None
+-- the picture from which demos go, where they are printed
+abbrev pub asked : {E : Type 0} → Demos → Result Picture E → Option Picture
+asked Omitted opened = None
+asked Printed (Ok v) = Some v
+asked Printed (Err e) = None
 
 -- ---- as the program holds it
 
 -- the picture that the records leave on a new terminal of the layout's geometry
-abbrev pub shown_on : Declaration → List (List ℕ) → Result Picture Refusal
-shown_on layout records = shown_after 0 (new_picture layout.geometry) records
+abbrev pub shown_on : Declaration → List (List ℕ) → Result Picture RefusedRecord
+shown_on layout records = all_shown 0 (new_picture layout.geometry) records

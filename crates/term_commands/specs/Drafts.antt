@@ -1,5 +1,5 @@
--- The records that order lines tell, or their first fault.
-use Rattle.std.specs.Prelude.{ℕ, ◌+◌, Bool, true, false, not, nat_le, ◌==◌, List, [], ◌∷◌, ◌++◌, length, Option, Some, None, Result, Ok, Err, if◌then◌else◌}
+-- Order lines, and the records that they tell.
+use Rattle.std.specs.Prelude.{ℕ, ◌+◌, ◌==◌, List, [], ◌∷◌, ◌++◌, length, Option, Some, None, Result, Ok, Err, if◌then◌else◌}
 use Rattle.std.specs.Str.{is_utf8}
 use Rattle.ds_codec.specs.declared.command.Command.{Command}
 use Rattle.ds_codec.specs.Geometry.{Sizes}
@@ -8,47 +8,49 @@ use Rattle.ds_codec.specs.Reading.{◌>>=◌}
 use Rattle.order_lines.specs.Told.{Told, command, order, told_of}
 use Rattle.order_lines.specs.Draft.{Draft}
 use Rattle.term_commands.specs.declared.fault.Fault.{Fault}
-use Rattle.term_commands.specs.declared.fault.Fault.TheVariants.{BadLine, TooLong}
-use Rattle.term_commands.specs.Lines.{lines_in}
-use Rattle.term_commands.specs.Sizes.{geometry_told}
-use Rattle.term_commands.specs.Input.{usual_sizes, within_limit}
+use Rattle.term_commands.specs.declared.fault.Fault.TheVariants.{BadLine}
+use Rattle.term_commands.specs.declared.input.sizes.SizeLine.{SizeLine}
+use Rattle.term_commands.specs.declared.input.sizes.SizeLine.TheVariants.{Allowed, Refused}
+use Rattle.term_commands.specs.Lines.{lines_in, at_most, within_limit}
+use Rattle.term_commands.specs.Sizes.{usual_sizes, sizes_told}
+use Rattle.term_commands.specs.Taking.{taken}
 
 -- ---- one line
 
--- nothing, which ends a record; a comment; sizes; a command or an order
-pub data Said : Type 0 where
-  nothing : Said
-  comment : Said
-  sized : (geometry : Sizes) → Said
-  words : (told : Told) → Said
-  bad : Said
+-- an empty line, which ends a record; a comment; sizes; a command or an order
+pub data OrderLine : Type 0 where
+  empty : OrderLine
+  comment : OrderLine
+  sizes : (geometry : Sizes) → OrderLine
+  words : (told : Told) → OrderLine
+  bad : OrderLine
 
-abbrev pub sized_or_told : Option Sizes → Option Told → Said
-sized_or_told (Some geometry) told = sized geometry
-sized_or_told None (Some told) = words told
-sized_or_told None None = bad
+abbrev pub sizes_or_words : Option Sizes → Option Told → OrderLine
+sizes_or_words (Some geometry) told = sizes geometry
+sizes_or_words None (Some told) = words told
+sizes_or_words None None = bad
 
--- Spaces count. The first line that is neither nothing nor a comment may tell sizes.
-abbrev pub text_said : Bool → List ℕ → Said
-text_said first [] = nothing
-text_said first (b ∷ bs) =
-    if b == 0x23 then comment else sized_or_told (if first then geometry_told (b ∷ bs) else None) (told_of (b ∷ bs))
+-- spaces count
+abbrev pub text_told : SizeLine → List ℕ → OrderLine
+text_told size_line [] = empty
+text_told size_line (b ∷ bs) =
+    if b == 0x23 then comment else sizes_or_words (sizes_told size_line (b ∷ bs)) (told_of (b ∷ bs))
 
-unfoldable pub said_of : Bool → List ℕ → Said
-said_of first line = if is_utf8 line then text_said first line else bad
+unfoldable pub line_told : SizeLine → List ℕ → OrderLine
+line_told size_line line = if is_utf8 line then text_told size_line line else bad
 
 -- ---- lines in turn
 
--- What the lines so far told: whether any was neither nothing nor a comment, the sizes, the records that
--- have ended, and the one that has not.
+-- what lines tell: whether a line of sizes may come next, the sizes, the records that have ended, and the one
+-- that has not
 pub record Drafts : Type 0 where
-  pub begun : Bool
+  pub size_line : SizeLine
   pub geometry : Sizes
   pub ended : List Draft
   pub current : Option Draft
 
 abbrev pub no_drafts : Drafts
-no_drafts = record { begun = false; geometry = usual_sizes; ended = []; current = None }
+no_drafts = record { size_line = Allowed; geometry = usual_sizes; ended = []; current = None }
 
 abbrev pub all_drafts : List Draft → Option Draft → List Draft
 all_drafts ended None = ended
@@ -62,8 +64,8 @@ finished drafts = record drafts { ended = all_drafts drafts.ended drafts.current
 abbrev pub after_command : ℕ → Drafts → Command → Option Draft → Result Drafts Fault
 after_command number drafts told (Some draft) = Err (BadLine number)
 after_command number drafts told None =
-    if nat_le 1000 (length drafts.ended) then Err TooLong
-    else Ok (record drafts { begun = true; current = Some (record { command = told; orders = [] }) })
+    at_most (length drafts.ended + 1) 1000 >>= λ few.
+    Ok (record drafts { size_line = Refused; current = Some (record { command = told; orders = [] }) })
 
 -- an order belongs to the record that has begun
 abbrev pub after_order : ℕ → Drafts → Item → Option Draft → Result Drafts Fault
@@ -71,28 +73,21 @@ after_order number drafts told None = Err (BadLine number)
 after_order number drafts told (Some draft) = Ok (record drafts { current = Some (record draft { orders = draft.orders ++ told ∷ [] }) })
 
 -- what the line of this number adds
-abbrev pub after_said : ℕ → Drafts → Said → Result Drafts Fault
-after_said number drafts nothing = Ok (finished drafts)
-after_said number drafts comment = Ok drafts
-after_said number drafts (sized geometry) = Ok (record drafts { begun = true; geometry = geometry })
-after_said number drafts (words (command told)) = after_command number drafts told drafts.current
-after_said number drafts (words (order told)) = after_order number drafts told drafts.current
-after_said number drafts bad = Err (BadLine number)
+abbrev pub after_told : ℕ → Drafts → OrderLine → Result Drafts Fault
+after_told number drafts empty = Ok (finished drafts)
+after_told number drafts comment = Ok drafts
+after_told number drafts (sizes geometry) = Ok (record drafts { size_line = Refused; geometry = geometry })
+after_told number drafts (words (command told)) = after_command number drafts told drafts.current
+after_told number drafts (words (order told)) = after_order number drafts told drafts.current
+after_told number drafts bad = Err (BadLine number)
 
--- the lines in turn, the first of which has this number
-abbrev pub drafts_after : ℕ → Drafts → List (List ℕ) → Result Drafts Fault
-drafts_after number drafts [] = Ok drafts
-drafts_after number drafts (line ∷ lines) = do
-  next ← after_said number drafts (said_of (not drafts.begun) line)
-  drafts_after (number + 1) next lines
+abbrev pub take_order_line : ℕ → Drafts → List ℕ → Result Drafts Fault
+take_order_line number drafts line = after_told number drafts (line_told drafts.size_line line)
 
 -- the end of the input ends a record, too
-abbrev pub finished_or : Result Drafts Fault → Result Drafts Fault
-finished_or (Ok drafts) = Ok (finished drafts)
-finished_or (Err fault) = Err fault
+abbrev pub drafts_in_lines : List (List ℕ) → Result Drafts Fault
+drafts_in_lines lines = taken take_order_line 1 no_drafts lines >>= λ drafts. Ok (finished drafts)
 
-abbrev pub drafts_in_lines : List ℕ → Result Drafts Fault
-drafts_in_lines input = finished_or (drafts_after 1 no_drafts (lines_in input))
-
+-- the sizes and the records of an input, or its first fault
 abbrev pub drafts_in : List ℕ → Result Drafts Fault
-drafts_in input = within_limit drafts_in_lines input
+drafts_in input = within_limit input >>= λ text. drafts_in_lines (lines_in text)

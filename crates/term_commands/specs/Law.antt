@@ -12,10 +12,11 @@ use Rattle.ds_codec.specs.Writing.{orders_in, IsReadAgain}
 use Rattle.order_lines.specs.Laws.{AreInside}
 use Rattle.term_commands.specs.declared.status.Status.TheVariants.{Done}
 use Rattle.term_commands.specs.Lines.{lines_in}
-use Rattle.term_commands.specs.Input.{usual_sizes}
 use Rattle.term_commands.specs.Printed.{printed}
-use Rattle.term_commands.specs.Convert.{lines_after}
-use Rattle.term_commands.specs.Drafts.{said_of, sized}
+use Rattle.term_commands.specs.declared.input.sizes.SizeLine.TheVariants.{Allowed}
+use Rattle.term_commands.specs.Convert.{lines_printed}
+use Rattle.term_commands.specs.Drafts.{line_told, sizes}
+use Rattle.term_commands.specs.Sizes.{usual_sizes}
 use Rattle.term_commands.specs.Back.{size_after, bytes_line, printed_back}
 
 -- the records consist of bytes
@@ -45,7 +46,7 @@ AllInside geometry size (bytes ∷ others) =
 abbrev pub TellsSizes : List ℕ → Sizes → Type 0
 TellsSizes told geometry =
     ((told ≡ []) × (geometry ≡ usual_sizes))
-    ⊎ ((line : List ℕ) × (told ≡ line ++ codes "\n") × (lines_in told ≡ line ∷ []) × (said_of true line ≡ sized geometry))
+    ⊎ ((line : List ℕ) × (told ≡ line ++ codes "\n") × (lines_in told ≡ line ∷ []) × (line_told Allowed line ≡ sizes geometry))
 
 -- The lines to which records are converted, behind a line of sizes or none, are converted back to records
 -- that are read as the same commands and orders: all records that can be read, whose addresses are below
@@ -53,6 +54,6 @@ TellsSizes told geometry =
 abbrev pub ConvertsBack : Type 0
 ConvertsBack =
     (told : List ℕ) (geometry : Sizes) (records : List (List ℕ)) (lines : List ℕ)
-    → TellsSizes told geometry → AreBytes records → length records ≤ 1000 → lines_after [] 0 records ≡ Ok lines
+    → TellsSizes told geometry → AreBytes records → length records ≤ 1000 → lines_printed 0 records ≡ Ok lines
     → AllInside geometry geometry.default records → length (told ++ lines) ≤ 16777216
     → (others : List (List ℕ)) × (printed_back (told ++ lines) ≡ printed (flat_map bytes_line others) Done) × AreTheSame geometry.mode records others

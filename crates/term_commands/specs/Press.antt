@@ -1,43 +1,41 @@
 -- What `press` prints, as a function of its two inputs, and its status.
-use Rattle.std.specs.Prelude.{ℕ, List, [], ◌∷◌, ◌++◌, codes, Result, false}
+use Rattle.std.specs.Prelude.{ℕ, List, [], ◌∷◌, ◌++◌, codes, Result, Ok}
 use Rattle.std.specs.Fmt.{decimal}
-use Rattle.hex.specs.Hex.{encode_upper}
+use Rattle.ds_codec.specs.Reading.{◌>>=◌}
 use Rattle.ds_screen.specs.Picture.{Picture}
-use Rattle.ds_screen.specs.Records.{new_picture}
 use Rattle.ds_keys.specs.declared.key.Key.{Key}
-use Rattle.ds_keys.specs.declared.pressed.Pressed.{Pressed}
-use Rattle.ds_keys.specs.declared.pressed.Pressed.TheVariants.{Done, Inhibited, Ignored, Sent}
-use Rattle.ds_keys.specs.KeyRuns.{after_key, answer_of}
-use Rattle.ds_inbound.specs.Answer.{bytes_sent}
+use Rattle.ds_terminal.specs.Terminal.{KeyReply, done, inhibited, ignored, sent, KeyTurn, pressed}
 use Rattle.term_commands.specs.declared.fault.Fault.{Fault}
-use Rattle.term_commands.specs.declared.status.Status.TheVariants as status
-use Rattle.term_commands.specs.Input.{Found, found_in}
-use Rattle.term_commands.specs.KeyLines.{keys_in}
-use Rattle.term_commands.specs.Printed.{Printed, printed, printed_or, Refusal, refusal_line, fault_line}
-use Rattle.term_commands.specs.Show.{shown_after}
+use Rattle.term_commands.specs.declared.input.sizes.SizeLine.TheVariants.{Allowed}
+use Rattle.term_commands.specs.declared.status.Status.TheVariants.{Done}
+use Rattle.term_commands.specs.Keys.{keys_in}
+use Rattle.term_commands.specs.Printed.{Printed, printed, printed_or_fault}
+use Rattle.term_commands.specs.Records.{records_in}
+use Rattle.term_commands.specs.Screen.{sent_line}
+use Rattle.term_commands.specs.Shown.{shown_on}
 
--- a key's line: the cursor that it leaves, or the bytes that are sent
-abbrev pub pressed_line : Pressed → Picture → List ℕ
-pressed_line Done v = codes "done " ++ (decimal v.cursor ++ codes "\n")
-pressed_line Inhibited v = codes "inhibited " ++ (decimal v.cursor ++ codes "\n")
-pressed_line Ignored v = codes "ignored " ++ (decimal v.cursor ++ codes "\n")
-pressed_line (Sent aid) v = codes "sent " ++ (encode_upper (bytes_sent v false) ++ codes "\n")
+-- a reply's line: where the key leaves the cursor, or the bytes that are sent
+abbrev pub reply_line : ℕ → KeyReply → List ℕ
+reply_line cursor done = codes "done " ++ (decimal cursor ++ codes "\n")
+reply_line cursor inhibited = codes "inhibited " ++ (decimal cursor ++ codes "\n")
+reply_line cursor ignored = codes "ignored " ++ (decimal cursor ++ codes "\n")
+reply_line cursor (sent bytes) = sent_line (codes "sent ") bytes
+
+abbrev pub turn_line : KeyTurn → List ℕ
+turn_line turn = reply_line turn.after.cursor turn.reply
 
 -- the lines of the keys in turn
 abbrev pub pressed_text : Picture → List Key → List ℕ
 pressed_text v [] = []
-pressed_text v (key ∷ keys) = pressed_line (answer_of v key) (after_key v key) ++ pressed_text (after_key v key) keys
+pressed_text v (key ∷ keys) = turn_line (pressed v key) ++ pressed_text (pressed v key).after keys
 
-abbrev pub printed_pressed : List Key → Result Picture Refusal → Printed
-printed_pressed keys told = printed_or (λ v. printed (pressed_text v keys) status.Done) refusal_line told
-
-abbrev pub printed_keys : Found → Result (List Key) Fault → Printed
-printed_keys found told =
-    printed_or (λ keys. printed_pressed keys (shown_after 0 (new_picture found.geometry) found.records)) fault_line told
-
-abbrev pub printed_told : List ℕ → Result Found Fault → Printed
-printed_told keys told = printed_or (λ found. printed_keys found (keys_in keys)) fault_line told
+abbrev pub press : List ℕ → List ℕ → Result Printed Fault
+press records lines = do
+  told ← records_in Allowed records
+  keys ← keys_in lines
+  v ← shown_on told.geometry told.records
+  Ok (printed (pressed_text v keys) Done)
 
 -- what `press` prints for records and keys, and its status
 abbrev pub printed_press : List ℕ → List ℕ → Printed
-printed_press records keys = printed_told keys (found_in records)
+printed_press records keys = printed_or_fault (press records keys)

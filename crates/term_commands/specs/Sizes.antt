@@ -5,6 +5,12 @@ use Rattle.ds_codec.specs.declared.size.Size.{Size}
 use Rattle.ds_codec.specs.declared.size.Mode.TheVariants.{Bits14}
 use Rattle.ds_codec.specs.Geometry.{Sizes, geometry_of}
 use Rattle.scr_layout.specs.SizeText.{size_of_text}
+use Rattle.term_commands.specs.declared.input.sizes.SizeLine.{SizeLine}
+use Rattle.term_commands.specs.declared.input.sizes.SizeLine.TheVariants.{Allowed, Refused}
+
+-- 24 rows of 80 columns, both sizes
+abbrev pub usual_sizes : Sizes
+usual_sizes = record { default = record { rows = 24; cols = 80 }; alternate = record { rows = 24; cols = 80 }; mode = Bits14 }
 
 abbrev pub is_space : ℕ → Bool
 is_space c = c == 0x20
@@ -23,3 +29,8 @@ geometry_in words =
 -- the word `size`, a space, and sizes that a terminal can have
 abbrev pub geometry_told : List ℕ → Option Sizes
 geometry_told line = if starts_with nat_eq line (codes "size ") then geometry_in (drop 5 line) else None
+
+-- the same where such a line may come
+abbrev pub sizes_told : SizeLine → List ℕ → Option Sizes
+sizes_told Allowed line = geometry_told line
+sizes_told Refused line = None

@@ -1,9 +1,18 @@
-//! A law on `convert`.
+//! Laws on lines, and on `convert`.
 
 ghost use Rattle.term_commands.specs.Law.{ConvertsBack};
+ghost use Rattle.term_commands.specs.Says.{KeysAreNamed, RecordsAreTold, TellFirstFaults};
 
 /// Records that are converted to order lines and back are read as the same commands and orders. It does
 /// nothing: its contract is the law.
 pub fn convert_law()
     ensures { ConvertsBack }
+{}
+
+/// Lines tell keys exactly where they name them, and records exactly where they spell them; of records, keys
+/// and order lines a fault is told exactly where it is the first. It does nothing: its contract is the law.
+pub fn lines_law()
+    ensures keys { KeysAreNamed }
+    ensures records { RecordsAreTold }
+    ensures faults { TellFirstFaults }
 {}

@@ -1,32 +1,20 @@
-//! The commands of the program `term3270`, each over readers and a writer.
+//! The commands of the program `term3270`, each over readers and a writer: inputs are read line by line
+//! (`input`), a command makes an answer of them (`commands`), and it is written (`output`).
 #![tactic(auto)]
 
-mod answer;
-mod back;
-mod check;
-mod convert;
-mod demo;
-mod drafts;
+mod commands;
 mod fault;
-mod findings;
 mod input;
-mod keys;
 mod law;
-mod lines;
-mod press;
-mod show;
-mod sizes;
+mod output;
+mod shown;
 mod status;
-mod stream;
 
-pub use back::run_convert_back;
-pub use check::run_check;
-pub use convert::run_convert;
-pub use law::convert_law;
-pub use press::run_press;
-pub use show::run_show;
+pub use commands::{run_check, run_convert, run_convert_back, run_press, run_show};
+pub use fault::failure;
+pub use law::{convert_law, lines_law};
+pub use output::demo::Demos;
 pub use status::Status;
-pub use stream::failure;
 
 #[cfg(test)]
 mod tests;

@@ -1,13 +1,12 @@
 //! Commands over readers and writers in memory, and over ones that fail.
 
-use crate::convert::run_convert;
-use crate::show::run_show;
-use crate::status::Status;
+use crate::{Status, run_convert, run_show};
 use std::io;
 use std::io::{Read, Write};
 use std::test::Fail;
 
 mod back;
+mod streams;
 mod two_inputs;
 
 const INPUT: &str = "size 2x10\nF5C21D60C11D40131140C61DF0\n";

@@ -68,3 +68,45 @@ fn cells_are_reserved(rt: HostRuntime) -> Result<(), Fail> {
     assert!(rt; cells.attr_before(0).is_none());
     Ok(())
 }
+
+#[test]
+fn what_is_open(rt: HostRuntime) -> Result<(), Fail> {
+    let alloc = rt.alloc();
+    let mut screen = screen_after(alloc, &[FORM])?;
+    let n = screen.size().cells();
+    for (p, open) in [
+        (0, false),
+        (1, false),
+        (2, false),
+        (3, true),
+        (5, true),
+        (6, false),
+        (7, false),
+    ] {
+        if p < n {
+            assert_eq!(rt; screen.is_open(p), open, "position {p}");
+        }
+    }
+    for (from, place) in [(0, 3), (3, 3), (4, 4), (6, 3), (19, 3)] {
+        if from < n {
+            assert_eq!(rt; screen.first_open(from), place, "from {from}");
+        }
+    }
+    write(
+        &mut screen,
+        &[
+            0xF1, 0xC0, 0x11, 0x40, 0xC4, 0xC2, 0x11, 0x40, 0xC2, 0x1D, 0xC1, 0x13,
+        ],
+    )?;
+    assert_eq!(rt; text_of(alloc, &screen)?.as_str(), "@A@.B.@.............");
+    screen.clear_unprotected();
+    assert_eq!(rt; text_of(alloc, &screen)?.as_str(), "@A@...@.............");
+    assert_eq!(rt; screen.cursor(), 3);
+    assert_eq!(rt; screen.lock(), Lock::Free);
+    let modified = screen
+        .fields()
+        .filter(|field| field.attr.modified())
+        .count();
+    assert_eq!(rt; modified, 0);
+    Ok(())
+}

@@ -1,10 +1,7 @@
 //! `convert --back`: order lines to records.
 
-use crate::back::run_convert_back;
-use crate::convert::run_convert;
-use crate::law::convert_law;
-use crate::status::Status;
 use crate::tests::{Narrow, Slow};
+use crate::{Status, convert_law, run_convert, run_convert_back};
 use std::alloc::Global;
 use std::process::Abort;
 use std::test::Fail;

@@ -1,9 +1,7 @@
 //! `check` and `press` over readers and writers in memory, and over ones that fail.
 
 use super::{Narrow, Slow};
-use crate::check::run_check;
-use crate::press::run_press;
-use crate::status::Status;
+use crate::{Demos, Status, run_check, run_press};
 use std::alloc::Global;
 use std::test::Fail;
 
@@ -52,7 +50,7 @@ fn checked(
     alloc: Global,
     layout: &[u8],
     records: &str,
-    demos: bool,
+    demos: Demos,
     due: &str,
 ) -> Result<Option<Status>, Fail> {
     let mut layout = layout;
@@ -113,7 +111,7 @@ fn checks_a_record(rt: HostRuntime) -> Result<(), Fail> {
         ),
     ];
     for (name, layout, records, due, status) in rows {
-        let answer = checked(rt.alloc(), layout, records, false, due)?;
+        let answer = checked(rt.alloc(), layout, records, Demos::Omitted, due)?;
         assert_eq!(rt; answer, Some(status), "{name}");
     }
     Ok(())
@@ -174,7 +172,7 @@ sends 7D40C41140C1C11140C3C1
         ),
     ];
     for (name, layout, records, due) in rows {
-        let answer = checked(rt.alloc(), layout.as_bytes(), records, true, due)?;
+        let answer = checked(rt.alloc(), layout.as_bytes(), records, Demos::Printed, due)?;
         assert_eq!(rt; answer, Some(Status::Findings), "{name}");
     }
     Ok(())
@@ -207,7 +205,7 @@ fn presses_nothing_where_no_keys_are_named(rt: HostRuntime) -> Result<(), Fail> 
         ),
     ];
     for (name, layout, records, due, status) in rows {
-        let answer = checked(rt.alloc(), layout.as_bytes(), records, true, due)?;
+        let answer = checked(rt.alloc(), layout.as_bytes(), records, Demos::Printed, due)?;
         assert_eq!(rt; answer, Some(status), "{name}");
     }
     Ok(())
@@ -286,7 +284,13 @@ fn a_failed_read_of_either_prints_nothing(rt: HostRuntime) -> Result<(), Fail> {
         };
         let mut reader = FORM.as_bytes();
         let mut writer = Vec::new(rt.alloc());
-        let status = run_check(rt.alloc(), &mut layout, &mut reader, &mut writer, false);
+        let status = run_check(
+            rt.alloc(),
+            &mut layout,
+            &mut reader,
+            &mut writer,
+            Demos::Omitted,
+        );
         assert_eq!(rt; status, Status::Failed, "read {fails_at}");
         assert!(rt; writer.is_empty(), "read {fails_at}");
     }

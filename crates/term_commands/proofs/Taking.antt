@@ -1,0 +1,20 @@
+-- Lines that a program takes in turn.
+use Rattle.std.proofs.Common.{◌≡◌, ℕ, ◌+◌, List, [], ◌∷◌, Ok, Err, refl, inl, inr}
+use Rattle.std.specs.Prelude.{Result}
+use Rattle.term_commands.specs.declared.fault.Fault.{Fault}
+use Rattle.term_commands.specs.declared.fault.CommandError.{CommandError}
+use Rattle.term_commands.specs.declared.fault.CommandError.TheVariants.{Fault as Told, ReadFailed, OutOfMemory}
+use Rattle.term_commands.specs.Fault.{Gives}
+use Rattle.term_commands.specs.Taking.{taken, TakesAll}
+
+ends_there : {T A : Type 0} (view : T → A) (take : ℕ → A → List ℕ → Result A Fault) (number : ℕ) (told : A) (line : List ℕ) (lines : List (List ℕ)) (error : CommandError)
+    → Gives view (Err error) (take number told line) → Gives view (Err error) (taken take number told (line ∷ lines))
+ends_there view take number told line lines (Told fault) fails = rw fails refl
+ends_there view take number told line lines ReadFailed fails = tt
+ends_there view take number told line lines OutOfMemory fails = tt
+
+pub gives_taken : {T A : Type 0} (view : T → A) (take : ℕ → A → List ℕ → Result A Fault) (number : ℕ) (told : T) (lines : List (List ℕ)) (result : Result T CommandError)
+    → TakesAll (λ n t line r. Gives view r (take n (view t) line)) number told lines result → Gives view result (taken take number (view told) lines)
+gives_taken view take number told [] result is = rw is refl
+gives_taken view take number told (line ∷ lines) result (inl (error, fails, is)) = rw is (ends_there view take number (view told) line lines error fails)
+gives_taken view take number told (line ∷ lines) result (inr (next, goes, rest)) = rw goes (gives_taken view take (number + 1) next lines result rest)

@@ -1,0 +1,18 @@
+use Rattle.std.proofs.Common.{◌≡◌, ◌∙◌, ℕ, List, map, subst, sym, ap}
+use Rattle.std.specs.Prelude.{IfOk}
+use Rattle.std.specs.List.{flat_map}
+use Rattle.scr_check.specs.declared.finding.Finding.{Finding}
+use Rattle.term_commands.specs.declared.status.Status.TheVariants.{Findings}
+use Rattle.term_commands.specs.DemoLines.{finding_lines, asked, shown_on}
+use Rattle.term_commands.specs.Printed.{Printed, printed}
+use Rattle.term_commands.specs.Held.{answer_seen}
+use Rattle.term_commands.proofs.Checked.{some_findings}
+use Rattle.term_commands.proofs.commands.check.verdict_text.Goals as goal
+
+pub returns-in-No : goal.returns-in-No
+returns-in-No c =
+    let lines : Finding → List ℕ = finding_lines c.args.layout.now.entries (asked c.args.demos (shown_on c.args.layout.now (map (λ bytes. bytes.items) c.args.records.now))) in
+    rw c.in-No.is (subst (λ (p : Printed). IfOk c.found.result (λ answer. answer_seen answer ≡ p))
+    (ap (λ (fs : List Finding). printed (flat_map lines fs) Findings) c.as_slice.ensures.value
+    ∙ sym (some_findings lines c.in-No.findings.items (rw c.in-No.is at c.requires)))
+    c.found.ensures)

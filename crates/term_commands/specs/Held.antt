@@ -1,0 +1,71 @@
+-- Inputs and answers as the program holds them.
+use Rattle.std.specs.Prelude.{◌≡◌, ℕ, List, map, Result, Ok, Err}
+use Rattle.std.specs.Option.{option_map}
+use Rattle.std.specs.Global.{Vec}
+use Rattle.std.specs.String.{string_bytes}
+use Rattle.ds_keys.specs.declared.key.Key.{Key}
+use Rattle.ds_screen.specs.Picture.{Picture}
+use Rattle.ds_terminal.specs.Runs.{RefusedRecord, all_shown}
+use Rattle.order_lines.specs.Told.{told_held}
+use Rattle.order_lines.specs.Draft.{draft_held}
+use Rattle.term_commands.specs.declared.fault.Fault.{Fault}
+use Rattle.term_commands.specs.declared.fault.Fault.TheVariants.{RecordRefused}
+use Rattle.term_commands.specs.declared.input.records.Line as held_line
+use Rattle.term_commands.specs.declared.input.records.Line.TheVariants as line
+use Rattle.term_commands.specs.declared.input.records.Records as held_records
+use Rattle.term_commands.specs.declared.input.keys.KeyLine as held_key_line
+use Rattle.term_commands.specs.declared.input.keys.KeyLine.TheVariants as key_line
+use Rattle.term_commands.specs.declared.input.keys.Keys as held_keys
+use Rattle.term_commands.specs.declared.input.drafts.OrderLine as held_order_line
+use Rattle.term_commands.specs.declared.input.drafts.OrderLine.TheVariants as order_line
+use Rattle.term_commands.specs.declared.input.drafts.Drafts as held_drafts
+use Rattle.term_commands.specs.declared.output.answer.Answer.{Answer}
+use Rattle.term_commands.specs.Drafts as drafts
+use Rattle.term_commands.specs.Keys as keys
+use Rattle.term_commands.specs.Printed.{Printed}
+use Rattle.term_commands.specs.Records as records
+
+abbrev pub records_held : List (Vec ℕ) → List (List ℕ)
+records_held records = map (λ bytes. bytes.items) records
+
+-- ---- inputs
+
+abbrev pub line_seen : held_line.Line → records.Line
+line_seen line.Ignored = records.ignored
+line_seen (line.Sizes geometry) = records.sizes geometry
+line_seen (line.Record bytes) = records.outbound bytes.items
+line_seen line.Bad = records.bad
+
+abbrev pub records_seen : held_records.Records → records.Records
+records_seen told = record { size_line = told.size_line; geometry = told.geometry; records = records_held told.records.items }
+
+abbrev pub key_line_seen : held_key_line.KeyLine → keys.KeyLine
+key_line_seen key_line.Ignored = keys.ignored
+key_line_seen (key_line.Named key) = keys.named key
+key_line_seen key_line.Bad = keys.bad
+
+abbrev pub keys_seen : held_keys.Keys → List Key
+keys_seen told = told.keys.items
+
+abbrev pub order_line_seen : held_order_line.OrderLine → drafts.OrderLine
+order_line_seen order_line.Empty = drafts.empty
+order_line_seen order_line.Comment = drafts.comment
+order_line_seen (order_line.Sizes geometry) = drafts.sizes geometry
+order_line_seen (order_line.Words told) = drafts.words (told_held told)
+order_line_seen order_line.Bad = drafts.bad
+
+abbrev pub drafts_seen : held_drafts.Drafts → drafts.Drafts
+drafts_seen told =
+    record { size_line = told.size_line; geometry = told.geometry; ended = map draft_held told.ended.items; current = option_map draft_held told.current }
+
+-- ---- answers
+
+-- the records led from one picture to the other, or one is refused
+abbrev pub ShowsAll : Picture → Picture → List (Vec ℕ) → Result (Unit {0}) Fault → Type 0
+ShowsAll old new records (Ok done) = all_shown 0 old (records_held records) ≡ Ok new
+ShowsAll old new records (Err fault) =
+    (first : RefusedRecord) × (all_shown 0 old (records_held records) ≡ Err first) × (fault ≡ RecordRefused first.index first.why)
+
+-- an answer as it is printed
+abbrev pub answer_seen : Answer → Printed
+answer_seen answer = record { text = string_bytes answer.text; status = answer.status }

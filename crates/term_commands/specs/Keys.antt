@@ -1,0 +1,40 @@
+-- Lines of keys, and the keys that they name.
+use Rattle.std.specs.Prelude.{ℕ, ◌+◌, List, [], ◌∷◌, ◌++◌, length, Option, Some, None, Result, Ok, Err, if◌then◌else◌}
+use Rattle.std.specs.Str.{is_utf8}
+use Rattle.ds_codec.specs.Reading.{◌>>=◌}
+use Rattle.ds_keys.specs.declared.key.Key.{Key}
+use Rattle.ds_keys.specs.Lines.{key_of}
+use Rattle.term_commands.specs.declared.fault.Fault.{Fault}
+use Rattle.term_commands.specs.declared.fault.Fault.TheVariants.{BadKeyLine}
+use Rattle.term_commands.specs.Lines.{lines_in, is_ignored, at_most, within_limit}
+use Rattle.term_commands.specs.Taking.{taken}
+
+-- ---- one line
+
+pub data KeyLine : Type 0 where
+  ignored : KeyLine
+  named : (key : Key) → KeyLine
+  bad : KeyLine
+
+abbrev pub key_or_bad : Option Key → KeyLine
+key_or_bad None = bad
+key_or_bad (Some key) = named key
+
+-- spaces count: a line of spaces alone names no key
+abbrev pub key_told : List ℕ → KeyLine
+key_told line = if is_utf8 line then (if is_ignored line then ignored else key_or_bad (key_of line)) else bad
+
+-- ---- lines in turn
+
+-- what the line of this number adds; at most 100,000 keys
+abbrev pub after_key_line : ℕ → List Key → KeyLine → Result (List Key) Fault
+after_key_line number keys ignored = Ok keys
+after_key_line number keys (named key) = at_most (length keys + 1) 100000 >>= λ few. Ok (keys ++ key ∷ [])
+after_key_line number keys bad = Err (BadKeyLine number)
+
+abbrev pub take_key : ℕ → List Key → List ℕ → Result (List Key) Fault
+take_key number keys line = after_key_line number keys (key_told line)
+
+-- the keys of an input, or its first fault
+abbrev pub keys_in : List ℕ → Result (List Key) Fault
+keys_in input = within_limit input >>= λ text. taken take_key 1 [] (lines_in text)

@@ -1,0 +1,13 @@
+//! The commands, each a function of its inputs.
+
+mod back;
+mod check;
+mod convert;
+mod press;
+mod show;
+
+pub use back::run_convert_back;
+pub use check::run_check;
+pub use convert::run_convert;
+pub use press::run_press;
+pub use show::run_show;

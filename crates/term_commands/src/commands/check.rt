@@ -1,0 +1,132 @@
+//! The command `check`: what stands against records and a layout.
+
+ghost use Rattle.std.specs.Prelude.{◌≡◌, map, IfErr, IfOk, IfSome};
+ghost use Rattle.std.specs.List.{flat_map};
+ghost use Rattle.scr_check.specs.Seen.{findings_in, TellsSome};
+ghost use Rattle.term_commands.specs.declared.status.Status.TheVariants.{Findings};
+ghost use Rattle.term_commands.specs.Check.{printed_verdict, printed_answer, check, printed_check};
+ghost use Rattle.term_commands.specs.DemoLines.{finding_lines, asked, shown_on};
+ghost use Rattle.term_commands.specs.Fault.{Gives};
+ghost use Rattle.term_commands.specs.Held.{answer_seen, records_held};
+ghost use Rattle.term_commands.specs.LayoutText.{layout_in};
+ghost use Rattle.term_commands.specs.Printed.{printed};
+ghost use Rattle.term_commands.specs.Streams.{Prints};
+
+use crate::fault::CommandError;
+use crate::input::layout::read_layout;
+use crate::input::records::read_records;
+use crate::input::sizes::SizeLine;
+use crate::output::answer::{Answer, finish};
+use crate::output::demo::{Demos, demo_terminal};
+use crate::output::findings::push_findings;
+use crate::status::Status;
+use scr_check::{Finding, Verdict, check};
+use scr_layout::Layout;
+use std::alloc::{AllocError, Global};
+use std::io::{Read, Write};
+
+/// The records as slices.
+fn lent<'a>(alloc: Global, records: &'a [Vec<u8>]) -> Result<Vec<&'a [u8]>, AllocError>
+    ensures { IfOk result (λ v. map (λ bytes. bytes.now) v.items ≡ records_held records.now) }
+{
+    let mut slices = Vec::new(alloc);
+    for bytes in records {
+        slices.push(bytes.as_slice())?;
+    }
+    Ok(slices)
+}
+
+/// The findings.
+fn found(
+    alloc: Global,
+    layout: &Layout,
+    records: &[Vec<u8>],
+    demos: Demos,
+    findings: &[Finding],
+) -> Result<Answer, AllocError>
+    ensures { IfOk result (λ answer. answer_seen answer
+        ≡ printed (flat_map (finding_lines layout.now.entries (asked demos (shown_on layout.now (records_held records.now)))) findings.now) Findings) }
+{
+    let mut text = String::new(alloc);
+    let terminal = demo_terminal(alloc, layout, records, demos)?;
+    push_findings(alloc, &mut text, layout, terminal.as_ref(), findings)?;
+    Ok(Answer {
+        text,
+        status: Status::Findings,
+    })
+}
+
+/// `yes`, or the findings.
+fn verdict_text(
+    alloc: Global,
+    layout: &Layout,
+    records: &[Vec<u8>],
+    demos: Demos,
+    verdict: &Verdict,
+) -> Result<Answer, AllocError>
+    requires { TellsSome verdict.now }
+    ensures { IfOk result (λ answer. answer_seen answer
+        ≡ printed_verdict (finding_lines layout.now.entries (asked demos (shown_on layout.now (records_held records.now)))) (findings_in verdict.now)) }
+{
+    match verdict {
+        Verdict::Yes => Ok(Answer {
+            text: String::from_str(alloc, "yes\n")?,
+            status: Status::Done,
+        }),
+        Verdict::No(findings) => found(alloc, layout, records, demos, findings.as_slice()),
+    }
+}
+
+/// What is answered to the records.
+fn answer_to(
+    alloc: Global,
+    layout: &Layout,
+    records: &[Vec<u8>],
+    demos: Demos,
+) -> Result<Answer, AllocError>
+    ensures { IfOk result (λ answer. answer_seen answer
+        ≡ printed_answer demos layout.now (records_held records.now)) }
+{
+    let slices = lent(alloc, records)?;
+    let verdict = check(alloc, slices.as_slice(), layout)?;
+    verdict_text(alloc, layout, records, demos, &verdict)
+}
+
+fn check_records<L: Read, R: Read>(
+    alloc: Global,
+    layout: &mut L,
+    reader: &mut R,
+    demos: Demos,
+) -> Result<Answer, CommandError>
+    ensures answer { IfSome (L.remaining layout.old) (λ text. IfSome (R.remaining
+        reader.old) (λ input. Gives answer_seen result (check demos text input))) }
+    ensures unread { IfSome (L.remaining layout.old) (λ text. IfErr (layout_in text) (λ fault.
+        reader.new ≡ reader.old)) }
+{
+    let layout = read_layout(alloc, layout)?;
+    let told = read_records(alloc, reader, SizeLine::Refused)?;
+    Ok(answer_to(alloc, &layout, told.records.as_slice(), demos)?)
+}
+
+/// Reads a layout and then records in hexadecimal, one a line, and prints `yes` or what stands against
+/// them, where demos are printed with what the keys of a finding send; or the first fault: of the
+/// layout, then of the lines. Records aren't read where the layout has a fault. The sizes are the
+/// layout's, so a line of sizes is bad. At most 16,777,216 bytes of either, 1,000 records of 32,768
+/// bytes. After a read or a write that failed the status is `Failed`, where memory was refused
+/// `NoMemory`, and a front of the text was written.
+pub fn run_check<L: Read, R: Read, W: Write>(
+    alloc: Global,
+    layout: &mut L,
+    reader: &mut R,
+    writer: &mut W,
+    demos: Demos,
+) -> Status
+    ensures prints { IfSome (L.remaining layout.old) (λ text. IfSome (R.remaining
+        reader.old) (λ input.
+        Prints (W.contents writer.old) (W.contents writer.new) result (printed_check demos text input))) }
+    ensures unread { IfSome (L.remaining layout.old) (λ text. IfErr (layout_in text) (λ fault.
+        reader.new ≡ reader.old)) }
+{
+    let answer = check_records(alloc, layout, reader, demos);
+    finish(alloc, writer, answer)
+}

@@ -1,0 +1,119 @@
+//! The command `press`: the operator's keys on a screen, with the bytes that go out.
+
+ghost use Rattle.std.specs.Prelude.{◌≡◌, ◌++◌, IfErr, IfSome, OnOk};
+ghost use Rattle.std.specs.String.{string_bytes};
+ghost use Rattle.ds_terminal.specs.Seen.{key_reply_seen};
+ghost use Rattle.ds_terminal.specs.Terminal.{pressed};
+ghost use Rattle.term_commands.specs.declared.input.sizes.SizeLine.TheVariants.{Allowed};
+ghost use Rattle.term_commands.specs.Fault.{Gives};
+ghost use Rattle.term_commands.specs.Held.{answer_seen};
+ghost use Rattle.term_commands.specs.Press.{reply_line, turn_line, pressed_text, press, printed_press};
+ghost use Rattle.term_commands.specs.Records.{records_in};
+ghost use Rattle.term_commands.specs.Streams.{Prints};
+
+use crate::fault::CommandError;
+use crate::input::keys::read_keys;
+use crate::input::records::read_records;
+use crate::input::sizes::SizeLine;
+use crate::output::answer::{Answer, finish};
+use crate::output::bytes::push_sent;
+use crate::shown::show_all;
+use crate::status::Status;
+use ds_keys::Key;
+use ds_screen::PlainCells;
+use ds_terminal::{KeyReply, Terminal};
+use std::alloc::{AllocError, Global};
+use std::io::{Read, Write};
+
+/// The line of a reply; the key leaves the cursor there.
+fn push_reply(
+    alloc: Global,
+    out: &mut String,
+    cursor: u32,
+    reply: &KeyReply,
+) -> Result<(), AllocError>
+    ensures { OnOk result
+        (string_bytes out.new ≡ string_bytes out.old ++ reply_line cursor (key_reply_seen reply.now)) }
+{
+    match reply {
+        KeyReply::Done => write!(out, "done {cursor}\n"),
+        KeyReply::Inhibited => write!(out, "inhibited {cursor}\n"),
+        KeyReply::Ignored => write!(out, "ignored {cursor}\n"),
+        KeyReply::Sent(bytes) => push_sent(alloc, out, "sent ", bytes.as_slice()),
+    }
+}
+
+/// The line of a key that is pressed.
+fn push_key(
+    alloc: Global,
+    out: &mut String,
+    terminal: &mut Terminal<PlainCells>,
+    key: Key,
+) -> Result<(), AllocError>
+    ensures line { OnOk result (string_bytes out.new ≡ string_bytes out.old
+        ++ turn_line (pressed terminal.old key)) }
+    ensures pressed { OnOk result (terminal.new ≡ (pressed terminal.old key).after) }
+{
+    let reply = terminal.press(alloc, key)?;
+    push_reply(alloc, out, terminal.screen().cursor(), &reply)
+}
+
+/// The lines of keys that are pressed in turn.
+fn push_keys(
+    alloc: Global,
+    out: &mut String,
+    terminal: &mut Terminal<PlainCells>,
+    keys: &[Key],
+) -> Result<(), AllocError>
+    ensures { OnOk result
+        (string_bytes out.new ≡ string_bytes out.old ++ pressed_text terminal.old keys.now) }
+{
+    for key in keys {
+        push_key(alloc, out, terminal, *key)?;
+    }
+    Ok(())
+}
+
+fn press_keys<R: Read, K: Read>(
+    alloc: Global,
+    reader: &mut R,
+    keys: &mut K,
+) -> Result<Answer, CommandError>
+    ensures answer { IfSome (R.remaining reader.old) (λ input. IfSome (K.remaining
+        keys.old) (λ lines. Gives answer_seen result (press input lines))) }
+    ensures unread { IfSome (R.remaining reader.old) (λ input.
+        IfErr (records_in Allowed input) (λ fault. keys.new ≡ keys.old)) }
+{
+    let told = read_records(alloc, reader, SizeLine::Allowed)?;
+    let named = read_keys(alloc, keys)?;
+    let mut terminal = Terminal::<PlainCells>::new(alloc, told.geometry)?;
+    show_all(&mut terminal, told.records.as_slice())?;
+    let mut text = String::new(alloc);
+    push_keys(alloc, &mut text, &mut terminal, named.keys.as_slice())?;
+    Ok(Answer {
+        text,
+        status: Status::Done,
+    })
+}
+
+/// Reads records in hexadecimal, one a line, and keys, one a line; applies the records to a new screen,
+/// presses the keys, and prints for each key what was answered and the cursor, or the bytes that were
+/// sent; or the first fault: of the records' lines, then of the keys' lines, then the first record that
+/// is refused. Keys aren't read where the records' lines have a fault. At most 16,777,216 bytes of
+/// either, 1,000 records of 32,768 bytes, 100,000 keys. After a read or a write that failed the status
+/// is `Failed`, where memory was refused `NoMemory`, and a front of the text was written.
+pub fn run_press<R: Read, K: Read, W: Write>(
+    alloc: Global,
+    reader: &mut R,
+    keys: &mut K,
+    writer: &mut W,
+) -> Status
+    ensures prints { IfSome (R.remaining reader.old) (λ input. IfSome (K.remaining
+        keys.old) (λ lines.
+        Prints (W.contents writer.old) (W.contents writer.new) result (printed_press input lines))) }
+    ensures unread { IfSome (R.remaining reader.old) (λ input.
+        IfErr (records_in Allowed input) (λ fault. keys.new ≡ keys.old)) }
+{
+    let answer = press_keys(alloc, reader, keys);
+    finish(alloc, writer, answer)
+}

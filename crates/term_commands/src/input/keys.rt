@@ -1,0 +1,96 @@
+//! Lines of keys.
+
+ghost use Rattle.std.specs.Prelude.{◌≡◌, IfSome, ◌≤◌, length};
+ghost use Rattle.ds_keys.specs.Lines.{key_of};
+ghost use Rattle.term_commands.specs.Fault.{Gives};
+ghost use Rattle.term_commands.specs.Keys.{key_or_bad, key_told, after_key_line, take_key, keys_in};
+ghost use Rattle.term_commands.specs.Lines.{lines_in};
+ghost use Rattle.term_commands.specs.Taking.{taken};
+ghost use Rattle.term_commands.specs.Held.{key_line_seen, keys_seen};
+
+use crate::fault::{CommandError, Fault};
+use crate::input::bytes::{at_most, read_all};
+use crate::input::lines::{TakesLines, is_ignored, take_lines, text_of};
+use ds_keys::{Key, key_of_line};
+use std::alloc::Global;
+use std::io::Read;
+
+/// The most keys of an input.
+const MOST_KEYS: usize = 100_000;
+
+/// What one line tells.
+#[derive(Clone, Copy, Debug)]
+pub enum KeyLine {
+    Ignored,
+    Named(Key),
+    Bad,
+}
+
+/// The keys that lines name.
+#[derive(Debug, Drop)]
+pub struct Keys {
+    pub keys: Vec<Key>,
+}
+
+/// The key that a text names.
+fn named(text: &str) -> KeyLine
+    ensures { key_line_seen result ≡ key_or_bad (key_of text.now) }
+{
+    match key_of_line(text) {
+        Some(key) => KeyLine::Named(key),
+        None => KeyLine::Bad,
+    }
+}
+
+/// What a line tells; its spaces count.
+fn line_told(line: &[u8]) -> KeyLine
+    ensures { key_line_seen result ≡ key_told line.now }
+{
+    match text_of(line) {
+        Some(_) if is_ignored(line) => KeyLine::Ignored,
+        Some(text) => named(text),
+        None => KeyLine::Bad,
+    }
+}
+
+/// What the line of a number adds.
+fn add_line(mut told: Keys, number: usize, line: KeyLine) -> Result<Keys, CommandError>
+    ensures { Gives keys_seen result (after_key_line number (keys_seen told) (key_line_seen line)) }
+{
+    match line {
+        KeyLine::Ignored => Ok(told),
+        KeyLine::Named(key) => {
+            told.keys.push(key)?;
+            at_most(told.keys.len(), MOST_KEYS)?;
+            Ok(told)
+        }
+        KeyLine::Bad => Err(CommandError::Fault(Fault::BadKeyLine(number))),
+    }
+}
+
+impl TakesLines for Keys {
+    ghost takes = { λ number told line result. Gives keys_seen result (take_key number (keys_seen told) line) };
+
+    fn take(self, _alloc: Global, number: usize, line: &[u8]) -> Result<Keys, CommandError> {
+        add_line(self, number, line_told(line))
+    }
+}
+
+/// The keys that the lines of a text add, or their first fault.
+fn take_keys(alloc: Global, text: &[u8], none: Keys) -> Result<Keys, CommandError>
+    requires { length text.now ≤ 16777216 }
+    ensures { Gives keys_seen result (taken take_key 1 (keys_seen none) (lines_in text.now)) }
+{
+    take_lines(alloc, text, none)
+}
+
+/// The keys of an input, or the first fault of its lines.
+pub fn read_keys<R: Read>(alloc: Global, reader: &mut R) -> Result<Keys, CommandError>
+    ensures { IfSome (R.remaining reader.old) (λ input. Gives keys_seen result (keys_in input)) }
+{
+    let text = read_all(alloc, reader)?;
+    let none = Keys {
+        keys: Vec::new(alloc),
+    };
+    take_keys(alloc, text.as_slice(), none)
+}

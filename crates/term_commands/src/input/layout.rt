@@ -1,0 +1,35 @@
+//! The text of a layout.
+
+ghost use Rattle.std.specs.Prelude.{◌≡◌, IfSome};
+ghost use Rattle.scr_layout.specs.Results.{Gives as GivesLayout};
+ghost use Rattle.term_commands.specs.Fault.{Gives};
+ghost use Rattle.term_commands.specs.LayoutText.{layout_said, layout_in};
+
+use crate::fault::CommandError;
+use crate::input::bytes::read_all;
+use crate::input::lines::text_of;
+use scr_layout::{Layout, LayoutError, LayoutFault, LayoutRefusal};
+use std::alloc::Global;
+use std::io::Read;
+
+/// The layout that bytes say.
+fn layout_of(alloc: Global, bytes: &[u8]) -> Result<Layout, LayoutError>
+    ensures { GivesLayout (λ l. l) result (layout_said bytes.now) }
+{
+    match text_of(bytes) {
+        Some(text) => Layout::from_text(alloc, text),
+        None => Err(LayoutError::Refused(LayoutFault {
+            field: None,
+            which: None,
+            why: LayoutRefusal::NotToml,
+        })),
+    }
+}
+
+/// The layout of an input, or its first fault.
+pub fn read_layout<R: Read>(alloc: Global, reader: &mut R) -> Result<Layout, CommandError>
+    ensures { IfSome (R.remaining reader.old) (λ input. Gives (λ l. l) result (layout_in input)) }
+{
+    let text = read_all(alloc, reader)?;
+    Ok(layout_of(alloc, text.as_slice())?)
+}

@@ -1,0 +1,155 @@
+//! Lines of records in hexadecimal.
+
+ghost use Rattle.std.specs.Prelude.{◌≡◌, ◌==◌, not, IfOk, IfSome, OnOk, ◌≤◌, length};
+ghost use Rattle.std.specs.List.{filter};
+ghost use Rattle.hex.specs.Hex.{decode_of};
+ghost use Rattle.term_commands.specs.Fault.{Gives};
+ghost use Rattle.term_commands.specs.Records.{line_told, record_told, without_spaces, one_more, after_line, take_record, records_in};
+ghost use Rattle.term_commands.specs.Lines.{lines_in};
+ghost use Rattle.term_commands.specs.Taking.{taken};
+ghost use Rattle.term_commands.specs.Held.{line_seen, records_seen};
+
+use crate::fault::{CommandError, Fault};
+use crate::input::bytes::{at_most, read_all};
+use crate::input::lines::{TakesLines, is_ignored, take_lines, text_of};
+use crate::input::sizes::{SizeLine, told_sizes, usual_geometry};
+use ds_codec::Geometry;
+use hex::FromHexError;
+use std::alloc::{AllocError, Global};
+use std::io::Read;
+
+/// The most records of an input.
+pub const MOST_RECORDS: usize = 1_000;
+/// The most bytes of a record.
+const MOST_RECORD_BYTES: usize = 32_768;
+
+/// What one line tells.
+#[derive(Debug, Drop)]
+pub enum Line {
+    Ignored,
+    Sizes(Geometry),
+    Record(Vec<u8>),
+    Bad,
+}
+
+/// The sizes and the records that lines tell.
+#[derive(Debug, Drop)]
+pub struct Records {
+    /// A line of sizes may come before any line that is not ignored.
+    pub size_line: SizeLine,
+    pub geometry: Geometry,
+    pub records: Vec<Vec<u8>>,
+    /// The digits of a line.
+    pub digits: Vec<u8>,
+}
+
+/// Puts the line without its spaces into a buffer.
+fn strip_spaces(buffer: &mut Vec<u8>, line: &[u8]) -> Result<(), AllocError>
+    ensures { OnOk result (buffer.new.items ≡ without_spaces line.now) }
+{
+    buffer.clear();
+    for byte in line {
+        if *byte != b' ' {
+            buffer.push(*byte)?;
+        }
+    }
+    Ok(())
+}
+
+/// The bytes of a record in hexadecimal.
+fn decoded(alloc: Global, digits: &[u8]) -> Result<Line, AllocError>
+    ensures { IfOk result (λ line. line_seen line ≡ record_told (decode_of digits.now)) }
+{
+    match hex::decode(alloc, digits) {
+        Ok(bytes) => Ok(Line::Record(bytes)),
+        Err(FromHexError::OutOfMemory) => Err(AllocError),
+        Err(_) => Ok(Line::Bad),
+    }
+}
+
+/// What a line tells; spaces count in a line of sizes alone.
+fn line_told(
+    alloc: Global,
+    size_line: SizeLine,
+    line: &[u8],
+    digits: &mut Vec<u8>,
+) -> Result<Line, AllocError>
+    ensures { IfOk result (λ told. line_seen told ≡ line_told size_line line.now) }
+{
+    let Some(text) = text_of(line) else {
+        return Ok(Line::Bad);
+    };
+    strip_spaces(digits, line)?;
+    if is_ignored(digits.as_slice()) {
+        return Ok(Line::Ignored);
+    }
+    match told_sizes(size_line, text) {
+        Some(geometry) => Ok(Line::Sizes(geometry)),
+        None => decoded(alloc, digits.as_slice()),
+    }
+}
+
+/// One more record.
+fn add(mut told: Records, bytes: Vec<u8>) -> Result<Records, CommandError>
+    ensures { Gives records_seen result (one_more (records_seen told) bytes.items) }
+{
+    at_most(bytes.len(), MOST_RECORD_BYTES)?;
+    told.size_line = SizeLine::Refused;
+    told.records.push(bytes)?;
+    at_most(told.records.len(), MOST_RECORDS)?;
+    Ok(told)
+}
+
+/// What the line of a number adds.
+fn add_line(mut told: Records, number: usize, line: Line) -> Result<Records, CommandError>
+    ensures { Gives records_seen result (after_line number (records_seen told) (line_seen line)) }
+{
+    match line {
+        Line::Ignored => Ok(told),
+        Line::Sizes(geometry) => {
+            told.size_line = SizeLine::Refused;
+            told.geometry = geometry;
+            Ok(told)
+        }
+        Line::Record(bytes) => add(told, bytes),
+        Line::Bad => Err(CommandError::Fault(Fault::BadLine(number))),
+    }
+}
+
+impl TakesLines for Records {
+    ghost takes = { λ number told line result. Gives records_seen result (take_record number (records_seen told) line) };
+
+    fn take(mut self, alloc: Global, number: usize, line: &[u8]) -> Result<Records, CommandError> {
+        let told = line_told(alloc, self.size_line, line, &mut self.digits)?;
+        add_line(self, number, told)
+    }
+}
+
+/// The sizes and the records that the lines of a text add, or their first fault.
+fn take_records(alloc: Global, text: &[u8], none: Records) -> Result<Records, CommandError>
+    requires { length text.now ≤ 16777216 }
+    ensures { Gives records_seen result
+        (taken take_record 1 (records_seen none) (lines_in text.now)) }
+{
+    take_lines(alloc, text, none)
+}
+
+/// The sizes and the records of an input, or the first fault of its lines. Where a line of sizes is
+/// refused, they are told elsewhere.
+pub fn read_records<R: Read>(
+    alloc: Global,
+    reader: &mut R,
+    size_line: SizeLine,
+) -> Result<Records, CommandError>
+    ensures { IfSome (R.remaining reader.old) (λ input. Gives records_seen result
+        (records_in size_line input)) }
+{
+    let text = read_all(alloc, reader)?;
+    let none = Records {
+        size_line,
+        geometry: usual_geometry(),
+        records: Vec::new(alloc),
+        digits: Vec::new(alloc),
+    };
+    take_records(alloc, text.as_slice(), none)
+}

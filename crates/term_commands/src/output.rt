@@ -1,0 +1,7 @@
+//! What the commands print.
+
+pub mod answer;
+pub mod bytes;
+pub mod demo;
+pub mod findings;
+pub mod screen;

@@ -1,0 +1,91 @@
+//! What a command answers, and how it is written.
+
+ghost use Rattle.std.specs.Prelude.{◌≡◌, IfOk, Err};
+ghost use Rattle.std.specs.Bool.{OnTrue};
+ghost use Rattle.std.specs.Io.KnownBytes.{Appends};
+ghost use Rattle.std.specs.String.{string_bytes};
+ghost use Rattle.term_commands.specs.Fault.{fault_line};
+ghost use Rattle.term_commands.specs.Held.{answer_seen};
+ghost use Rattle.term_commands.specs.Streams.{AppendsFront, Finishes, IsWritten};
+ghost use Rattle.term_commands.specs.declared.fault.CommandError.TheVariants.{Fault as Told};
+
+use crate::fault::{CommandError, Fault};
+use crate::status::Status;
+use std::alloc::{AllocError, Global};
+use std::io::Write;
+
+/// The whole text, and the status with which the program ends once it is written.
+#[derive(Debug, Drop)]
+pub struct Answer {
+    pub text: String,
+    pub status: Status,
+}
+
+/// Writes a text and flushes, and answers whether every byte was taken. A write that takes no byte
+/// counts as failed.
+fn write_text<W: Write>(writer: &mut W, text: &[u8]) -> bool
+    ensures all { OnTrue result (Appends (W.contents writer.old) (W.contents writer.new) text.now) }
+    ensures front { AppendsFront (W.contents writer.old) (W.contents writer.new) text.now }
+{
+    let mut rest = text;
+    while !rest.is_empty() {
+        match writer.write(rest) {
+            Ok(0) => return false,
+            Ok(taken) => rest = &rest[taken..],
+            Err(_) => return false,
+        }
+    }
+    writer.flush().is_ok()
+}
+
+/// Writes an answer, and tells its status, or `Failed` where a write failed.
+fn write_answer<W: Write>(writer: &mut W, answer: &Answer) -> Status
+    ensures { IsWritten (W.contents writer.old) (W.contents writer.new)
+        (answer_seen answer.now) result }
+{
+    if write_text(writer, answer.text.as_bytes()) {
+        answer.status
+    } else {
+        Status::Failed
+    }
+}
+
+/// The line of a fault.
+fn fault_line(alloc: Global, fault: Fault) -> Result<String, AllocError>
+    ensures { IfOk result (λ line. string_bytes line ≡ fault_line fault) }
+{
+    format!(in alloc; "{fault}\n")
+}
+
+/// Writes the line of a fault.
+fn write_fault<W: Write>(alloc: Global, writer: &mut W, fault: Fault) -> Status
+    ensures { Finishes (W.contents writer.old) (W.contents writer.new) (Err (Told fault)) result }
+{
+    match fault_line(alloc, fault) {
+        Ok(text) => write_answer(
+            writer,
+            &Answer {
+                text,
+                status: Status::BadInput,
+            },
+        ),
+        Err(_) => Status::NoMemory,
+    }
+}
+
+/// Writes what a command answers, or the line of the fault, and tells the status: `Failed` where a read
+/// or a write failed, and `NoMemory`, with nothing written, where memory was refused.
+pub fn finish<W: Write>(
+    alloc: Global,
+    writer: &mut W,
+    answer: Result<Answer, CommandError>,
+) -> Status
+    ensures { Finishes (W.contents writer.old) (W.contents writer.new) answer result }
+{
+    match answer {
+        Ok(answer) => write_answer(writer, &answer),
+        Err(CommandError::Fault(fault)) => write_fault(alloc, writer, fault),
+        Err(CommandError::ReadFailed) => Status::Failed,
+        Err(CommandError::OutOfMemory) => Status::NoMemory,
+    }
+}
