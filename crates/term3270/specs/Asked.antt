@@ -2,6 +2,8 @@
 use Rattle.std.specs.Prelude.{◌≡◌, Bool, true, false, List, Option, Some, None, codes}
 use Rattle.std.specs.Borrow.{Bor}
 use Rattle.clap.specs.Words.{Row, Text, first_of, one_of}
+use Rattle.term_commands.specs.declared.output.demo.Demos.{Demos}
+use Rattle.term_commands.specs.declared.output.demo.Demos.TheVariants.{Printed, Omitted}
 use Rattle.term3270.specs.declared.asked.Asked.{Asked}
 use Rattle.term3270.specs.declared.asked.Asked.TheVariants.{Show, Check, Press, Convert, ConvertBack}
 
@@ -15,8 +17,12 @@ IsOption option rows given = (one_of option rows ≡ Some (codes "true") → giv
 abbrev pub IsPath : Text → List Row → Bor Text → Type 0
 IsPath word rows path = (text : Text) → first_of word rows ≡ Some text → path.now ≡ text
 
+abbrev pub AreDemos : List Row → Demos → Type 0
+AreDemos rows Printed = IsOption (codes "demo") rows true
+AreDemos rows Omitted = IsOption (codes "demo") rows false
+
 abbrev pub IsCheck : List Row → Asked → Type 0
-IsCheck rows (Check layout demos) = IsPath (codes "LAYOUT") rows layout × IsOption (codes "demo") rows demos
+IsCheck rows (Check layout demos) = IsPath (codes "LAYOUT") rows layout × AreDemos rows demos
 IsCheck rows _ = ⊥
 
 abbrev pub IsPress : List Row → Asked → Type 0

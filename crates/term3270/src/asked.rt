@@ -2,15 +2,16 @@
 
 ghost use Rattle.std.specs.Prelude.{◌≡◌, option_map};
 ghost use Rattle.clap.specs.Words.{found_of, rows_of, subcommand_rows_of};
-ghost use Rattle.term3270.specs.Asked.{AsksFor, IsConvert, IsOption, IsPath};
+ghost use Rattle.term3270.specs.Asked.{AreDemos, AsksFor, IsConvert, IsOption, IsPath};
 
 use clap::ArgMatches;
+use term_commands::Demos;
 
 /// A command, with the file and the option that it was given.
 #[derive(Clone, Copy, Debug, PartialEq, Eq)]
 pub enum Asked<'a> {
     Show,
-    Check { layout: &'a str, demos: bool },
+    Check { layout: &'a str, demos: Demos },
     Press { keys: &'a str },
     Convert,
     ConvertBack,
@@ -45,13 +46,23 @@ fn command_of<'a>(name: &str, words: &ArgMatches<'a>) -> Asked<'a>
     match name {
         "check" => Asked::Check {
             layout: path_in(words, "LAYOUT"),
-            demos: is_given(words, "demo"),
+            demos: demos_in(words),
         },
         "press" => Asked::Press {
             keys: path_in(words, "KEYS"),
         },
         "convert" => convert_of(words),
         _ => Asked::Show,
+    }
+}
+
+fn demos_in(words: &ArgMatches<'_>) -> Demos
+    ensures { AreDemos (rows_of (found_of words.now)) result }
+{
+    if is_given(words, "demo") {
+        Demos::Printed
+    } else {
+        Demos::Omitted
     }
 }
 

@@ -14,7 +14,7 @@ use clap::error::ErrorKind;
 use std::process::ExitCode;
 use std::{env, io};
 use term_commands::{
-    Demos, Status, failure, run_check, run_convert, run_convert_back, run_press, run_show,
+    Status, failure, run_check, run_convert, run_convert_back, run_press, run_show,
 };
 
 /// Runs a command on the standard streams, and on the file that it was given.
@@ -34,11 +34,6 @@ fn run(rt: &HostRuntime, asked: Asked<'_>) -> Status {
         Asked::Show => run_show(alloc, &mut records, &mut output),
         Asked::Check { layout, demos } => {
             let mut layout = file_at(rt, layout);
-            let demos = if demos {
-                Demos::Printed
-            } else {
-                Demos::Omitted
-            };
             run_check(alloc, &mut layout, &mut records, &mut output, demos)
         }
         Asked::Press { keys } => {

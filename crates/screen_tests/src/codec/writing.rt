@@ -27,83 +27,35 @@ fn each_order(rt: HostRuntime) -> Result<(), Fail> {
     let erase = Command::EraseWrite(0xC2);
     let letter = Char::new(0xC1, false).ok_or("a letter")?;
     let graphic = Char::new(0xFE, true).ok_or("a graphic")?;
-    check(
-        &rt,
-        rt.alloc(),
-        erase,
-        &[Order::Text(&[0xC1, 0x00])],
-        Ok(&[0xF5, 0xC2, 0xC1, 0x00]),
-    )?;
-    check(
-        &rt,
-        rt.alloc(),
-        erase,
-        &[Order::Sf(Attr::new(0x20))],
-        Ok(&[0xF5, 0xC2, 0x1D, 0x60]),
-    )?;
-    check(
-        &rt,
-        rt.alloc(),
-        erase,
-        &[Order::Sfe(&[0xC0, 0xF0])],
-        Ok(&[0xF5, 0xC2, 0x29, 0x01, 0xC0, 0xF0]),
-    )?;
-    check(
-        &rt,
-        rt.alloc(),
-        erase,
-        &[Order::Sba(1919)],
-        Ok(&[0xF5, 0xC2, 0x11, 0x5D, 0x7F]),
-    )?;
-    check(
-        &rt,
-        rt.alloc(),
-        erase,
-        &[Order::Sa(0xC0, 0x11)],
-        Ok(&[0xF5, 0xC2, 0x28, 0xC0, 0x11]),
-    )?;
-    check(
-        &rt,
-        rt.alloc(),
-        erase,
-        &[Order::Mf(&[])],
-        Ok(&[0xF5, 0xC2, 0x2C, 0x00]),
-    )?;
-    check(
-        &rt,
-        rt.alloc(),
-        erase,
-        &[Order::Ic, Order::Pt],
-        Ok(&[0xF5, 0xC2, 0x13, 0x05]),
-    )?;
-    check(
-        &rt,
-        rt.alloc(),
-        erase,
-        &[Order::Ra(80, letter)],
-        Ok(&[0xF5, 0xC2, 0x3C, 0xC1, 0x50, 0xC1]),
-    )?;
-    check(
-        &rt,
-        rt.alloc(),
-        erase,
-        &[Order::Ra(0, graphic)],
-        Ok(&[0xF5, 0xC2, 0x3C, 0x40, 0x40, 0x08, 0xFE]),
-    )?;
-    check(
-        &rt,
-        rt.alloc(),
-        erase,
-        &[Order::Eua(4)],
-        Ok(&[0xF5, 0xC2, 0x12, 0x40, 0xC4]),
-    )?;
-    check(
-        &rt,
-        rt.alloc(),
-        erase,
-        &[Order::Ge(0x40)],
-        Ok(&[0xF5, 0xC2, 0x08, 0x40]),
-    )
+    let rows: [(&[Order<'_>], Result<&[u8], Unwritable>); 11] = [
+        (&[Order::Text(&[0xC1, 0x00])], Ok(&[0xF5, 0xC2, 0xC1, 0x00])),
+        (&[Order::Sf(Attr::new(0x20))], Ok(&[0xF5, 0xC2, 0x1D, 0x60])),
+        (
+            &[Order::Sfe(&[0xC0, 0xF0])],
+            Ok(&[0xF5, 0xC2, 0x29, 0x01, 0xC0, 0xF0]),
+        ),
+        (&[Order::Sba(1919)], Ok(&[0xF5, 0xC2, 0x11, 0x5D, 0x7F])),
+        (
+            &[Order::Sa(0xC0, 0x11)],
+            Ok(&[0xF5, 0xC2, 0x28, 0xC0, 0x11]),
+        ),
+        (&[Order::Mf(&[])], Ok(&[0xF5, 0xC2, 0x2C, 0x00])),
+        (&[Order::Ic, Order::Pt], Ok(&[0xF5, 0xC2, 0x13, 0x05])),
+        (
+            &[Order::Ra(80, letter)],
+            Ok(&[0xF5, 0xC2, 0x3C, 0xC1, 0x50, 0xC1]),
+        ),
+        (
+            &[Order::Ra(0, graphic)],
+            Ok(&[0xF5, 0xC2, 0x3C, 0x40, 0x40, 0x08, 0xFE]),
+        ),
+        (&[Order::Eua(4)], Ok(&[0xF5, 0xC2, 0x12, 0x40, 0xC4])),
+        (&[Order::Ge(0x40)], Ok(&[0xF5, 0xC2, 0x08, 0x40])),
+    ];
+    for (orders, expected) in rows {
+        check(&rt, rt.alloc(), erase, orders, expected)?;
+    }
+    Ok(())
 }
 
 #[test]
@@ -157,97 +109,44 @@ fn orders_for_a_command_without(rt: HostRuntime) -> Result<(), Fail> {
 fn unwritable_orders(rt: HostRuntime) -> Result<(), Fail> {
     let erase = Command::EraseWrite(0xC2);
     let letter = Char::new(0xC1, false).ok_or("a letter")?;
-    check(
-        &rt,
-        rt.alloc(),
-        erase,
-        &[Order::Sba(1920)],
-        Err(Unwritable::AddressOutside(0)),
-    )?;
-    check(
-        &rt,
-        rt.alloc(),
-        erase,
-        &[Order::Ic, Order::Ra(1920, letter)],
-        Err(Unwritable::AddressOutside(1)),
-    )?;
-    check(
-        &rt,
-        rt.alloc(),
-        erase,
-        &[Order::Eua(4_000_000_000)],
-        Err(Unwritable::AddressOutside(0)),
-    )?;
-    check(
-        &rt,
-        rt.alloc(),
-        erase,
-        &[Order::Text(&[0xC1]), Order::Text(&[0xC2])],
-        Err(Unwritable::BadText(1)),
-    )?;
-    check(
-        &rt,
-        rt.alloc(),
-        erase,
-        &[Order::Text(&[])],
-        Err(Unwritable::BadText(0)),
-    )?;
-    check(
-        &rt,
-        rt.alloc(),
-        erase,
-        &[Order::Ic, Order::Text(&[0xC1, 0x0E])],
-        Err(Unwritable::BadText(1)),
-    )?;
-    check(
-        &rt,
-        rt.alloc(),
-        erase,
-        &[Order::Sfe(&[0x44, 0xF0])],
-        Err(Unwritable::BadPairs(0)),
-    )?;
-    check(
-        &rt,
-        rt.alloc(),
-        erase,
-        &[Order::Mf(&[0xC0])],
-        Err(Unwritable::BadPairs(0)),
-    )?;
-    check(
-        &rt,
-        rt.alloc(),
-        erase,
-        &[Order::Sfe(&[0xC0; 510])],
-        Ok(&sfe_of_255()),
-    )?;
-    check(
-        &rt,
-        rt.alloc(),
-        erase,
-        &[Order::Sfe(&[0xC0; 512])],
-        Err(Unwritable::BadPairs(0)),
-    )?;
-    check(
-        &rt,
-        rt.alloc(),
-        erase,
-        &[Order::Pt, Order::Sa(0x44, 0x00)],
-        Err(Unwritable::BadPairs(1)),
-    )?;
-    check(
-        &rt,
-        rt.alloc(),
-        erase,
-        &[Order::Ge(0xFF)],
-        Err(Unwritable::BadCode(0)),
-    )?;
-    check(
-        &rt,
-        rt.alloc(),
-        erase,
-        &[Order::Ic, Order::Ge(0x3F)],
-        Err(Unwritable::BadCode(1)),
-    )?;
+    let longest = sfe_of_255();
+    let rows: [(&[Order<'_>], Result<&[u8], Unwritable>); 14] = [
+        (&[Order::Sba(1920)], Err(Unwritable::AddressOutside(0))),
+        (
+            &[Order::Ic, Order::Ra(1920, letter)],
+            Err(Unwritable::AddressOutside(1)),
+        ),
+        (
+            &[Order::Eua(4_000_000_000)],
+            Err(Unwritable::AddressOutside(0)),
+        ),
+        (
+            &[Order::Text(&[0xC1]), Order::Text(&[0xC2])],
+            Err(Unwritable::BadText(1)),
+        ),
+        (&[Order::Text(&[])], Err(Unwritable::BadText(0))),
+        (
+            &[Order::Ic, Order::Text(&[0xC1, 0x0E])],
+            Err(Unwritable::BadText(1)),
+        ),
+        (&[Order::Sfe(&[0x44, 0xF0])], Err(Unwritable::BadPairs(0))),
+        (&[Order::Mf(&[0xC0])], Err(Unwritable::BadPairs(0))),
+        (&[Order::Sfe(&[0xC0; 510])], Ok(&longest)),
+        (&[Order::Sfe(&[0xC0; 512])], Err(Unwritable::BadPairs(0))),
+        (
+            &[Order::Pt, Order::Sa(0x44, 0x00)],
+            Err(Unwritable::BadPairs(1)),
+        ),
+        (&[Order::Ge(0xFF)], Err(Unwritable::BadCode(0))),
+        (&[Order::Ic, Order::Ge(0x3F)], Err(Unwritable::BadCode(1))),
+        (
+            &[Order::Ge(0xFF), Order::Sba(1920)],
+            Err(Unwritable::BadCode(0)),
+        ),
+    ];
+    for (orders, expected) in rows {
+        check(&rt, rt.alloc(), erase, orders, expected)?;
+    }
     check(
         &rt,
         rt.alloc(),
@@ -262,13 +161,7 @@ fn unwritable_orders(rt: HostRuntime) -> Result<(), Fail> {
         &[Order::Sba(1920)],
         Err(Unwritable::NotAllowed),
     )?;
-    check(
-        &rt,
-        rt.alloc(),
-        erase,
-        &[Order::Ge(0xFF), Order::Sba(1920)],
-        Err(Unwritable::BadCode(0)),
-    )
+    Ok(())
 }
 
 /// Erase/Write with one Start Field Extended of 255 pairs C0 C0.
