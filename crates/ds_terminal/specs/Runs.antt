@@ -1,15 +1,13 @@
--- Records and keys one after the other.
+-- Records one after the other, on a terminal that only shows.
 use Rattle.std.specs.Prelude.{ℕ, ◌+◌, List, [], ◌∷◌, Result, Ok, Err}
 use Rattle.ds_codec.specs.declared.refused.Refused as codec
 use Rattle.ds_codec.specs.Record.{Message}
 use Rattle.ds_codec.specs.Reading.{read_of}
 use Rattle.ds_screen.specs.Picture.{Picture}
 use Rattle.ds_screen.specs.Records.{shown_of}
-use Rattle.ds_keys.specs.declared.key.Key.{Key}
 use Rattle.ds_terminal.specs.declared.refused.Refused.{Refused}
 use Rattle.ds_terminal.specs.declared.refused.Refused.TheVariants.{Read}
 use Rattle.ds_terminal.specs.Taking.{applying}
-use Rattle.ds_terminal.specs.Terminal.{KeyReply, pressed}
 
 -- the picture that a record leaves on a terminal that only shows, or why it is refused
 abbrev pub shown_as : Picture → Result Message codec.Refused → Result Picture Refused
@@ -33,8 +31,3 @@ then_others index (Err why) others = Err (record { index = index; why = why })
 abbrev pub all_shown : ℕ → Picture → List (List ℕ) → Result Picture RefusedRecord
 all_shown index v [] = Ok v
 all_shown index v (bytes ∷ others) = then_others index (shown_after v bytes) (λ next. all_shown (index + 1) next others)
-
--- the replies to keys in turn
-abbrev pub key_replies : Picture → List Key → List KeyReply
-key_replies v [] = []
-key_replies v (key ∷ keys) = (pressed v key).reply ∷ key_replies (pressed v key).after keys

@@ -92,12 +92,7 @@ fn what_is_open(rt: HostRuntime) -> Result<(), Fail> {
             assert_eq!(rt; screen.first_open(from), place, "from {from}");
         }
     }
-    write(
-        &mut screen,
-        &[
-            0xF1, 0xC0, 0x11, 0x40, 0xC4, 0xC2, 0x11, 0x40, 0xC2, 0x1D, 0xC1, 0x13,
-        ],
-    )?;
+    write(alloc, &mut screen, "F1C0 1140C4C2 1140C21DC1 13")?;
     assert_eq!(rt; text_of(alloc, &screen)?.as_str(), "@A@.B.@.............");
     screen.clear_unprotected();
     assert_eq!(rt; text_of(alloc, &screen)?.as_str(), "@A@...@.............");
