@@ -1,5 +1,5 @@
 -- What is told of a line is what it says.
-use Rattle.std.proofs.Common.{◌≡◌, ◌<◌, ℕ, Bool, true, false, cond, ltb, List, [], ◌∷◌, ◌++◌, length, take, drop, Option, Some, None, Ok, Err, refl, sym, ap, subst, ◌∙◌, inl, inr, take-append-drop}
+use Rattle.std.proofs.Common.{◌≡◌, ℕ, Bool, true, false, cond, ltb, List, [], ◌∷◌, ◌++◌, length, take, drop, Option, Some, None, Ok, Err, refl, sym, ap, subst, ◌∙◌, inl, inr, take-append-drop}
 use Rattle.std.specs.Prelude.{Result, codes, nat_eq, option_and_then}
 use Rattle.std.specs.List.{starts_with}
 use Rattle.std.specs.Option.{option_map}
@@ -13,9 +13,9 @@ use Rattle.ds_codec.specs.declared.command.Command.TheVariants as commands
 use Rattle.ds_codec.specs.Character.{Glyph, glyph, is_glyph}
 use Rattle.ds_codec.specs.Order.{Item, text, start_field, start_field_extended, set_buffer_address, set_attribute, modify_field, insert_cursor, program_tab, repeat_to_address, erase_unprotected_to_address, graphic_escape}
 use Rattle.order_lines.specs.Words.{on_word, byte_told, pair_told, pairs_told, number_told, cut_at}
-use Rattle.order_lines.specs.Told.{Told, command, order, on_line, write_told, alone_told, attribute_from, set_from, character_from, character_told, repeat_from, repeat_told, text_from, address_told, short_told, order_told, first_told, other_command, command_told, told_of}
+use Rattle.order_lines.specs.Told.{Told, command, order, on_line, write_told, alone_told, attribute_from, set_from, character_from, character_told, repeat_from, text_from, address_told, short_told, order_told, first_told, other_command, command_told, told_of}
 use Rattle.order_lines.proofs.ToldAgain.{no_escape}
-use Rattle.order_lines.specs.Says.{Carries, IsByte, IsNumber, IsRun, IsCharacter, IsRepeat, SaysCommand, SaysOrder, Says, TellsWhatIsSaid}
+use Rattle.order_lines.specs.Says.{Carries, IsCharacter, SaysCommand, SaysOrder, Says, TellsWhatIsSaid}
 
 -- ---- tests
 

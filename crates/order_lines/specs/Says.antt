@@ -1,10 +1,10 @@
 -- What it is for a line to say a command or an order: its name, and after it what it carries, as it is printed but for the
 -- case of hexadecimal digits. There is no order of tests here, and no first match.
-use Rattle.std.specs.Prelude.{◌≡◌, ◌⊎◌, ℕ, ◌<◌, true, false, List, [], ◌∷◌, ◌++◌, codes, Some, Ok}
+use Rattle.std.specs.Prelude.{◌≡◌, ◌⊎◌, ℕ, ◌<◌, true, false, List, [], ◌++◌, codes, Some, Ok}
 use Rattle.hex.specs.Hex.{decode_of}
 use Rattle.ds_codec.specs.declared.command.Command.{Command}
 use Rattle.ds_codec.specs.declared.command.Command.TheVariants.{Write, EraseWrite, EraseWriteAlternate, EraseAllUnprotected, ReadBuffer, ReadModified, ReadModifiedAll, NoOperation}
-use Rattle.ds_codec.specs.Character.{Glyph, glyph, is_glyph}
+use Rattle.ds_codec.specs.Character.{Glyph, is_glyph}
 use Rattle.ds_codec.specs.Order.{Item, text, start_field, start_field_extended, set_buffer_address, set_attribute, modify_field, insert_cursor, program_tab, repeat_to_address, erase_unprotected_to_address, graphic_escape}
 use Rattle.order_lines.specs.Words.{byte_told, pair_told, pairs_told, number_told, cut_at}
 use Rattle.order_lines.specs.Told.{Told, command, order, told_of}

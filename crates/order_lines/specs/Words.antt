@@ -66,6 +66,6 @@ number_from n = if nat_lt n 4294967296 then Some n else None
 abbrev pub number_told : List ℕ → Option ℕ
 number_told word = if is_numeral word then number_from (digits_value 10 word) else None
 
--- what stands before the first such byte, and behind it
+-- what stands before the first such byte, and after it
 abbrev pub cut_at : ℕ → List ℕ → Option (List ℕ × List ℕ)
 cut_at byte bytes = option_map (λ n. (take n bytes, drop (n + 1) bytes)) (position (λ b. b == byte) bytes)

@@ -131,7 +131,7 @@ pub fn number(word: &[u8]) -> Option<u32>
     if is_numeral(word) { value(word) } else { None }
 }
 
-/// What stands before the first such byte, and behind it.
+/// What stands before the first such byte, and after it.
 pub fn cut(bytes: &[u8], byte: u8) -> Option<(&[u8], &[u8])>
     ensures { option_map (λ parts. (parts.0.now, parts.1.now)) result ≡ cut_at byte bytes.now }
 {

@@ -48,7 +48,7 @@ TellsSizes told geometry =
     ((told ≡ []) × (geometry ≡ usual_sizes))
     ⊎ ((line : List ℕ) × (told ≡ line ++ codes "\n") × (lines_in told ≡ line ∷ []) × (line_told Allowed line ≡ sizes geometry))
 
--- The lines to which records are converted, behind a line of sizes or none, are converted back to records
+-- The lines to which records are converted, after a line of sizes or none, are converted back to records
 -- that are read as the same commands and orders: all records that can be read, whose addresses are below
 -- the cells of the size for which they are written, up to the limits of an input.
 abbrev pub ConvertsBack : Type 0

@@ -45,7 +45,7 @@ const KEYS: &str = "type C2\nenter\ntab\n";
 
 const PRESSED: &str = "done 4\nsent 7D40C41140C3C2\nignored 4\n";
 
-/// What `check` writes, behind its status.
+/// What `check` writes, after its status.
 fn checked(
     alloc: Global,
     layout: &[u8],
@@ -60,7 +60,7 @@ fn checked(
     Ok((writer.as_slice() == due.as_bytes()).then_some(status))
 }
 
-/// What `press` writes, behind its status.
+/// What `press` writes, after its status.
 fn pressed(alloc: Global, records: &str, keys: &[u8], due: &str) -> Result<Option<Status>, Fail> {
     let mut reader = records.as_bytes();
     let mut keys = keys;
