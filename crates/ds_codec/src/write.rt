@@ -202,8 +202,9 @@ fn push_address(
     out.extend_from_slice(&encode_address(mode, cells, address))
 }
 
-/// The character of Repeat to Address.
-fn push_character(out: &mut Vec<u8>, character: Char) -> Result<(), AllocError>
+/// Adds a character as it is written: its code, after the graphic escape where it is of the alternate set
+/// (GA23-0059, "Graphic Escape").
+pub fn push_character(out: &mut Vec<u8>, character: Char) -> Result<(), AllocError>
     ensures { OnOk result (out.new.items ≡ out.old.items ++ written_character character) }
 {
     if character.alt() {

@@ -14,7 +14,7 @@ ghost use Rattle.ds_inbound.specs.Inbound.{is_sendable, SaysOnly};
 ghost use Rattle.ds_inbound.specs.Reading.{read_of};
 ghost use Rattle.ds_inbound.specs.Sending.{sent_in, places_on, has_places, is_field_sendable, IsFieldOf, IsSendable};
 
-use ds_codec::{Aid, Cell, Char, OrderCode, encode_address, to_six_bit_code};
+use ds_codec::{Aid, Cell, Char, OrderCode, encode_address, push_character, to_six_bit_code};
 use ds_screen::ring::next;
 use ds_screen::{Cells, FieldAt, Screen};
 use std::alloc::{AllocError, Global};
@@ -59,17 +59,6 @@ fn is_null(character: Char) -> bool
     ensures real { is_glyph character ≡ true }
 {
     !character.alt() && character.code() == 0
-}
-
-/// A character, behind the graphic escape where it is of the alternate set.
-fn push_character(out: &mut Vec<u8>, character: Char) -> Result<(), AllocError>
-    ensures { OnOk result (out.new.items ≡ out.old.items ++ written_character character) }
-{
-    if character.alt() {
-        out.push(OrderCode::Ge.byte())?;
-    }
-    out.push(character.code())?;
-    Ok(())
 }
 
 /// What is sent of a cell: its character, nothing of a null or an attribute.

@@ -5,12 +5,12 @@ use Rattle.toml.specs.Data.{Data, Members, as_array, as_str, as_integer}
 use Rattle.scr_layout.specs.declared.fault.LayoutFault.{LayoutFault}
 use Rattle.scr_layout.specs.declared.fault.LayoutKey.{LayoutKey}
 use Rattle.scr_layout.specs.declared.fault.LayoutKey.TheVariants.{Unknown, Default, Alternate, Screen, Field, Name, Row, Col, Length, Kind}
-use Rattle.scr_layout.specs.declared.fault.LayoutRefusal.TheVariants.{MissingKey, WrongKind, UnknownKey, BadSize, BadName, NameTwice, PlaceOutside, PlaceTwice, BadLength, TooManyFields}
+use Rattle.scr_layout.specs.declared.fault.Why.TheVariants.{MissingKey, WrongKind, UnknownKey, BadSize, BadName, NameTwice, PlaceOutside, PlaceTwice, BadLength, TooManyFields}
 use Rattle.scr_layout.specs.declared.entry.Kind.TheVariants.{Input, Fixed}
 use Rattle.ds_codec.specs.declared.size.Mode.TheVariants.{Bits14}
 use Rattle.ds_codec.specs.Geometry.{cells_of}
 use Rattle.scr_layout.specs.SizeText.{size_of_text}
-use Rattle.scr_layout.specs.declared.fault.LayoutRefusal.{LayoutRefusal}
+use Rattle.scr_layout.specs.declared.fault.Why.{Why}
 use Rattle.scr_layout.specs.Entry.{Declared, is_name}
 use Rattle.scr_layout.specs.Fault.{at_key, not_toml}
 use Rattle.scr_layout.specs.Field.{field_keys, has_name, has_place, name_of, integer_at, place_of, length_of, kind_or, kind_of, entry_of}
@@ -31,11 +31,11 @@ bound : {A B : Type 0} (r : Result A LayoutFault) (f : A → Result B LayoutFaul
 bound (Ok x) f h k = k x
 bound (Err e) f h k = record { key = h.key }
 
-test : {A : Type 0} (b : Bool) (x : A) (key : LayoutKey) (why : LayoutRefusal) → IsKeyed (tested b x (at_key key why))
+test : {A : Type 0} (b : Bool) (x : A) (key : LayoutKey) (why : Why) → IsKeyed (tested b x (at_key key why))
 test true x key why = record { key = tt }
 test false x key why = record { key = refl }
 
-found : {A : Type 0} (o : Option A) (key : LayoutKey) (why : LayoutRefusal) → IsKeyed (ok_or o (at_key key why))
+found : {A : Type 0} (o : Option A) (key : LayoutKey) (why : Why) → IsKeyed (ok_or o (at_key key why))
 found (Some x) key why = record { key = tt }
 found None key why = record { key = refl }
 
@@ -52,7 +52,7 @@ text key value = found (as_str value) key WrongKind
 good : {A : Type 0} {x : A} → IsKeyed (Ok x)
 good = record { key = tt }
 
-either : {A : Type 0} (a b : Bool) (x y : A) (key : LayoutKey) (why : LayoutRefusal)
+either : {A : Type 0} (a b : Bool) (x y : A) (key : LayoutKey) (why : Why)
     → IsKeyed (cond {A = Result A LayoutFault} a (Ok x) (cond b (Ok y) (Err (at_key key why))))
 either true b x y key why = good
 either false true x y key why = good

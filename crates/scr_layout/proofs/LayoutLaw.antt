@@ -15,7 +15,7 @@ use Rattle.toml.specs.Data.{Data, Members, as_array}
 use Rattle.scr_layout.specs.declared.fault.LayoutFault.{LayoutFault}
 use Rattle.scr_layout.specs.declared.fault.LayoutKey.{LayoutKey}
 use Rattle.scr_layout.specs.declared.fault.LayoutKey.TheVariants.{Field, Row, Col, Screen, Name, Length}
-use Rattle.scr_layout.specs.declared.fault.LayoutRefusal.TheVariants.{WrongKind, BadName, PlaceOutside, PlaceTwice, TooManyFields}
+use Rattle.scr_layout.specs.declared.fault.Why.TheVariants.{WrongKind, BadName, PlaceOutside, PlaceTwice, TooManyFields}
 use Rattle.scr_layout.specs.Entry.{Declared, is_name}
 use Rattle.scr_layout.specs.Fault.{at_key}
 use Rattle.scr_layout.specs.Field.{field_keys, has_name, has_place, name_of, integer_at, place_of, length_of, kind_of, entry_of}

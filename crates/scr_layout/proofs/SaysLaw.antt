@@ -13,7 +13,7 @@ use Rattle.scr_layout.specs.declared.entry.Kind.TheVariants.{Input, Fixed}
 use Rattle.scr_layout.specs.declared.fault.LayoutFault.{LayoutFault}
 use Rattle.scr_layout.specs.declared.fault.LayoutKey.{LayoutKey}
 use Rattle.scr_layout.specs.declared.fault.LayoutKey.TheVariants.{Unknown, Default, Alternate, Screen, Field, Name, Row, Col, Length, Kind}
-use Rattle.scr_layout.specs.declared.fault.LayoutRefusal.TheVariants.{MissingKey, WrongKind, UnknownKey, BadName, NameTwice, PlaceOutside, PlaceTwice, TooManyFields}
+use Rattle.scr_layout.specs.declared.fault.Why.TheVariants.{MissingKey, WrongKind, UnknownKey, BadName, NameTwice, PlaceOutside, PlaceTwice, TooManyFields}
 use Rattle.scr_layout.specs.Entry.{Declared, is_name}
 use Rattle.scr_layout.specs.Fault.{at_key, not_toml}
 use Rattle.scr_layout.specs.Field.{field_keys, has_name, has_place, name_of, integer_at, place_of, length_of, kind_or, kind_of, entry_of}

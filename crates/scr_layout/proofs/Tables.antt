@@ -7,7 +7,7 @@ use Rattle.toml.specs.View.{view, items_view}
 use Rattle.toml.specs.declared.value.Value.{Value}
 use Rattle.scr_layout.specs.Top.{tables_in, are_tables, tables_of}
 use Rattle.scr_layout.specs.declared.fault.LayoutKey.TheVariants.{Field}
-use Rattle.scr_layout.specs.declared.fault.LayoutRefusal.TheVariants.{TooManyFields}
+use Rattle.scr_layout.specs.declared.fault.Why.TheVariants.{TooManyFields}
 use Rattle.scr_layout.specs.Fault.{at_key}
 
 are_tables-item : (d : Data) (rest : Items) → (is_some (as_table d) && are_tables rest) ≡ are_tables (item d rest)

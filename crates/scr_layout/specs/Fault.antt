@@ -2,12 +2,12 @@
 use Rattle.std.specs.Prelude.{codes, decimal, ℕ, List, [], ◌++◌, Option, Some, None}
 use Rattle.scr_layout.specs.declared.fault.LayoutKey.{LayoutKey}
 use Rattle.scr_layout.specs.declared.fault.LayoutKey.TheVariants.{Unknown, Default, Alternate, Screen, Field, Name, Row, Col, Length, Kind}
-use Rattle.scr_layout.specs.declared.fault.LayoutRefusal.{LayoutRefusal}
-use Rattle.scr_layout.specs.declared.fault.LayoutRefusal.TheVariants.{NotToml, MissingKey, WrongKind, UnknownKey, BadSize, BadName, NameTwice, PlaceOutside, PlaceTwice, BadLength, TooManyFields}
+use Rattle.scr_layout.specs.declared.fault.Why.{Why}
+use Rattle.scr_layout.specs.declared.fault.Why.TheVariants.{NotToml, MissingKey, WrongKind, UnknownKey, BadSize, BadName, NameTwice, PlaceOutside, PlaceTwice, BadLength, TooManyFields}
 use Rattle.scr_layout.specs.declared.fault.LayoutFault.{LayoutFault}
 
 -- the words for each refusal
-abbrev pub refusal_text : LayoutRefusal → List ℕ
+abbrev pub refusal_text : Why → List ℕ
 refusal_text NotToml = codes "L1 NotToml"
 refusal_text MissingKey = codes "L2 MissingKey"
 refusal_text WrongKind = codes "L3 WrongKind"
@@ -52,7 +52,7 @@ abbrev pub not_toml : LayoutFault
 not_toml = record { field = None; which = None; why = NotToml }
 
 -- a key at fault
-abbrev pub at_key : LayoutKey → LayoutRefusal → LayoutFault
+abbrev pub at_key : LayoutKey → Why → LayoutFault
 at_key key why = record { field = None; which = Some key; why = why }
 
 -- the same in a field

@@ -9,7 +9,7 @@ use Rattle.scr_layout.specs.declared.entry.Kind.TheVariants.{Input, Fixed}
 use Rattle.scr_layout.specs.declared.fault.LayoutKey.{LayoutKey}
 use Rattle.scr_layout.specs.declared.fault.LayoutKey.TheVariants.{Name, Row, Col, Length, Kind}
 use Rattle.scr_layout.specs.declared.fault.LayoutFault.{LayoutFault}
-use Rattle.scr_layout.specs.declared.fault.LayoutRefusal.TheVariants.{WrongKind, BadName, NameTwice, PlaceOutside, PlaceTwice, BadLength}
+use Rattle.scr_layout.specs.declared.fault.Why.TheVariants.{WrongKind, BadName, NameTwice, PlaceOutside, PlaceTwice, BadLength}
 use Rattle.scr_layout.specs.Entry.{Declared, is_name}
 use Rattle.scr_layout.specs.Fault.{at_key}
 use Rattle.scr_layout.specs.Results.{◌>>=◌, tested}

@@ -6,7 +6,7 @@ use Rattle.toml.specs.Data.{Data, table, Items, no_items, item, Members, as_arra
 use Rattle.scr_layout.specs.declared.fault.LayoutKey.{LayoutKey}
 use Rattle.scr_layout.specs.declared.fault.LayoutKey.TheVariants.{Default, Alternate, Screen, Field}
 use Rattle.scr_layout.specs.declared.fault.LayoutFault.{LayoutFault}
-use Rattle.scr_layout.specs.declared.fault.LayoutRefusal.TheVariants.{WrongKind, BadSize, TooManyFields}
+use Rattle.scr_layout.specs.declared.fault.Why.TheVariants.{WrongKind, BadSize, TooManyFields}
 use Rattle.scr_layout.specs.Fault.{at_key}
 use Rattle.scr_layout.specs.Results.{◌>>=◌, tested}
 use Rattle.scr_layout.specs.SizeText.{size_of_text}

@@ -5,7 +5,7 @@ use Rattle.toml.specs.Data.{Data, Members, no_members, member, get_member, as_st
 use Rattle.scr_layout.specs.declared.fault.LayoutKey.{LayoutKey}
 use Rattle.scr_layout.specs.declared.fault.LayoutKey.TheVariants.{Unknown}
 use Rattle.scr_layout.specs.declared.fault.LayoutFault.{LayoutFault}
-use Rattle.scr_layout.specs.declared.fault.LayoutRefusal.TheVariants.{MissingKey, WrongKind, UnknownKey}
+use Rattle.scr_layout.specs.declared.fault.Why.TheVariants.{MissingKey, WrongKind, UnknownKey}
 use Rattle.scr_layout.specs.Fault.{key_text, at_key}
 use Rattle.scr_layout.specs.Results.{tested}
 

@@ -53,7 +53,7 @@ impl fmt::Display for LayoutKey {
 
 /// Why a layout is refused.
 #[derive(Clone, Copy, Debug, PartialEq, Eq)]
-pub enum LayoutRefusal {
+pub enum Why {
     /// The text is no TOML.
     NotToml,
     /// A key that has to be there is not.
@@ -78,27 +78,27 @@ pub enum LayoutRefusal {
     TooManyFields,
 }
 
-impl LayoutRefusal {
+impl Why {
     fn words(self) -> &'static str
         ensures { result.now ≡ refusal_text self }
     {
         match self {
-            LayoutRefusal::NotToml => "L1 NotToml",
-            LayoutRefusal::MissingKey => "L2 MissingKey",
-            LayoutRefusal::WrongKind => "L3 WrongKind",
-            LayoutRefusal::UnknownKey => "L4 UnknownKey",
-            LayoutRefusal::BadSize => "L5 BadSize",
-            LayoutRefusal::BadName => "L6 BadName",
-            LayoutRefusal::NameTwice => "L7 NameTwice",
-            LayoutRefusal::PlaceOutside => "L8 PlaceOutside",
-            LayoutRefusal::PlaceTwice => "L9 PlaceTwice",
-            LayoutRefusal::BadLength => "L10 BadLength",
-            LayoutRefusal::TooManyFields => "L11 TooManyFields",
+            Why::NotToml => "L1 NotToml",
+            Why::MissingKey => "L2 MissingKey",
+            Why::WrongKind => "L3 WrongKind",
+            Why::UnknownKey => "L4 UnknownKey",
+            Why::BadSize => "L5 BadSize",
+            Why::BadName => "L6 BadName",
+            Why::NameTwice => "L7 NameTwice",
+            Why::PlaceOutside => "L8 PlaceOutside",
+            Why::PlaceTwice => "L9 PlaceTwice",
+            Why::BadLength => "L10 BadLength",
+            Why::TooManyFields => "L11 TooManyFields",
         }
     }
 }
 
-impl fmt::Display for LayoutRefusal {
+impl fmt::Display for Why {
     ghost output = { λ why. Some (refusal_text why) };
 
     fn fmt<W: fmt::Write>(&self, f: &mut fmt::Formatter<W>) -> fmt::Result {
@@ -113,7 +113,7 @@ pub struct LayoutFault {
     pub field: Option<usize>,
     /// The key at fault, or `None` where the text is no TOML.
     pub which: Option<LayoutKey>,
-    pub why: LayoutRefusal,
+    pub why: Why,
 }
 
 impl LayoutFault {
@@ -126,12 +126,12 @@ impl LayoutFault {
         LayoutFault {
             field: None,
             which: None,
-            why: LayoutRefusal::NotToml,
+            why: Why::NotToml,
         }
     }
 
     /// A key at fault, at the top or in a field that `in_field` names.
-    pub(crate) fn at_key(key: LayoutKey, why: LayoutRefusal) -> LayoutFault
+    pub(crate) fn at_key(key: LayoutKey, why: Why) -> LayoutFault
         ensures { result ≡ at_key key why }
     {
         LayoutFault {

@@ -9,7 +9,7 @@ ghost use Rattle.scr_layout.specs.Values.{with_only};
 ghost use Rattle.scr_layout.specs.Field.{field_keys, has_name, has_place, name_of, integer_at, place_of, length_of, named_kind, kind_of, entry_of};
 
 use crate::entry::{Entry, Kind};
-use crate::fault::{LayoutError, LayoutFault, LayoutKey, LayoutRefusal};
+use crate::fault::{LayoutError, LayoutFault, LayoutKey, Why};
 use crate::values::{from_one_to, integer_of, needed_at, text_of, value_at, with_only};
 use ds_codec::Size;
 use std::alloc::Global;
@@ -68,10 +68,10 @@ fn name_of<'a>(before: &[Entry], field: &'a Table) -> Result<&'a str, LayoutFaul
     let value = needed_at(LayoutKey::Name, field)?;
     let text = text_of(LayoutKey::Name, value)?;
     if !is_name(text) {
-        return Err(LayoutFault::at_key(LayoutKey::Name, LayoutRefusal::BadName));
+        return Err(LayoutFault::at_key(LayoutKey::Name, Why::BadName));
     }
     if has_name(text, before) {
-        return Err(LayoutFault::at_key(LayoutKey::Name, LayoutRefusal::NameTwice));
+        return Err(LayoutFault::at_key(LayoutKey::Name, Why::NameTwice));
     }
     Ok(text)
 }
@@ -90,14 +90,14 @@ fn place_of(size: Size, before: &[Entry], row: i64, col: i64) -> Result<u32, Lay
     ensures { result ≡ place_of size before.now row col }
 {
     let Some(row) = from_one_to(u32::from(size.rows), row) else {
-        return Err(LayoutFault::at_key(LayoutKey::Row, LayoutRefusal::PlaceOutside));
+        return Err(LayoutFault::at_key(LayoutKey::Row, Why::PlaceOutside));
     };
     let Some(col) = from_one_to(u32::from(size.cols), col) else {
-        return Err(LayoutFault::at_key(LayoutKey::Col, LayoutRefusal::PlaceOutside));
+        return Err(LayoutFault::at_key(LayoutKey::Col, Why::PlaceOutside));
     };
     let place = (row - 1) * u32::from(size.cols) + (col - 1);
     if has_place(place, before) {
-        return Err(LayoutFault::at_key(LayoutKey::Row, LayoutRefusal::PlaceTwice));
+        return Err(LayoutFault::at_key(LayoutKey::Row, Why::PlaceTwice));
     }
     Ok(place)
 }
@@ -110,7 +110,7 @@ fn length_of(size: Size, field: &Table) -> Result<u32, LayoutFault>
     let length = integer_at(LayoutKey::Length, field)?;
     match from_one_to(size.cells().saturating_sub(1), length) {
         Some(length) => Ok(length),
-        None => Err(LayoutFault::at_key(LayoutKey::Length, LayoutRefusal::BadLength)),
+        None => Err(LayoutFault::at_key(LayoutKey::Length, Why::BadLength)),
     }
 }
 
@@ -120,7 +120,7 @@ fn named_kind(word: &str) -> Result<Kind, LayoutFault>
     match word {
         "input" => Ok(Kind::Input),
         "fixed" => Ok(Kind::Fixed),
-        _ => Err(LayoutFault::at_key(LayoutKey::Kind, LayoutRefusal::WrongKind)),
+        _ => Err(LayoutFault::at_key(LayoutKey::Kind, Why::WrongKind)),
     }
 }
 

@@ -10,6 +10,6 @@ mod top;
 mod values;
 
 pub use entry::{Entry, Kind};
-pub use fault::{LayoutError, LayoutFault, LayoutKey, LayoutRefusal};
+pub use fault::{LayoutError, LayoutFault, LayoutKey, Why};
 pub use layout::Layout;
 pub use size_text::size_of_text;

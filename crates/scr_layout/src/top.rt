@@ -6,7 +6,7 @@ ghost use Rattle.scr_layout.specs.Results.{Tells};
 ghost use Rattle.scr_layout.specs.Values.{with_only};
 ghost use Rattle.scr_layout.specs.Top.{top_keys, size_of, default_of, alternate_of, named_size, screen_of, tables_in, are_tables, tables_of, fields_of};
 
-use crate::fault::{LayoutFault, LayoutKey, LayoutRefusal};
+use crate::fault::{LayoutFault, LayoutKey, Why};
 use crate::size_text::size_of_text;
 use crate::values::{text_of, value_at, with_only};
 use ds_codec::{Mode, Size};
@@ -33,7 +33,7 @@ fn size_of(key: LayoutKey, value: &Value) -> Result<Size, LayoutFault>
     let text = text_of(key, value)?;
     match size_of_text(Mode::Bits14, text) {
         Some(size) => Ok(size),
-        None => Err(LayoutFault::at_key(key, LayoutRefusal::BadSize)),
+        None => Err(LayoutFault::at_key(key, Why::BadSize)),
     }
 }
 
@@ -65,7 +65,7 @@ fn named_size(default: Size, alternate: Size, word: &str) -> Result<Size, Layout
     match word {
         "default" => Ok(default),
         "alternate" => Ok(alternate),
-        _ => Err(LayoutFault::at_key(LayoutKey::Screen, LayoutRefusal::WrongKind)),
+        _ => Err(LayoutFault::at_key(LayoutKey::Screen, Why::WrongKind)),
     }
 }
 
@@ -91,13 +91,13 @@ fn tables_of(value: &Value) -> Result<&[Value], LayoutFault>
     ensures { Tells (λ vs. tables_in (items_view vs.now)) result (tables_of (view value.now)) }
 {
     let Some(values) = value.as_array() else {
-        return Err(LayoutFault::at_key(LayoutKey::Field, LayoutRefusal::WrongKind));
+        return Err(LayoutFault::at_key(LayoutKey::Field, Why::WrongKind));
     };
     if !are_tables(values) {
-        return Err(LayoutFault::at_key(LayoutKey::Field, LayoutRefusal::WrongKind));
+        return Err(LayoutFault::at_key(LayoutKey::Field, Why::WrongKind));
     }
     if values.len() > 1000 {
-        return Err(LayoutFault::at_key(LayoutKey::Field, LayoutRefusal::TooManyFields));
+        return Err(LayoutFault::at_key(LayoutKey::Field, Why::TooManyFields));
     }
     Ok(values)
 }

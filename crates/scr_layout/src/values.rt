@@ -5,7 +5,7 @@ ghost use Rattle.toml.specs.View.{view, table_view};
 ghost use Rattle.scr_layout.specs.Results.{Tells};
 ghost use Rattle.scr_layout.specs.Values.{value_at, needed_at, text_of, integer_of, from_one_to, is_key, has_only, with_only};
 
-use crate::fault::{LayoutFault, LayoutKey, LayoutRefusal};
+use crate::fault::{LayoutFault, LayoutKey, Why};
 use toml::{Table, Value};
 
 /// The value of a key, if it is there.
@@ -21,7 +21,7 @@ pub(crate) fn needed_at(key: LayoutKey, table: &Table) -> Result<&Value, LayoutF
 {
     match value_at(key, table) {
         Some(value) => Ok(value),
-        None => Err(LayoutFault::at_key(key, LayoutRefusal::MissingKey)),
+        None => Err(LayoutFault::at_key(key, Why::MissingKey)),
     }
 }
 
@@ -31,7 +31,7 @@ pub(crate) fn text_of(key: LayoutKey, value: &Value) -> Result<&str, LayoutFault
 {
     match value.as_str() {
         Some(text) => Ok(text),
-        None => Err(LayoutFault::at_key(key, LayoutRefusal::WrongKind)),
+        None => Err(LayoutFault::at_key(key, Why::WrongKind)),
     }
 }
 
@@ -41,7 +41,7 @@ pub(crate) fn integer_of(key: LayoutKey, value: &Value) -> Result<i64, LayoutFau
 {
     match value.as_integer() {
         Some(number) => Ok(number),
-        None => Err(LayoutFault::at_key(key, LayoutRefusal::WrongKind)),
+        None => Err(LayoutFault::at_key(key, Why::WrongKind)),
     }
 }
 
@@ -75,6 +75,6 @@ pub(crate) fn with_only<'a>(keys: &[LayoutKey], table: &'a Table) -> Result<&'a 
     if has_only(keys, table) {
         Ok(table)
     } else {
-        Err(LayoutFault::at_key(LayoutKey::Unknown, LayoutRefusal::UnknownKey))
+        Err(LayoutFault::at_key(LayoutKey::Unknown, Why::UnknownKey))
     }
 }

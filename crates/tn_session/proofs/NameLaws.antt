@@ -1,12 +1,12 @@
 -- A device's name, as the other end reads it.
-use Rattle.std.proofs.Common.{ℕ, ◌≡◌, ◌++◌, Bool, true, false, List, [], ◌∷◌, length, refl, Option, Some, None, if◌then◌else◌}
+use Rattle.std.proofs.Common.{ℕ, ◌≡◌, ◌++◌, Bool, true, false, List, ◌∷◌, length, refl, Some, None, if◌then◌else◌}
 use Rattle.std.specs.Prelude.{nat_le, bytes_eq}
 use Rattle.std.specs.Str.{str_eq_ignore_ascii_case}
 use Rattle.ds_codec.specs.Geometry.{Sizes}
 use Rattle.tn_session.specs.declared.device.ScreenModel.{ScreenModel}
 use Rattle.tn_session.specs.declared.device.ScreenModel.TheVariants.{Two, Three, Four, Five}
 use Rattle.tn_session.specs.declared.device.Device.{Device}
-use Rattle.tn_session.specs.Devices.{device, name_in, name_of, device_of, fits, fitting}
+use Rattle.tn_session.specs.Devices.{device, name_in, name_of, fits, fitting}
 use Rattle.tn_session.specs.Heard.{Naming, Joined, alone, connect, naming}
 use Rattle.tn_session.specs.Replies.{resource_name}
 use Rattle.tn_session.proofs.Names.{device_of-name_of}

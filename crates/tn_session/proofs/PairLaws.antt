@@ -1,9 +1,9 @@
 -- Every pair that is reached stands at a stage, and each step leads to a lower one.
-use Rattle.std.proofs.Common.{ℕ, ◌≡◌, ◌<◌, ◌≤◌, ◌+◌, Bool, true, false, List, [], ◌∷◌, length, Option, Some, None, refl, ap, subst, sym, ◌∙◌, arith, lit≤}
+use Rattle.std.proofs.Common.{ℕ, ◌≡◌, ◌≤◌, ◌+◌, Bool, true, false, List, [], ◌∷◌, length, Option, Some, None, refl, subst, sym, arith, lit≤}
 use Rattle.std.specs.Option.{option_and_then}
 use Rattle.ds_codec.specs.Geometry.{Sizes}
 use Rattle.tn_session.specs.declared.device.Device.{Device}
-use Rattle.tn_session.specs.Pair.{SessionPair, End, at_terminal, at_host, Ends, start, pair_step, pair_after, Reaches, PairsAgree, PairsSettle, PairsEnd, ReadyAgree, IsSettled}
+use Rattle.tn_session.specs.Pair.{SessionPair, End, Ends, start, pair_step, pair_after, Reaches, PairsAgree, PairsSettle, PairsEnd}
 use Rattle.tn_session.proofs.PairWords.{Holds}
 use Rattle.tn_session.proofs.PairStages.{Stage, state, rank, Leads, next, holds, e0, x0, k0}
 

@@ -1,5 +1,5 @@
 -- Every state that a pair of cores can reach, written out, and the step from each: printed by pair_stages.py.
-use Rattle.std.proofs.Common.{ℕ, ◌≡◌, ◌<◌, ◌++◌, Bool, true, false, List, [], ◌∷◌, Option, Some, None, refl, lit<, inl, inr}
+use Rattle.std.proofs.Common.{ℕ, ◌≡◌, ◌<◌, ◌++◌, Bool, true, false, [], ◌∷◌, Option, Some, None, refl, lit<, inl, inr}
 use Rattle.ds_codec.specs.Geometry.{Sizes}
 use Rattle.tn_wire.specs.Stream.{told_verb, told_sub}
 use Rattle.tn_session.specs.declared.device.Device.{Device as DeviceValue}

@@ -1,5 +1,5 @@
 -- The words in which the states of a pair are written out.
-use Rattle.std.proofs.Common.{ℕ, ◌≡◌, Bool, true, false, List, [], refl, if◌then◌else◌}
+use Rattle.std.proofs.Common.{◌≡◌, Bool, true, false, List, [], refl, if◌then◌else◌}
 use Rattle.ds_codec.specs.Geometry.{Sizes}
 use Rattle.tn_wire.specs.Stream.{Told as Event}
 use Rattle.tn_session.specs.declared.device.Device.{Device as DeviceValue}

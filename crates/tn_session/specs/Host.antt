@@ -4,7 +4,6 @@ use Rattle.tn_wire.specs.declared.codes.Verb.TheVariants.{Will, Wont, Do, Dont}
 use Rattle.tn_wire.specs.Telnet.{Token}
 use Rattle.tn_session.specs.declared.option.TelnetOption.{TelnetOption}
 use Rattle.tn_session.specs.declared.option.TelnetOption.TheVariants.{Binary, TerminalType, EndOfRecord, Tn3270e, Other}
-use Rattle.tn_session.specs.declared.option.Sides.{Sides}
 use Rattle.tn_session.specs.declared.option.Reason.TheVariants.{InvalidName, InvalidDeviceType, UnsupportedRequest}
 use Rattle.tn_session.specs.declared.heard.FunctionList.{FunctionList}
 use Rattle.tn_session.specs.declared.device.Device.{Device as DeviceValue}

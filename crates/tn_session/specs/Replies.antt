@@ -1,12 +1,18 @@
 -- What a core says, as tokens of the stream (RFC 854, 855, 1091, 2355).
 use Rattle.std.specs.Prelude.{ℕ, Bool, true, false, List, [], ◌∷◌, ◌++◌, codes}
 use Rattle.std.specs.List.{flat_map}
+use Rattle.tn_wire.specs.declared.codes.Verb.{Verb}
+use Rattle.tn_wire.specs.Verbs.{verb_code}
 use Rattle.tn_wire.specs.Telnet.{Token, command, subnegotiation, spelling}
 use Rattle.tn_session.specs.declared.option.TelnetOption.{TelnetOption}
-use Rattle.tn_session.specs.declared.option.TelnetOption.TheVariants.{Binary, TerminalType, EndOfRecord, Tn3270e}
+use Rattle.tn_session.specs.declared.option.TelnetOption.TheVariants.{Binary, EndOfRecord}
 use Rattle.tn_session.specs.declared.option.Reason.{Reason}
 use Rattle.tn_session.specs.declared.option.Sides.{Sides}
 use Rattle.tn_session.specs.Options.{option_code, reason_code}
+
+-- a verb and its option
+abbrev pub said : Verb → TelnetOption → List Token
+said verb option = command (verb_code verb) (option_code option) ∷ []
 
 abbrev pub will : TelnetOption → List Token
 will option = command 251 (option_code option) ∷ []
@@ -59,6 +65,7 @@ request_functions responses = subnegotiation 40 (3 ∷ 7 ∷ function_list respo
 abbrev pub functions_are : Bool → List Token
 functions_are responses = subnegotiation 40 (3 ∷ 4 ∷ function_list responses) ∷ []
 
+-- said unless it is agreed already
 abbrev pub unless : Bool → List Token → List Token
 unless true reply = []
 unless false reply = reply

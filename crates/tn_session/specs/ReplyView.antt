@@ -1,5 +1,5 @@
 -- What code says, as tokens of the stream.
-use Rattle.std.specs.Prelude.{ℕ, List, [], ◌∷◌, Result, Ok, Err}
+use Rattle.std.specs.Prelude.{List, [], ◌∷◌, Result, Ok, Err}
 use Rattle.tn_wire.specs.Telnet.{Token, command}
 use Rattle.tn_wire.specs.Verbs.{verb_code}
 use Rattle.tn_session.specs.declared.reply.Reply.{Reply}
@@ -7,12 +7,12 @@ use Rattle.tn_session.specs.declared.reply.Reply.TheVariants.{Nothing, Verb, Sen
 use Rattle.tn_session.specs.declared.session.SessionFault.{SessionFault}
 use Rattle.tn_session.specs.Options.{option_code}
 use Rattle.tn_session.specs.Devices.{name_of}
-use Rattle.tn_session.specs.Replies.{send_type, type_is, send_device, request_device, device_is, reject_device, request_functions, functions_are, offers}
+use Rattle.tn_session.specs.Replies.{said, send_type, type_is, send_device, request_device, device_is, reject_device, request_functions, functions_are, offers}
 use Rattle.tn_session.specs.Rows.{Row}
 
 abbrev pub tokens_of : Reply → List Token
 tokens_of Nothing = []
-tokens_of (Verb verb option) = command (verb_code verb) (option_code option) ∷ []
+tokens_of (Verb verb option) = said verb option
 tokens_of SendType = send_type
 tokens_of (TypeIs device) = type_is (name_of device)
 tokens_of (Offers end_of_record binary) = offers end_of_record binary

@@ -1,5 +1,5 @@
 -- The words of both ends' tables.
-use Rattle.std.specs.Prelude.{ℕ, Bool, true, false, ◌&&◌, ◌||◌, not, List, [], Result, Ok, Err}
+use Rattle.std.specs.Prelude.{Bool, true, false, ◌&&◌, ◌||◌, not, List, [], Result, Ok, Err}
 use Rattle.tn_wire.specs.Telnet.{Token}
 use Rattle.tn_session.specs.declared.option.TelnetOption.{TelnetOption}
 use Rattle.tn_session.specs.declared.option.Sides.{Sides}

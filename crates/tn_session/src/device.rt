@@ -52,7 +52,7 @@ impl ScreenModel {
     }
 }
 
-/// A display, as its name tells it (RFC 1340, "Terminal type names"; RFC 2355, section 7.1.1).
+/// A display, as its name tells it (RFC 1340, "Terminal type names"; RFC 2355, section 7.1).
 #[derive(Clone, Copy, Debug, PartialEq, Eq)]
 pub struct Device {
     /// The model.

@@ -1,15 +1,12 @@
 //! The host's end of a session.
 
-ghost use Rattle.std.specs.Prelude.{◌≡◌, ◌≤◌, ◌↔◌, true, Ok, OnErr, IfOk, IfErr, IsOk, length, [], ◌∷◌, if◌then◌else◌};
+ghost use Rattle.std.specs.Prelude.{◌≡◌, ◌≤◌, ◌↔◌, true, Ok, OnErr, IfOk, IfErr, IsOk, length};
 ghost use Rattle.tn_wire.specs.Calls.{told_of};
 ghost use Rattle.tn_session.specs.Devices.{fits};
 ghost use Rattle.tn_session.specs.HeardView.{heard_view, joined_view};
 ghost use Rattle.tn_session.specs.ReplyView.{rowed, tokens_of};
-ghost use Rattle.tn_session.specs.Options.{option_code};
-ghost use Rattle.tn_wire.specs.Telnet.{command};
-ghost use Rattle.tn_wire.specs.Verbs.{verb_code};
 ghost use Rattle.tn_session.specs.declared.device.ScreenModel.{ScreenModel as ScreenModelValue};
-ghost use Rattle.tn_session.specs.Replies.{bytes_of};
+ghost use Rattle.tn_session.specs.Replies.{bytes_of, said, unless};
 ghost use Rattle.tn_session.specs.Steps.{Takes, host_step};
 ghost use Rattle.tn_session.specs.Host.{new_host, opening, host_agreed, host_will, will_enhanced, will_type, host_do, is_offered};
 ghost use Rattle.tn_session.specs.Host.{host_wont, wont_enhanced, wont_type, host_dont, is_needed, host_device_request, request_joined, grants};
@@ -75,8 +72,10 @@ impl HostCore {
     ///
     /// `NoDevice` exactly where no model has the layout's two sizes.
     pub fn new(layout: &Layout, enhanced: bool, responses: bool) -> Result<HostCore, SessionFault>
-        ensures core { IfOk result (λ core. core ≡ new_host layout.now.geometry enhanced responses) }
-        ensures found { IsOk result ↔ ((model : ScreenModelValue) × (fits layout.now.geometry model ≡ true)) }
+        ensures core { IfOk result (λ core.
+            core ≡ new_host layout.now.geometry enhanced responses) }
+        ensures found { IsOk result
+            ↔ ((model : ScreenModelValue) × (fits layout.now.geometry model ≡ true)) }
         ensures none { IfErr result (λ why. why ≡ SessionFault.NoDevice) }
     {
         let geometry = layout.geometry();
@@ -116,7 +115,8 @@ impl HostCore {
     /// `WrongList`, `BadSubnegotiation`, `OptionRefused`, `NotReady` or `NoDevice`. The core is then as before, and `out`
     /// is empty.
     pub fn step(&mut self, event: &Event<'_>, out: &mut Out) -> Result<Told, SessionFault>
-        ensures { Takes (host_step self.old (told_of event.now)) self.old result self.new out.new.items }
+        ensures { Takes (host_step self.old (told_of event.now))
+            self.old result self.new out.new.items }
     {
         out.clear();
         match Heard::of(event) {
@@ -413,8 +413,7 @@ fn any_fits(geometry: &Geometry) -> bool
 
 /// An option that the session needs comes into force: it is answered where it wasn't offered already.
 fn agree(in_force: &mut bool, offered: bool, verb: Verb, option: TelnetOption) -> Reply
-    ensures reply { tokens_of result
-        ≡ (if in_force.old then [] else (if offered then [] else command (verb_code verb) (option_code option) ∷ [])) }
+    ensures reply { tokens_of result ≡ unless in_force.old (unless offered (said verb option)) }
     ensures on { in_force.new ≡ true }
 {
     let reply = once(in_force, verb, option);

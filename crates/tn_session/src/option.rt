@@ -71,7 +71,7 @@ impl Sides {
     }
 }
 
-/// Why a host refuses a device (RFC 2355, section 7.1.6).
+/// Why a host refuses a device (RFC 2355, section 7.1).
 #[derive(Clone, Copy)]
 pub(crate) enum Reason {
     /// 03, INV-NAME: the resource is not ours.

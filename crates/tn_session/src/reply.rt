@@ -1,11 +1,11 @@
 //! What a core says, and its bytes.
 
-ghost use Rattle.std.specs.Prelude.{◌≡◌, true, Ok, Err, if◌then◌else◌, ◌+◌, ◌*◌, ◌≤◌, [], ◌∷◌, ◌++◌, length};
+ghost use Rattle.std.specs.Prelude.{◌≡◌, true, false, Ok, Err, ◌+◌, ◌*◌, ◌≤◌, [], ◌∷◌, ◌++◌, length};
 ghost use Rattle.tn_wire.specs.Telnet.{command, subnegotiation, spelling, quoted};
 ghost use Rattle.tn_wire.specs.Verbs.{verb_code};
 ghost use Rattle.tn_session.specs.Options.{option_code};
 ghost use Rattle.tn_session.specs.ReplyView.{tokens_of};
-ghost use Rattle.tn_session.specs.Replies.{bytes_of, offers, device_is, function_list};
+ghost use Rattle.tn_session.specs.Replies.{bytes_of, said, unless, offers, device_is, function_list};
 
 use crate::device::{Device, DeviceName};
 use crate::option::{Reason, Sides, TelnetOption};
@@ -78,7 +78,7 @@ impl Reply {
 
 /// An option that is asked for: it is answered once, when it comes into force.
 pub(crate) fn once(in_force: &mut bool, verb: Verb, option: TelnetOption) -> Reply
-    ensures reply { tokens_of result ≡ (if in_force.old then [] else command (verb_code verb) (option_code option) ∷ []) }
+    ensures reply { tokens_of result ≡ unless in_force.old (said verb option) }
     ensures on { in_force.new ≡ true }
 {
     if *in_force {
@@ -90,7 +90,8 @@ pub(crate) fn once(in_force: &mut bool, verb: Verb, option: TelnetOption) -> Rep
 
 /// An option that is refused: one in force is needed.
 pub(crate) fn unless_on(in_force: bool, option: TelnetOption) -> Result<Reply, SessionFault>
-    ensures { result ≡ (if in_force then Err (SessionFault.OptionRefused (option_code option)) else Ok Reply.Nothing) }
+    ensures on { in_force ≡ true → result ≡ Err (SessionFault.OptionRefused (option_code option)) }
+    ensures off { in_force ≡ false → result ≡ Ok Reply.Nothing }
 {
     if in_force {
         Err(SessionFault::OptionRefused(option.code()))
@@ -102,7 +103,8 @@ pub(crate) fn unless_on(in_force: bool, option: TelnetOption) -> Result<Reply, S
 /// Adds a verb and its option.
 fn push_verb(out: &mut Out, verb: Verb, option: TelnetOption)
     requires { length out.old.items + 3 ≤ 64 }
-    ensures { out.new.items ≡ out.old.items ++ spelling (command (verb_code verb) (option_code option)) }
+    ensures { out.new.items
+        ≡ out.old.items ++ spelling (command (verb_code verb) (option_code option)) }
 {
     out.push(IAC);
     out.push(verb.byte());
@@ -145,7 +147,8 @@ fn push_quoted(out: &mut Out, words: &[u8])
 /// Adds a subnegotiation.
 fn push_sub(out: &mut Out, option: TelnetOption, words: &[u8])
     requires room { length out.old.items + 2 * length words.now + 6 ≤ 64 }
-    ensures { out.new.items ≡ out.old.items ++ spelling (subnegotiation (option_code option) words.now) }
+    ensures { out.new.items
+        ≡ out.old.items ++ spelling (subnegotiation (option_code option) words.now) }
 {
     out.push(IAC);
     out.push(SB);
@@ -160,7 +163,8 @@ fn push_named(out: &mut Out, option: TelnetOption, words: &[u8], name: &[u8])
     requires empty { out.old.items ≡ [] }
     requires few { length words.now ≤ 2 }
     requires short { length name.now ≤ 12 }
-    ensures { out.new.items ≡ spelling (subnegotiation (option_code option) (words.now ++ name.now)) }
+    ensures { out.new.items
+        ≡ spelling (subnegotiation (option_code option) (words.now ++ name.now)) }
 {
     let mut all: ArrayVec<u8, 24> = ArrayVec::new();
     all.try_extend_from_slice(words).unwrap();

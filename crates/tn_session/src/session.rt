@@ -45,7 +45,7 @@ pub(crate) fn told_after(before: Option<Agreed>, after: Option<Agreed>) -> Told
 /// Why a session ends. The cores answer the first five and `NoDevice`; the others are of runs over a line.
 #[derive(Clone, Copy, Debug, PartialEq, Eq, Error)]
 pub enum SessionFault {
-    /// The host refused the device, for this reason (RFC 2355, section 7.1.6).
+    /// The host refused the device, for this reason (RFC 2355, section 7.1).
     #[error("N1 Rejected")]
     Rejected(u8),
     /// A list of functions that isn't the one asked for (RFC 2355, section 7.2).

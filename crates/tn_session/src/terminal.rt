@@ -104,7 +104,8 @@ impl TermCore {
     /// `Rejected`, `WrongList`, `BadSubnegotiation`, `OptionRefused` or `NotReady`. The core is then as before, and `out`
     /// is empty.
     pub fn step(&mut self, event: &Event<'_>, out: &mut Out) -> Result<Told, SessionFault>
-        ensures { Takes (terminal_step self.old (told_of event.now)) self.old result self.new out.new.items }
+        ensures { Takes (terminal_step self.old (told_of event.now))
+            self.old result self.new out.new.items }
     {
         out.clear();
         match Heard::of(event) {
@@ -353,7 +354,8 @@ impl TermCore {
 
     /// FUNCTIONS REQUEST.
     fn on_functions_request(&mut self, list: FunctionList) -> Result<Reply, SessionFault>
-        ensures row { rowed result self.new ≡ terminal_functions_request self.old list self.old.phase }
+        ensures row { rowed result self.new
+            ≡ terminal_functions_request self.old list self.old.phase }
         ensures err { OnErr result (self.new ≡ self.old) }
     {
         let TerminalPhase::Functions(_responses) = self.phase else {

@@ -2,7 +2,7 @@
 
 use super::{CODE, check_rows, told};
 use ds_codec::{Mode, Size};
-use scr_layout::{Kind, Layout, LayoutError, LayoutKey, LayoutRefusal};
+use scr_layout::{Kind, Layout, LayoutError, LayoutKey, Why};
 use std::test::Fail;
 
 const CUTS: &str = r#"default = "2x10" -> taken
@@ -176,7 +176,7 @@ fn errors_print(rt: HostRuntime) -> Result<(), Fail> {
         "L4 UnknownKey unknown"
     );
     assert_eq!(rt; LayoutKey::Unknown.word(), "unknown");
-    let (key, why) = (LayoutKey::Length, LayoutRefusal::BadLength);
+    let (key, why) = (LayoutKey::Length, Why::BadLength);
     assert_eq!(rt;
         format!(in alloc; "{key}: {why}")?.as_str(),
         "length: L10 BadLength"

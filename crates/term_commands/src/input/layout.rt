@@ -8,7 +8,7 @@ ghost use Rattle.term_commands.specs.LayoutText.{layout_said, layout_in};
 use crate::fault::CommandError;
 use crate::input::bytes::read_all;
 use crate::input::lines::text_of;
-use scr_layout::{Layout, LayoutError, LayoutFault, LayoutRefusal};
+use scr_layout::{Layout, LayoutError, LayoutFault, Why};
 use std::alloc::Global;
 use std::io::Read;
 
@@ -21,7 +21,7 @@ fn layout_of(alloc: Global, bytes: &[u8]) -> Result<Layout, LayoutError>
         None => Err(LayoutError::Refused(LayoutFault {
             field: None,
             which: None,
-            why: LayoutRefusal::NotToml,
+            why: Why::NotToml,
         })),
     }
 }
