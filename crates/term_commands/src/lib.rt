@@ -15,6 +15,3 @@ pub use fault::failure;
 pub use law::{convert_law, lines_law};
 pub use output::demo::Demos;
 pub use status::Status;
-
-#[cfg(test)]
-mod tests;

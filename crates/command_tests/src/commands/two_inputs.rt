@@ -1,9 +1,9 @@
 //! `check` and `press` over readers and writers in memory, and over ones that fail.
 
 use super::{Narrow, Slow};
-use crate::{Demos, Status, run_check, run_press};
 use std::alloc::Global;
 use std::test::Fail;
+use term_commands::{Demos, Status, run_check, run_press};
 
 const FORM: &str = "F5C21D60C11D40131140C61DF0\n";
 

@@ -1,12 +1,12 @@
 //! Streams that fail, and ones that are not read before their turn.
 
-use crate::{
-    Demos, Status, lines_law, run_check, run_convert, run_convert_back, run_press, run_show,
-};
 use std::alloc::Global;
 use std::io;
 use std::io::{Read, Write};
 use std::test::Fail;
+use term_commands::{
+    Demos, Status, lines_law, run_check, run_convert, run_convert_back, run_press, run_show,
+};
 
 const RECORD: &str = "F5C2\n";
 

@@ -1,10 +1,10 @@
 //! `convert --back`: order lines to records.
 
-use crate::tests::{Narrow, Slow};
-use crate::{Status, convert_law, run_convert, run_convert_back};
+use super::{Narrow, Slow};
 use std::alloc::Global;
 use std::process::Abort;
 use std::test::Fail;
+use term_commands::{Status, convert_law, run_convert, run_convert_back};
 
 const LINES: &str = "size 2x10\nEW C2\nSF 20\nTEXT C1\nSF 00\nIC\nSBA 6\nSF 30\n\n";
 

@@ -1,9 +1,9 @@
 //! Commands over readers and writers in memory, and over ones that fail.
 
-use crate::{Status, run_convert, run_show};
 use std::io;
 use std::io::{Read, Write};
 use std::test::Fail;
+use term_commands::{Status, run_convert, run_show};
 
 mod back;
 mod streams;
