@@ -9,6 +9,17 @@ pub enum Mode {
     Bits14,
 }
 
+impl Mode {
+    ghost use Rattle.ds_codec.specs.declared.size.Mode.TheVariants.{Bits14};
+
+    /// How a terminal spells addresses unless it is told otherwise.
+    pub fn usual() -> Mode
+        ensures { result ≡ Bits14 }
+    {
+        Mode::Bits14
+    }
+}
+
 /// The rows and columns of a screen.
 #[derive(Clone, Copy, Debug, PartialEq, Eq)]
 pub struct Size {

@@ -87,7 +87,7 @@ impl Layout {
         let size = screen_of(default, alternate, top)?;
         let fields = fields_of(top)?;
         let entries = entries_of(alloc, size, fields)?;
-        let geometry = Geometry::new(default, alternate, Mode::Bits14).unwrap();
+        let geometry = Geometry::new(default, alternate, Mode::usual()).unwrap();
         Ok(Layout {
             geometry,
             size,

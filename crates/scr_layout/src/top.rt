@@ -31,7 +31,7 @@ fn size_of(key: LayoutKey, value: &Value) -> Result<Size, LayoutFault>
     ensures { result ≡ size_of key (view value.now) }
 {
     let text = text_of(key, value)?;
-    match size_of_text(Mode::Bits14, text) {
+    match size_of_text(Mode::usual(), text) {
         Some(size) => Ok(size),
         None => Err(LayoutFault::at_key(key, Why::BadSize)),
     }

@@ -10,7 +10,7 @@ use Rattle.std.specs.Prelude.{Result, slice_index}
 use Rattle.term_commands.specs.declared.fault.Fault.{Fault}
 use Rattle.bstr.specs.Text.{lines_of, without_terminator}
 use Rattle.bstr.proofs.lemmas.LineLemmas.{lines-append}
-use Rattle.ds_codec.specs.declared.size.Mode.TheVariants.{Bits14}
+use Rattle.ds_codec.specs.declared.size.Mode.{Mode}
 use Rattle.ds_codec.specs.declared.size.Size.{Size}
 use Rattle.ds_codec.specs.declared.command.Command.{Command}
 use Rattle.ds_codec.specs.declared.command.Command.TheVariants as commands
@@ -34,6 +34,7 @@ use Rattle.term_commands.specs.Printed.{printed, joined}
 use Rattle.term_commands.specs.Lines.{within_limit}
 use Rattle.term_commands.specs.Back.{size_after, bytes_line, lines_written, printed_back}
 use Rattle.term_commands.specs.Law.{AreBytes, AreTheSame, AllInside, TellsSizes, ConvertsBack}
+use Rattle.term_commands.specs.Sizes.{usual_sizes}
 use Rattle.term_commands.proofs.ToldSizes.{AreAddressed, are_addressed}
 use Rattle.term_commands.proofs.PlainLines.{plain_utf8, first_line, no_lines}
 
@@ -138,42 +139,42 @@ record_taken message number begun geometry ended rest told few =
 -- ---- all records
 
 -- what each record says
-abbrev AreRead : List (List ℕ) → List Message → Type 0
-AreRead [] [] = Unit {0}
-AreRead [] (message ∷ messages) = ⊥
-AreRead (bytes ∷ records) [] = ⊥
-AreRead (bytes ∷ records) (message ∷ messages) = (read_of Bits14 bytes ≡ Ok message) × AreRead records messages
+abbrev AreRead : Mode → List (List ℕ) → List Message → Type 0
+AreRead mode [] [] = Unit {0}
+AreRead mode [] (message ∷ messages) = ⊥
+AreRead mode (bytes ∷ records) [] = ⊥
+AreRead mode (bytes ∷ records) (message ∷ messages) = (read_of mode bytes ≡ Ok message) × AreRead mode records messages
 
 -- lines are printed of records that can all be read
-abbrev ArePrinted : List (List ℕ) → List ℕ → Type 0
-ArePrinted records lines = (messages : List Message) × AreRead records messages × (lines ≡ flat_map record_lines messages)
+abbrev ArePrinted : Mode → List (List ℕ) → List ℕ → Type 0
+ArePrinted mode records lines = (messages : List Message) × AreRead mode records messages × (lines ≡ flat_map record_lines messages)
 
 -- the lines of the first record, and those of the others
-one_printed : (bytes : List ℕ) (records : List (List ℕ)) (message : Message) (others : Result (List ℕ) Fault) (lines : List ℕ) → read_of Bits14 bytes ≡ Ok message
-    → joined (Ok (record_lines message)) others ≡ Ok lines → ((rest : List ℕ) → others ≡ Ok rest → ArePrinted records rest) → ArePrinted (bytes ∷ records) lines
-one_printed bytes records message (Err fault) lines read done more = absurd cc
-one_printed bytes records message (Ok rest) lines read done more =
+one_printed : (mode : Mode) (bytes : List ℕ) (records : List (List ℕ)) (message : Message) (others : Result (List ℕ) Fault) (lines : List ℕ) → read_of mode bytes ≡ Ok message
+    → joined (Ok (record_lines message)) others ≡ Ok lines → ((rest : List ℕ) → others ≡ Ok rest → ArePrinted mode records rest) → ArePrinted mode (bytes ∷ records) lines
+one_printed mode bytes records message (Err fault) lines read done more = absurd cc
+one_printed mode bytes records message (Ok rest) lines read done more =
     let all = more rest refl in
     let same : record_lines message ++ rest ≡ lines = cc in
     (message ∷ all.0, (read, all.1), sym same ∙ ap (λ others. record_lines message ++ others) all.2 ∙ sym (flat_map-cons record_lines message all.0))
 
-printed_lines : (records : List (List ℕ)) (index : ℕ) (lines : List ℕ) → lines_printed index records ≡ Ok lines → ArePrinted records lines
-printed_lines [] index lines done = let same : [] ≡ lines = cc in ([], tt, sym same)
-printed_lines (bytes ∷ records) index lines done =
-    elim (read_of Bits14 bytes) as (λ r. read_of Bits14 bytes ≡ r → joined (lines_or_refusal index r) (lines_printed (index + 1) records) ≡ Ok lines → ArePrinted (bytes ∷ records) lines) [
-      | Ok message ↦ λ read done. one_printed bytes records message (lines_printed (index + 1) records) lines read done (printed_lines records (index + 1))
+printed_lines : (mode : Mode) (records : List (List ℕ)) (index : ℕ) (lines : List ℕ) → lines_printed mode index records ≡ Ok lines → ArePrinted mode records lines
+printed_lines mode [] index lines done = let same : [] ≡ lines = cc in ([], tt, sym same)
+printed_lines mode (bytes ∷ records) index lines done =
+    elim (read_of mode bytes) as (λ r. read_of mode bytes ≡ r → joined (lines_or_refusal index r) (lines_printed mode (index + 1) records) ≡ Ok lines → ArePrinted mode (bytes ∷ records) lines) [
+      | Ok message ↦ λ read done. one_printed mode bytes records message (lines_printed mode (index + 1) records) lines read done (printed_lines mode records (index + 1))
       | Err e ↦ λ read later. absurd cc
     ] refl done
 
 -- their lines tell the same records
-all_taken : (records : List (List ℕ)) (messages : List Message) (number : ℕ) (begun : SizeLine) (geometry : Sizes) (ended : List Draft) → AreRead records messages → AreBytes records
+all_taken : (records : List (List ℕ)) (messages : List Message) (number : ℕ) (begun : SizeLine) (geometry : Sizes) (ended : List Draft) → AreRead geometry.mode records messages → AreBytes records
     → length ended + length records ≤ 1000
     → (later : SizeLine) × (taken take_order_line number (state begun geometry ended None) (lines_in (flat_map record_lines messages)) ≡ Ok (state later geometry (ended ++ map draft_of messages) None))
 all_taken [] [] number begun geometry ended read bytes few = (begun, rw (no_lines, append-nil ended) refl)
 all_taken [] (message ∷ messages) number begun geometry ended read bytes few = absurd read
 all_taken (bytes ∷ records) [] number begun geometry ended read all few = absurd read
 all_taken (bytes ∷ records) (message ∷ messages) number begun geometry ended (read, others) (byte, all) few =
-    let told = lines_tell_again Bits14 bytes message byte read in
+    let told = lines_tell_again geometry.mode bytes message byte read in
     let lines : lines_in (flat_map record_lines (message ∷ messages)) ≡ command_words message.command ∷ (words_of message.orders ++ [] ∷ lines_in (flat_map record_lines messages)) =
     rw (flat_map-cons record_lines message messages) (lines_of_record message (flat_map record_lines messages) told) in
     let one = record_taken message number begun geometry ended (lines_in (flat_map record_lines messages)) told (omega arith) in
@@ -191,7 +192,7 @@ size_stays geometry size commands.ReadModifiedAll good few = few
 size_stays geometry size commands.NoOperation good few = few
 
 -- and they are written again
-all_written : (records : List (List ℕ)) (messages : List Message) (geometry : Sizes) (size : Size) (index : ℕ) → AreRead records messages → AreBytes records → AreAddressed geometry
+all_written : (records : List (List ℕ)) (messages : List Message) (geometry : Sizes) (size : Size) (index : ℕ) → AreRead geometry.mode records messages → AreBytes records → AreAddressed geometry
     → cells_of size ≤ limit_of geometry.mode → AllInside geometry size records
     → (others : List (List ℕ)) × (lines_written geometry size index (map draft_of messages) ≡ Ok (flat_map bytes_line others)) × AreTheSame geometry.mode records others
 all_written [] [] geometry size index read bytes good few inside = ([], refl, tt)
@@ -201,7 +202,7 @@ all_written (bytes ∷ records) (message ∷ messages) geometry size index (read
     let here = inside message read in
     let now = size_after geometry size message.command in
     let stays = size_stays geometry size message.command good few in
-    let one = written_again Bits14 geometry.mode (cells_of now) bytes message byte read stays here.0 in
+    let one = written_again geometry.mode geometry.mode (cells_of now) bytes message byte read stays here.0 in
     let rest = all_written records messages geometry now (index + 1) more all good stays here.1 in (
       one.0 ∷ rest.0,
       rw (one.1, rest.1, flat_map-cons bytes_line one.0 rest.0) refl,
@@ -214,10 +215,11 @@ abbrev Taken : List ℕ → Sizes → List Message → Type 0
 Taken input geometry messages = (later : SizeLine) × (taken take_order_line 1 no_drafts (lines_in input) ≡ Ok (state later geometry (map draft_of messages) None))
 
 -- a line of sizes comes first, or none
-sizes_taken : (told : List ℕ) (geometry : Sizes) (records : List (List ℕ)) (messages : List Message) → TellsSizes told geometry → AreRead records messages → AreBytes records → length records ≤ 1000
+sizes_taken : (told : List ℕ) (geometry : Sizes) (records : List (List ℕ)) (messages : List Message) → TellsSizes told geometry → AreRead geometry.mode records messages → AreBytes records → length records ≤ 1000
     → Taken (told ++ flat_map record_lines messages) geometry messages
 sizes_taken told geometry records messages (inl (none, usual)) read bytes few =
-    rw (none, usual) (all_taken records messages 1 Allowed _ [] read bytes (omega arith))
+    let usually : AreRead usual_sizes.mode records messages = rw usual at read in
+    rw (none, usual) (all_taken records messages 1 Allowed usual_sizes [] usually bytes (omega arith))
 sizes_taken told geometry records messages (inr (line, is, one, said)) read bytes few =
     let lines = flat_map record_lines messages in
     let ends : slice_index told (length told - 1) ≡ 10 =
@@ -232,7 +234,7 @@ unfolding within_limit
 short_input input short = rw (le-ltb 16777216 (length input) short) refl
 
 -- the whole input is converted back
-back_again : (told : List ℕ) (geometry : Sizes) (records : List (List ℕ)) (messages : List Message) → TellsSizes told geometry → AreRead records messages → AreBytes records → length records ≤ 1000
+back_again : (told : List ℕ) (geometry : Sizes) (records : List (List ℕ)) (messages : List Message) → TellsSizes told geometry → AreRead geometry.mode records messages → AreBytes records → length records ≤ 1000
     → AllInside geometry geometry.default records → length (told ++ flat_map record_lines messages) ≤ 16777216
     → (others : List (List ℕ)) × (printed_back (told ++ flat_map record_lines messages) ≡ printed (flat_map bytes_line others) Done) × AreTheSame geometry.mode records others
 back_again told geometry records messages sizes read bytes few inside short =
@@ -244,6 +246,6 @@ back_again told geometry records messages sizes read bytes few inside short =
 
 pub converts_back : ConvertsBack
 converts_back told geometry records lines sizes bytes few done inside short =
-    let all = printed_lines records 0 lines done in
+    let all = printed_lines geometry.mode records 0 lines done in
     let again = back_again told geometry records all.0 sizes all.1 bytes few inside (rw all.2 at short) in
     (again.0, ap (λ text. printed_back (told ++ text)) all.2 ∙ again.1, again.2)

@@ -1,6 +1,6 @@
 -- What `convert` prints: each record as order lines.
 use Rattle.std.specs.Prelude.{ℕ, ◌+◌, List, [], ◌∷◌, Result, Ok, Err}
-use Rattle.ds_codec.specs.declared.size.Mode.TheVariants.{Bits14}
+use Rattle.ds_codec.specs.declared.size.Mode.{Mode}
 use Rattle.ds_codec.specs.declared.refused.Refused.{Refused}
 use Rattle.ds_codec.specs.Record.{Message}
 use Rattle.ds_codec.specs.Reading.{read_of, ◌>>=◌}
@@ -18,14 +18,14 @@ lines_or_refusal index (Ok message) = Ok (record_lines message)
 lines_or_refusal index (Err e) = Err (RecordRefused index (Read e))
 
 -- the lines of each record, one after the other, or the first record that is refused
-abbrev pub lines_printed : ℕ → List (List ℕ) → Result (List ℕ) Fault
-lines_printed index [] = Ok []
-lines_printed index (bytes ∷ others) = joined (lines_or_refusal index (read_of Bits14 bytes)) (lines_printed (index + 1) others)
+abbrev pub lines_printed : Mode → ℕ → List (List ℕ) → Result (List ℕ) Fault
+lines_printed mode index [] = Ok []
+lines_printed mode index (bytes ∷ others) = joined (lines_or_refusal index (read_of mode bytes)) (lines_printed mode (index + 1) others)
 
 abbrev pub convert : List ℕ → Result Printed Fault
 convert input = do
   told ← records_in Allowed input
-  lines ← lines_printed 0 told.records
+  lines ← lines_printed told.geometry.mode 0 told.records
   Ok (printed lines Done)
 
 -- what `convert` prints for an input, and its status

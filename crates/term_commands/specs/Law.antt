@@ -3,7 +3,6 @@ use Rattle.std.specs.Prelude.{◌≡◌, ℕ, ◌≤◌, ◌⊎◌, true, List, 
 use Rattle.std.specs.List.{flat_map}
 use Rattle.hex.specs.Hex.{IsBytes}
 use Rattle.ds_codec.specs.declared.size.Mode.{Mode}
-use Rattle.ds_codec.specs.declared.size.Mode.TheVariants.{Bits14}
 use Rattle.ds_codec.specs.declared.size.Size.{Size}
 use Rattle.ds_codec.specs.Geometry.{Sizes, cells_of}
 use Rattle.ds_codec.specs.Record.{Message}
@@ -26,7 +25,7 @@ AreBytes (bytes ∷ others) = IsBytes bytes × AreBytes others
 
 -- both records are read, as the same command and the same orders
 abbrev pub SayTheSame : Mode → List ℕ → List ℕ → Type 0
-SayTheSame mode bytes other = (message : Message) × (read_of Bits14 bytes ≡ Ok message) × IsReadAgain mode message.command (orders_in message) other
+SayTheSame mode bytes other = (message : Message) × (read_of mode bytes ≡ Ok message) × IsReadAgain mode message.command (orders_in message) other
 
 abbrev pub AreTheSame : Mode → List (List ℕ) → List (List ℕ) → Type 0
 AreTheSame mode [] [] = Unit {0}
@@ -39,7 +38,7 @@ AreTheSame mode (bytes ∷ records) (other ∷ others) = SayTheSame mode bytes o
 abbrev pub AllInside : Sizes → Size → List (List ℕ) → Type 0
 AllInside geometry size [] = Unit {0}
 AllInside geometry size (bytes ∷ others) =
-    (message : Message) → read_of Bits14 bytes ≡ Ok message
+    (message : Message) → read_of geometry.mode bytes ≡ Ok message
     → AreInside (cells_of (size_after geometry size message.command)) message.orders × AllInside geometry (size_after geometry size message.command) others
 
 -- a text tells the sizes: none, for the usual sizes, or one line
@@ -54,6 +53,6 @@ TellsSizes told geometry =
 abbrev pub ConvertsBack : Type 0
 ConvertsBack =
     (told : List ℕ) (geometry : Sizes) (records : List (List ℕ)) (lines : List ℕ)
-    → TellsSizes told geometry → AreBytes records → length records ≤ 1000 → lines_printed 0 records ≡ Ok lines
+    → TellsSizes told geometry → AreBytes records → length records ≤ 1000 → lines_printed geometry.mode 0 records ≡ Ok lines
     → AllInside geometry geometry.default records → length (told ++ lines) ≤ 16777216
     → (others : List (List ℕ)) × (printed_back (told ++ lines) ≡ printed (flat_map bytes_line others) Done) × AreTheSame geometry.mode records others

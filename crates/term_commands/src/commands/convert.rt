@@ -5,7 +5,6 @@ ghost use Rattle.std.specs.String.{string_bytes};
 ghost use Rattle.term_commands.specs.Fault.{Gives};
 ghost use Rattle.term_commands.specs.Held.{answer_seen, records_held};
 ghost use Rattle.term_commands.specs.Convert.{lines_or_refusal, lines_printed, convert, printed_convert};
-ghost use Rattle.ds_codec.specs.declared.size.Mode.TheVariants.{Bits14};
 ghost use Rattle.ds_codec.specs.Reading.{read_of};
 ghost use Rattle.term_commands.specs.Printed.{joined};
 ghost use Rattle.term_commands.specs.Streams.{Prints};
@@ -25,13 +24,14 @@ use std::io::{Read, Write};
 fn push_lines(
     alloc: Global,
     out: &mut String,
+    mode: Mode,
     index: usize,
     bytes: &[u8],
 ) -> Result<(), CommandError>
     ensures { Gives (λ done. string_bytes out.new) result
-        (joined (Ok (string_bytes out.old)) (lines_or_refusal index (read_of Bits14 bytes.now))) }
+        (joined (Ok (string_bytes out.old)) (lines_or_refusal index (read_of mode bytes.now))) }
 {
-    match Record::read(Mode::Bits14, bytes) {
+    match Record::read(mode, bytes) {
         Ok(record) => Ok(push_record(alloc, out, &record)?),
         Err(refused) => Err(CommandError::Fault(Fault::RecordRefused(
             index,
@@ -41,12 +41,16 @@ fn push_lines(
 }
 
 /// The lines of all records, or the first that is refused.
-fn lines_printed(alloc: Global, records: &[Vec<u8>]) -> Result<String, CommandError>
-    ensures { Gives string_bytes result (lines_printed 0 (records_held records.now)) }
+fn lines_printed(
+    alloc: Global,
+    mode: Mode,
+    records: &[Vec<u8>],
+) -> Result<String, CommandError>
+    ensures { Gives string_bytes result (lines_printed mode 0 (records_held records.now)) }
 {
     let mut out = String::new(alloc);
     for (index, bytes) in records.iter().enumerate() {
-        push_lines(alloc, &mut out, index, bytes.as_slice())?;
+        push_lines(alloc, &mut out, mode, index, bytes.as_slice())?;
     }
     Ok(out)
 }
@@ -56,7 +60,7 @@ fn convert<R: Read>(alloc: Global, reader: &mut R) -> Result<Answer, CommandErro
 {
     let told = read_records(alloc, reader, SizeLine::Allowed)?;
     Ok(Answer {
-        text: lines_printed(alloc, told.records.as_slice())?,
+        text: lines_printed(alloc, told.geometry.mode(), told.records.as_slice())?,
         status: Status::Done,
     })
 }

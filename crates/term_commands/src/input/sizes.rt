@@ -11,13 +11,13 @@ use scr_layout::size_of_text;
 fn size(word: &str) -> Option<Size>
     ensures { result ≡ size_of_text Bits14 word.now }
 {
-    size_of_text(Mode::Bits14, word)
+    size_of_text(Mode::usual(), word)
 }
 
 fn geometry(default: Option<Size>, alternate: Option<Size>) -> Option<Geometry>
     ensures { result ≡ geometry_from default alternate }
 {
-    Geometry::new(default?, alternate?, Mode::Bits14).ok()
+    Geometry::new(default?, alternate?, Mode::usual()).ok()
 }
 
 /// The sizes that words tell: one for both, or the default and the alternate size.
@@ -42,7 +42,7 @@ pub fn usual_geometry() -> Geometry
     ensures { result ≡ usual_sizes }
 {
     let size = Size { rows: 24, cols: 80 };
-    match Geometry::new(size, size, Mode::Bits14) {
+    match Geometry::new(size, size, Mode::usual()) {
         Ok(geometry) => geometry,
         Err(_) => unreachable!(),
     }
