@@ -3,3 +3,4 @@ pub mod NameLaws
 pub mod PairWords
 pub mod PairStages
 pub mod PairLaws
+pub mod ReplyLaws

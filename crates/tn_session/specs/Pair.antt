@@ -2,7 +2,8 @@
 use Rattle.std.specs.Prelude.{◌≡◌, ◌≤◌, ◌⊎◌, Bool, List, [], ◌∷◌, ◌++◌, length, Contains, Option, Some, None, Result, Ok, Err}
 use Rattle.std.specs.Option.{option_and_then}
 use Rattle.ds_codec.specs.Geometry.{Sizes}
-use Rattle.tn_wire.specs.Stream.{Told as Event, events_of}
+use Rattle.tn_wire.specs.Telnet.{Token}
+use Rattle.tn_wire.specs.Stream.{Told as Event, events_of, Tells}
 use Rattle.tn_session.specs.declared.device.Device.{Device}
 use Rattle.tn_session.specs.declared.session.Agreed.{Agreed}
 use Rattle.tn_session.specs.declared.session.SessionFault.{SessionFault}
@@ -11,6 +12,7 @@ use Rattle.tn_session.specs.declared.terminal.TermCore.{TermCore}
 use Rattle.tn_session.specs.declared.host.HostCore.{HostCore}
 use Rattle.tn_session.specs.Terminal.{new_terminal, terminal_agreed}
 use Rattle.tn_session.specs.Host.{new_host, opening, host_agreed}
+use Rattle.tn_session.specs.Replies.{bytes_of}
 use Rattle.tn_session.specs.Steps.{Stepped, terminal_step, host_step}
 
 -- the cores, the events on their way to each, and the refusals that each has answered
@@ -100,3 +102,16 @@ PairsSettle = (made : Ends) (steps : List End) (p : SessionPair) → Reaches mad
 -- no pair takes more than 14 steps
 abbrev pub PairsEnd : Type 0
 PairsEnd = (made : Ends) (steps : List End) (p : SessionPair) → Reaches made steps p → length steps ≤ 14
+
+-- the bytes of a reply tell its tokens' events, and leave nothing open
+abbrev pub IsHeard : List Token → Type 0
+IsHeard reply = Tells (bytes_of reply) (events_of reply) []
+
+abbrev pub TerminalIsHeard : Type 0
+TerminalIsHeard = (t : TermCore) (event : Event) (step : Stepped TermCore) → terminal_step t event ≡ Ok step → IsHeard step.reply
+
+abbrev pub HostIsHeard : Type 0
+HostIsHeard = (h : HostCore) (event : Event) (step : Stepped HostCore) → host_step h event ≡ Ok step → IsHeard step.reply
+
+abbrev pub OpeningIsHeard : Type 0
+OpeningIsHeard = (h : HostCore) → IsHeard (opening h)

@@ -1,11 +1,9 @@
 -- What code says, as tokens of the stream.
-use Rattle.std.specs.Prelude.{List, [], ◌∷◌, Result, Ok, Err}
-use Rattle.tn_wire.specs.Telnet.{Token, command}
-use Rattle.tn_wire.specs.Verbs.{verb_code}
+use Rattle.std.specs.Prelude.{List, [], Result, Ok, Err}
+use Rattle.tn_wire.specs.Telnet.{Token}
 use Rattle.tn_session.specs.declared.reply.Reply.{Reply}
 use Rattle.tn_session.specs.declared.reply.Reply.TheVariants.{Nothing, Verb, SendType, TypeIs, Offers, SendDevice, DeviceRequest, DeviceIs, DeviceReject, FunctionsRequest, FunctionsAre}
 use Rattle.tn_session.specs.declared.session.SessionFault.{SessionFault}
-use Rattle.tn_session.specs.Options.{option_code}
 use Rattle.tn_session.specs.Devices.{name_of}
 use Rattle.tn_session.specs.Replies.{said, send_type, type_is, send_device, request_device, device_is, reject_device, request_functions, functions_are, offers}
 use Rattle.tn_session.specs.Rows.{Row}

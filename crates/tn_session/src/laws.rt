@@ -1,6 +1,6 @@
 //! Laws on the two cores together. These functions do nothing: their contracts are the laws.
 
-ghost use Rattle.tn_session.specs.Pair.{PairsAgree, PairsSettle, PairsEnd};
+ghost use Rattle.tn_session.specs.Pair.{PairsAgree, PairsSettle, PairsEnd, TerminalIsHeard, HostIsHeard, OpeningIsHeard};
 
 /// Whatever a terminal's device, a host's layout, and the choices that both are made with, and in whatever order the
 /// events between them arrive: if both are ready, they hold the same. Where nothing is on its way, both are ready, or the
@@ -13,4 +13,12 @@ pub fn pair_law()
 /// Delivery ends: no pair of cores takes more than 14 events.
 pub fn delivery_law()
     ensures { PairsEnd }
+{}
+
+/// What an end writes is heard as it was said: the bytes of each reply, and of the host's opening, tell exactly the events
+/// of its tokens, and leave nothing open. So the laws on pairs, which speak of events, hold of bytes in any pieces.
+pub fn reply_law()
+    ensures terminal { TerminalIsHeard }
+    ensures host { HostIsHeard }
+    ensures opening { OpeningIsHeard }
 {}

@@ -15,6 +15,6 @@ mod terminal;
 
 pub use device::{Device, DeviceName, ScreenModel};
 pub use host::HostCore;
-pub use laws::{delivery_law, pair_law};
+pub use laws::{delivery_law, pair_law, reply_law};
 pub use session::{Agreed, Out, SessionFault, Told};
 pub use terminal::TermCore;

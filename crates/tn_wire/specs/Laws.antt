@@ -38,9 +38,10 @@ abbrev pub HasOneFault : Type 0
 HasOneFault = (bytes more : List ℕ) (events others : List Told) (fault later : WireFault)
     → Faults bytes events fault → Faults (bytes ++ more) others later → (more ≡ []) × (events ≡ others) × (fault ≡ later)
 
--- what is open and what comes settle how much is taken, what is answered and what is left open
+-- What is open and what comes settle how much is taken, what is answered and what is left open: two calls that find the
+-- same, each of which answers nothing only where no input is left, do the same.
 abbrev pub HasOneAnswer : Type 0
-HasOneAnswer = (old x y u v m n : List ℕ) (events others : Result (List Told) WireFault)
-    → x ++ y ≡ u ++ v → Answers old x events m → Answers old u others n
-    → (events ≡ Ok [] → y ≡ []) → (others ≡ Ok [] → v ≡ [])
-    → (x ≡ u) × (events ≡ others) × ((told : List Told) → events ≡ Ok told → m ≡ n)
+HasOneAnswer = (old taken rest taken' rest' left left' : List ℕ) (events events' : Result (List Told) WireFault)
+    → taken ++ rest ≡ taken' ++ rest' → Answers old taken events left → Answers old taken' events' left'
+    → (events ≡ Ok [] → rest ≡ []) → (events' ≡ Ok [] → rest' ≡ [])
+    → (taken ≡ taken') × (events ≡ events') × ((told : List Told) → events ≡ Ok told → left ≡ left')

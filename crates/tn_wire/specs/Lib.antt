@@ -1,4 +1,5 @@
 pub mod Calls
+pub mod Codes
 pub mod Deframer
 pub mod Header
 pub mod Laws

@@ -1,6 +1,6 @@
 -- The token that is open in a deframer, byte by byte.
 use Rattle.std.specs.Prelude.{ℕ, ◌≡◌, ◌<◌, ◌≤◌, List, [], ◌∷◌, ◌++◌, length, Result, Ok, Err, Option, None, Some}
-use Rattle.tn_wire.specs.declared.codes.TheConstants.{IAC, SB, RECORD_LIMIT, SUBNEGOTIATION_LIMIT}
+use Rattle.tn_wire.specs.Codes.{iac, sub_begin, record_most, sub_most}
 use Rattle.tn_wire.specs.declared.event.WireFault.{WireFault}
 use Rattle.tn_wire.specs.declared.open_token.Open.{Open}
 use Rattle.tn_wire.specs.declared.open_token.Open.TheVariants.{Nothing, Told, Escape, Command, Start, StartEscape, Inside, InsideEscape}
@@ -15,12 +15,12 @@ use Rattle.tn_wire.specs.Calls.{Answers}
 abbrev pub open_bytes : List ℕ → Open → List ℕ
 open_bytes parameters Nothing = []
 open_bytes parameters Told = []
-open_bytes parameters Escape = IAC ∷ []
-open_bytes parameters (Command verb) = IAC ∷ verb_code verb ∷ []
-open_bytes parameters Start = IAC ∷ SB ∷ []
-open_bytes parameters StartEscape = IAC ∷ SB ∷ IAC ∷ []
-open_bytes parameters (Inside option) = IAC ∷ SB ∷ quoted (option ∷ parameters)
-open_bytes parameters (InsideEscape option) = IAC ∷ SB ∷ (quoted (option ∷ parameters) ++ IAC ∷ [])
+open_bytes parameters Escape = iac ∷ []
+open_bytes parameters (Command verb) = iac ∷ verb_code verb ∷ []
+open_bytes parameters Start = iac ∷ sub_begin ∷ []
+open_bytes parameters StartEscape = iac ∷ sub_begin ∷ iac ∷ []
+open_bytes parameters (Inside option) = iac ∷ sub_begin ∷ quoted (option ∷ parameters)
+open_bytes parameters (InsideEscape option) = iac ∷ sub_begin ∷ (quoted (option ∷ parameters) ++ iac ∷ [])
 
 -- the data of the record that is open: none, where what is kept was told
 abbrev pub open_data : List ℕ → Open → List ℕ
@@ -63,9 +63,9 @@ TakesByte old byte kept parameters (Err fault) = Answers old (byte ∷ []) (Err 
 
 -- what the deframer keeps has its limits, and room for a whole record
 pub record HasRoom (kept : List ℕ) (capacity : ℕ) (parameters : List ℕ) : Type 0 where
-  pub record_fits : length kept ≤ RECORD_LIMIT
-  pub room : RECORD_LIMIT ≤ capacity
-  pub parameters_fit : length parameters ≤ SUBNEGOTIATION_LIMIT
+  pub record_fits : length kept ≤ record_most
+  pub room : record_most ≤ capacity
+  pub parameters_fit : length parameters ≤ sub_most
 
 -- data bytes, none of them an IAC, from the front of the input to the record that is open
 pub record TakesRun (kept before new after : List ℕ) : Type 0 where

@@ -1,7 +1,7 @@
 -- What a stream tells, what it leaves open, and where it is at fault.
 use Rattle.std.specs.Prelude.{ℕ, ◌+◌, ◌≤◌, ◌≡◌, ◌≢◌, ◌⊎◌, List, [], ◌∷◌, ◌++◌, length}
 use Rattle.std.specs.List.{flat_map}
-use Rattle.tn_wire.specs.declared.codes.TheConstants.{IAC, SB, SE, RECORD_LIMIT, SUBNEGOTIATION_LIMIT}
+use Rattle.tn_wire.specs.Codes.{iac, sub_begin, sub_end, record_most, sub_most}
 use Rattle.tn_wire.specs.declared.event.WireFault.{WireFault}
 use Rattle.tn_wire.specs.declared.event.WireFault.TheVariants.{RecordTooLong, SubTooLong, BadSub}
 use Rattle.tn_wire.specs.Telnet.{Token, data_byte, record_end, command, subnegotiation, passed, quoted, quoted_byte, spelling, pending_after, AreTokens, SpellsTokens}
@@ -38,13 +38,13 @@ pub record Tells (bytes : List ℕ) (events : List Told) (left : List ℕ) : Typ
 -- bytes that can't stand while this data is open, the last of them being the one at fault
 abbrev pub IsFault : WireFault → List ℕ → List ℕ → Type 0
 -- a data byte past the record's limit
-IsFault RecordTooLong pending bytes = (b : ℕ) × (RECORD_LIMIT ≤ length pending) × (bytes ≡ quoted_byte b)
+IsFault RecordTooLong pending bytes = (b : ℕ) × (record_most ≤ length pending) × (bytes ≡ quoted_byte b)
 -- a byte past the subnegotiation's limit
-IsFault SubTooLong pending bytes = (option : ℕ) × (parameters : List ℕ) × (b : ℕ) × (length parameters ≡ SUBNEGOTIATION_LIMIT)
-    × (bytes ≡ IAC ∷ SB ∷ (quoted (option ∷ parameters) ++ quoted_byte b))
+IsFault SubTooLong pending bytes = (option : ℕ) × (parameters : List ℕ) × (b : ℕ) × (length parameters ≡ sub_most)
+    × (bytes ≡ iac ∷ sub_begin ∷ (quoted (option ∷ parameters) ++ quoted_byte b))
 -- in a subnegotiation IAC and a byte that is no IAC, and, behind an option, no SE
-IsFault BadSub pending bytes = (inside : List ℕ) × (b : ℕ) × (length inside ≤ SUBNEGOTIATION_LIMIT + 1) × (b ≢ IAC)
-    × ((inside ≡ []) ⊎ (b ≢ SE)) × (bytes ≡ IAC ∷ SB ∷ (quoted inside ++ IAC ∷ b ∷ []))
+IsFault BadSub pending bytes = (inside : List ℕ) × (b : ℕ) × (length inside ≤ sub_most + 1) × (b ≢ iac)
+    × ((inside ≡ []) ⊎ (b ≢ sub_end)) × (bytes ≡ iac ∷ sub_begin ∷ (quoted inside ++ iac ∷ b ∷ []))
 
 -- The bytes tell these events, and their last byte is at fault.
 pub record Faults (bytes : List ℕ) (events : List Told) (fault : WireFault) : Type 0 where

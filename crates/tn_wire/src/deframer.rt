@@ -88,7 +88,8 @@ impl Deframer {
 
     /// Takes bytes as [`next`](Deframer::next) does, and lends nothing.
     fn advance(&mut self, input: &mut &[u8]) -> Result<Option<Found>, WireFault>
-        ensures { Moves self.old input.old.now (found_result result self.new.lent) self.new input.new.now }
+        ensures { Moves self.old input.old.now (found_result result self.new.lent)
+            self.new input.new.now }
     {
         if let Some(fault) = self.fault {
             return Err(fault);

@@ -1,10 +1,11 @@
 //! Records written.
 
 ghost use Rattle.std.specs.Prelude.{◌≡◌, ◌≤◌, [], ◌∷◌, ◌++◌, length, IfOk};
+ghost use Rattle.tn_wire.specs.Codes.{iac, end_of_record, record_most};
 ghost use Rattle.tn_wire.specs.Telnet.{quoted};
 ghost use Rattle.tn_wire.specs.Stream.{told_record, Tells};
 
-use crate::codes::{EOR, IAC, RECORD_LIMIT};
+use crate::codes::{EOR, IAC};
 use crate::escape::push_quoted;
 use std::alloc::{AllocError, Global};
 
@@ -12,8 +13,9 @@ use std::alloc::{AllocError, Global};
 ///
 /// A record of more than 32,768 bytes is written too, and refused by a deframer.
 pub fn frame(alloc: Global, bytes: &[u8]) -> Result<Vec<u8>, AllocError>
-    ensures bytes { IfOk result (λ framed. framed.items ≡ quoted bytes.now ++ IAC ∷ EOR ∷ []) }
-    ensures one_record { IfOk result (λ framed. length bytes.now ≤ RECORD_LIMIT
+    ensures bytes { IfOk result (λ framed.
+        framed.items ≡ quoted bytes.now ++ iac ∷ end_of_record ∷ []) }
+    ensures one_record { IfOk result (λ framed. length bytes.now ≤ record_most
         → Tells framed.items (told_record bytes.now ∷ []) []) }
 {
     let mut framed = Vec::with_capacity(alloc, bytes.len() + 2)?;

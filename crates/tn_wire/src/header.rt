@@ -99,7 +99,8 @@ impl Header {
     /// A record of fewer than five bytes is refused first, whatever its first byte; then a first byte above 08.
     pub fn read(bytes: &[u8]) -> Result<(Header, &[u8]), HeaderFault>
         ensures found { IfOk result (λ read. bytes.now ≡ header_bytes read.0 ++ read.1.now) }
-        ensures only { (header : Header) (rest : List ℕ) → FitsHeader header → bytes.now ≡ header_bytes header ++ rest
+        ensures only { (header : Header) (rest : List ℕ) → FitsHeader header
+            → bytes.now ≡ header_bytes header ++ rest
             → IsOkAnd result (λ read. (read.0 ≡ header) × (read.1.now ≡ rest)) }
         ensures short { (result ≡ Err HeaderFault.ShortHeader) ↔ (length bytes.now < 5) }
         ensures unknown { (result ≡ Err HeaderFault.UnknownType)

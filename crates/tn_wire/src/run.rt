@@ -46,8 +46,8 @@ pub(crate) fn take_event(
     input: &mut &[u8],
 ) -> Result<Option<Found>, WireFault>
     requires { HasRoom kept.old.items (vec_capacity kept.old) parameters.old.items }
-    ensures takes { TakesEvent (content_of kept.old.items parameters.old.items state.old) input.old.now
-        kept.new.items parameters.new.items state.new result input.new.now }
+    ensures takes { TakesEvent (content_of kept.old.items parameters.old.items state.old)
+        input.old.now kept.new.items parameters.new.items state.new result input.new.now }
     ensures room { HasRoom kept.new.items (vec_capacity kept.new) parameters.new.items }
 {
     'bytes: loop {
