@@ -90,7 +90,8 @@ fn start_field(more: &[u8]) -> Result<(Order<'_>, usize), Why>
 /// The pairs after a count of them, and how many bytes the order takes.
 #[tactic(auto, unfolding(crate::specs::Reading::pairs_at))]
 fn pairs(more: &[u8]) -> Result<(&[u8], usize), Why>
-    ensures { (make : List ℕ → Item) → Gives (λ x. (make x.0.now, x.1)) result (pairs_at make more.now) }
+    ensures { (make : List ℕ → Item) → Gives (λ x. (make x.0.now, x.1)) result
+        (pairs_at make more.now) }
 {
     match more {
         [] => Err(Why::Truncated),
@@ -112,7 +113,8 @@ fn pairs(more: &[u8]) -> Result<(&[u8], usize), Why>
 /// The address of an order that consists of one.
 #[tactic(auto, unfolding(crate::specs::Reading::address_order_at))]
 fn address(mode: Mode, more: &[u8]) -> Result<u32, Why>
-    ensures { (make : ℕ → Item) → Gives (λ a. (make a, 3)) result (address_order_at mode make more.now) }
+    ensures { (make : ℕ → Item) → Gives (λ a. (make a, 3)) result
+        (address_order_at mode make more.now) }
 {
     match more {
         [first, second, ..] => decode_address(mode, *first, *second).ok_or(Why::ReservedAddress),

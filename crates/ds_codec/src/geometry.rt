@@ -37,7 +37,8 @@ impl Geometry {
 
     /// The geometry of these sizes, refused exactly where one of them is outside the limits.
     pub fn new(default: Size, alternate: Size, mode: Mode) -> Result<Geometry, BadSize>
-        ensures sizes { IfOk result (λ g. g ≡ record { default = default; alternate = alternate; mode = mode }) }
+        ensures sizes { IfOk result
+            (λ g. g ≡ record { default = default; alternate = alternate; mode = mode }) }
         ensures good { IsOk result ↔ (IsGood mode default × IsGood mode alternate) }
         ensures exact { result_ok result ≡ geometry_of default alternate mode }
     {

@@ -38,7 +38,8 @@ impl<'a> Record<'a> {
     /// an order a missing byte comes before a bad one.
     pub fn read(mode: Mode, bytes: &'a [u8]) -> Result<Record<'a>, Refused>
         ensures spelled { IfOk result (λ message. SpellsRecord mode message bytes.now) }
-        ensures only { (message : Message) → SpellsRecord mode message bytes.now → result ≡ Ok message }
+        ensures only { (message : Message) → SpellsRecord mode message bytes.now
+            → result ≡ Ok message }
         ensures refused { IfErr result (λ e. IsRefusedAt mode bytes.now e.at e.why) }
         ensures refused_only { (at : ℕ) (why : Why) → IsRefusedAt mode bytes.now at why
             → result ≡ Err (record { at = at; why = why }) }
@@ -144,7 +145,8 @@ fn check_orders(mode: Mode, bytes: &[u8]) -> Result<(), Refused>
 
 /// The write control character and the orders of a write.
 fn write_parts(mode: Mode, rest: &[u8]) -> Result<(u8, &[u8]), Refused>
-    ensures parts { (make : ℕ → Command) → Gives (λ x. message_of mode (make x.0) x.1.now) result (write_body mode make rest.now) }
+    ensures parts { (make : ℕ → Command) → Gives (λ x. message_of mode (make x.0) x.1.now) result
+        (write_body mode make rest.now) }
     ensures good { IfOk result (λ x. IsOk (orders_from mode 0 2 x.1.now)) }
 {
     let [wcc, orders @ ..] = rest else {

@@ -62,9 +62,11 @@ pub fn write_record(
     cells: u32,
 ) -> Result<Vec<u8>, Unwritable>
     requires { cells ≤ limit_of mode }
-    ensures written { IfOk result (λ bytes. bytes.items ≡ written_record mode cells command (items_of orders.now)) }
+    ensures written { IfOk result
+        (λ bytes. bytes.items ≡ written_record mode cells command (items_of orders.now)) }
     ensures writable { OnOk result (IsWritable cells command (items_of orders.now)) }
-    ensures again { IfOk result (λ bytes. IsReadAgain mode command (items_of orders.now) bytes.items) }
+    ensures again { IfOk result
+        (λ bytes. IsReadAgain mode command (items_of orders.now) bytes.items) }
     ensures unwritable { IfErr result (λ e. IsUnwritable cells command (items_of orders.now) e) }
 {
     write_all(alloc, command, orders, mode, cells)
@@ -78,7 +80,8 @@ fn write_all(
     cells: u32,
 ) -> Result<Vec<u8>, Unwritable>
     requires { cells ≤ limit_of mode }
-    ensures written { IfOk result (λ bytes. bytes.items ≡ written_record mode cells command (items_of orders.now)) }
+    ensures written { IfOk result
+        (λ bytes. bytes.items ≡ written_record mode cells command (items_of orders.now)) }
     ensures writable { OnOk result (IsWritable cells command (items_of orders.now)) }
     ensures valid { OnOk result (AreValid (items_of orders.now)) }
     ensures unwritable { IfErr result (λ e. IsUnwritable cells command (items_of orders.now) e) }
@@ -179,7 +182,8 @@ fn flaw(cells: u32, after_text: bool, order: &Order<'_>, k: usize) -> Option<Unw
 /// An order that consists of a count of pairs, and the pairs.
 fn push_pairs(out: &mut Vec<u8>, code: OrderCode, pairs: &[u8]) -> Result<(), AllocError>
     requires { are_good_pairs pairs.now ≡ true }
-    ensures { OnOk result (out.new.items ≡ out.old.items ++ code_of code ∷ (length pairs.now / 2) ∷ pairs.now) }
+    ensures { OnOk result (out.new.items
+        ≡ out.old.items ++ code_of code ∷ (length pairs.now / 2) ∷ pairs.now) }
 {
     out.push(code.byte())?;
     out.push((pairs.len() / 2) as u8)?;
@@ -196,7 +200,8 @@ fn push_address(
 ) -> Result<(), AllocError>
     requires inside { address < cells }
     requires few { cells ≤ limit_of mode }
-    ensures { OnOk result (out.new.items ≡ out.old.items ++ code_of code ∷ written_address mode cells address) }
+    ensures { OnOk result (out.new.items
+        ≡ out.old.items ++ code_of code ∷ written_address mode cells address) }
 {
     out.push(code.byte())?;
     out.extend_from_slice(&encode_address(mode, cells, address))
@@ -225,7 +230,8 @@ fn push_good(
 ) -> Result<(), AllocError>
     requires few { cells ≤ limit_of mode }
     requires good { flaw_of cells after_text (item_of order.now) k ≡ None }
-    ensures { OnOk result (out.new.items ≡ out.old.items ++ written_order mode cells (item_of order.now)) }
+    ensures { OnOk result (out.new.items
+        ≡ out.old.items ++ written_order mode cells (item_of order.now)) }
 {
     match order {
         Order::Text(run) => out.extend_from_slice(run),
@@ -273,11 +279,13 @@ fn push_order(
     cells: u32,
 ) -> Result<bool, Unwritable>
     requires { cells ≤ limit_of mode }
-    ensures bytes { OnOk result (out.new.items ≡ out.old.items ++ written_order mode cells (item_of order.now)) }
+    ensures bytes { OnOk result
+        (out.new.items ≡ out.old.items ++ written_order mode cells (item_of order.now)) }
     ensures good { OnOk result (flaw_of cells after_text (item_of order.now) k ≡ None) }
     ensures valid { OnOk result (IsValidItem (item_of order.now)) }
     ensures text { IfOk result (λ is_text. is_text ≡ is_text_order (item_of order.now)) }
-    ensures flaw { IfErr result (λ e. IsFlawHere (flaw_of cells after_text (item_of order.now) k) e) }
+    ensures flaw { IfErr result
+        (λ e. IsFlawHere (flaw_of cells after_text (item_of order.now) k) e) }
 {
     if let Some(flaw) = flaw(cells, after_text, order, k) {
         return Err(flaw);
@@ -302,7 +310,9 @@ fn push_orders(
     cells: u32,
 ) -> Result<(), Unwritable>
     requires { cells ≤ limit_of mode }
-    ensures bytes { OnOk result (out.new.items ≡ out.old.items ++ flat_map (written_order mode cells) (items_of orders.now)) }
+    ensures bytes { OnOk result
+        (out.new.items ≡ out.old.items ++ flat_map (written_order mode cells)
+        (items_of orders.now)) }
     ensures good { OnOk result (HaveNoFlaw cells (items_of orders.now)) }
     ensures valid { OnOk result (AreValid (items_of orders.now)) }
     ensures flaw { IfErr result (λ e. IsFlawAmong cells (items_of orders.now) e) }

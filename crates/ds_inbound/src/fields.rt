@@ -67,7 +67,8 @@ ghost use Rattle.ds_inbound.specs.Reading.{AreFields, fields_in, sent_of};
 fn first_field(mode: Mode, cells: u32, rest: &[u8]) -> (FieldSlice<'_>, &[u8])
     requires some { 0 < length rest.now }
     requires fields { AreFields mode cells rest.now }
-    ensures first { fields_in mode cells rest.now ≡ sent_of result.0 ∷ fields_in mode cells result.1.now }
+    ensures first { fields_in mode cells rest.now
+        ≡ sent_of result.0 ∷ fields_in mode cells result.1.now }
     ensures others { AreFields mode cells result.1.now }
 {
     match front_item(mode, cells, rest) {

@@ -43,7 +43,8 @@ impl<'a> Inbound<'a> {
     /// say, or the leftmost fault, of an item first a missing byte. Takes no memory.
     pub fn read(mode: Mode, cells: u32, bytes: &'a [u8]) -> Result<Inbound<'a>, Refused>
         ensures spelled { IfOk result (λ answer. SpellsInbound mode cells answer bytes.now) }
-        ensures only { (answer : Answer) → SpellsInbound mode cells answer bytes.now → result ≡ Ok answer }
+        ensures only { (answer : Answer) → SpellsInbound mode cells answer bytes.now
+            → result ≡ Ok answer }
         ensures refused { IfErr result (λ e. IsRefusedAt mode cells bytes.now e.at e.why) }
         ensures refused_only { (at : ℕ) (why : Why) → IsRefusedAt mode cells bytes.now at why
             → result ≡ Err (record { at = at; why = why }) }

@@ -31,8 +31,11 @@ pub fn write_inbound<C: Cells>(
     all: bool,
 ) -> Result<Vec<u8>, AllocError>
     ensures written { IfOk result (λ bytes. bytes.items ≡ bytes_sent screen.now all) }
-    ensures again { IfOk result (λ bytes. read_of screen.now.geometry.mode (length screen.now.cells) bytes.items ≡ Ok (answer_of screen.now all)) }
-    ensures only { IfOk result (λ bytes. SaysOnly screen.now.geometry.mode (length screen.now.cells) (answer_of screen.now all) bytes.items) }
+    ensures again { IfOk result
+        (λ bytes. read_of screen.now.geometry.mode (length screen.now.cells) bytes.items ≡ Ok
+        (answer_of screen.now all)) }
+    ensures only { IfOk result (λ bytes. SaysOnly screen.now.geometry.mode
+        (length screen.now.cells) (answer_of screen.now all) bytes.items) }
 {
     write_answer(alloc, screen, all)
 }
@@ -63,7 +66,8 @@ fn is_null(character: Char) -> bool
 
 /// What is sent of a cell: its character, nothing of a null or an attribute.
 fn push_sent(out: &mut Vec<u8>, cell: Cell) -> Result<(), AllocError>
-    ensures written { OnOk result (out.new.items ≡ out.old.items ++ written_characters (sent_in cell)) }
+    ensures written { OnOk result
+        (out.new.items ≡ out.old.items ++ written_characters (sent_in cell)) }
     ensures sendable { list_all is_sendable (sent_in cell) ≡ true }
 {
     match cell {
@@ -89,7 +93,9 @@ fn push_run<C: Cells>(
     requires few { count ≤ length screen.now.cells }
     ensures written { OnOk result (out.new.items ≡ out.old.items
         ++ written_characters (characters_at screen.now.cells (places_on (length screen.now.cells) place count))) }
-    ensures sendable { OnOk result (list_all is_sendable (characters_at screen.now.cells (places_on (length screen.now.cells) place count)) ≡ true) }
+    ensures sendable { OnOk result
+        (list_all is_sendable
+        (characters_at screen.now.cells (places_on (length screen.now.cells) place count)) ≡ true) }
 {
     let n = screen.size().cells();
     let mut p = place;
@@ -107,7 +113,9 @@ fn push_address<C: Cells>(
     address: u32,
 ) -> Result<(), AllocError>
     requires { address < length screen.now.cells }
-    ensures { OnOk result (out.new.items ≡ out.old.items ++ written_address screen.now.geometry.mode (length screen.now.cells) address) }
+    ensures { OnOk result (out.new.items
+        ≡ out.old.items ++ written_address screen.now.geometry.mode
+        (length screen.now.cells) address) }
 {
     let n = screen.size().cells();
     out.extend_from_slice(&encode_address(screen.geometry().mode(), n, address))
@@ -122,7 +130,9 @@ fn push_field<C: Cells>(
     requires { IsFieldOf screen.now.cells field.now }
     ensures written { OnOk result (out.new.items ≡ out.old.items
         ++ written_field screen.now.geometry.mode (length screen.now.cells) (field_sent screen.now.cells field.now.at)) }
-    ensures sendable { OnOk result (is_field_sendable (length screen.now.cells) (field_sent screen.now.cells field.now.at) ≡ true) }
+    ensures sendable { OnOk result
+        (is_field_sendable (length screen.now.cells) (field_sent screen.now.cells field.now.at)
+        ≡ true) }
 {
     out.push(OrderCode::Sba.byte())?;
     push_address(out, screen, field.place)?;
@@ -134,7 +144,9 @@ fn push_field<C: Cells>(
 fn push_fields<C: Cells>(out: &mut Vec<u8>, screen: &Screen<C>) -> Result<(), AllocError>
     ensures written { OnOk result (out.new.items ≡ out.old.items
         ++ written_fields screen.now.geometry.mode (length screen.now.cells) (fields_sent screen.now.cells (attributes_from screen.now.cells 0))) }
-    ensures sendable { OnOk result (list_all (is_field_sendable (length screen.now.cells)) (fields_sent screen.now.cells (attributes_from screen.now.cells 0)) ≡ true) }
+    ensures sendable { OnOk result
+        (list_all (is_field_sendable (length screen.now.cells))
+        (fields_sent screen.now.cells (attributes_from screen.now.cells 0)) ≡ true) }
 {
     'fields: for field in screen.fields() {
         if field.attr.modified() {
@@ -157,8 +169,12 @@ fn is_formatted<C: Cells>(screen: &Screen<C>) -> bool
 
 /// The characters of an unformatted screen.
 fn push_lead<C: Cells>(out: &mut Vec<u8>, screen: &Screen<C>) -> Result<(), AllocError>
-    ensures written { OnOk result (out.new.items ≡ out.old.items ++ written_characters (lead_sent screen.now.cells (attributes_from screen.now.cells 0))) }
-    ensures sendable { OnOk result (list_all is_sendable (lead_sent screen.now.cells (attributes_from screen.now.cells 0)) ≡ true) }
+    ensures written { OnOk result
+        (out.new.items ≡ out.old.items ++ written_characters
+        (lead_sent screen.now.cells (attributes_from screen.now.cells 0))) }
+    ensures sendable { OnOk result
+        (list_all is_sendable (lead_sent screen.now.cells (attributes_from screen.now.cells 0))
+        ≡ true) }
 {
     if !is_formatted(screen) {
         push_run(out, screen, 0, screen.size().cells())?;
@@ -179,7 +195,8 @@ fn write_answer<C: Cells>(
     all: bool,
 ) -> Result<Vec<u8>, AllocError>
     ensures written { IfOk result (λ bytes. bytes.items ≡ bytes_sent screen.now all) }
-    ensures sendable { OnOk result (IsSendable screen.now.geometry.mode (length screen.now.cells) (answer_of screen.now all)) }
+    ensures sendable { OnOk result
+        (IsSendable screen.now.geometry.mode (length screen.now.cells) (answer_of screen.now all)) }
 {
     let n = screen.size().cells();
     let aid = screen.aid();

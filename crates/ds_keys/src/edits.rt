@@ -23,7 +23,10 @@ fn inhibit<C: Cells>(screen: &mut Screen<C>) -> Pressed
 /// Makes the attribute that governs a position's character modified.
 fn mark<C: Cells>(screen: &mut Screen<C>, p: u32)
     requires { p < length screen.old.cells }
-    ensures { screen.new ≡ record screen.old { cells = ruled (length screen.old.cells) (marked_cell screen.old.cells p) } }
+    ensures { screen.new ≡ record screen.old {
+      cells = ruled (length screen.old.cells)
+          (marked_cell screen.old.cells p);
+    } }
 {
     if let Some(q) = screen.attr_before(p) {
         if let Cell::Field(attribute) = screen.cell(q) {

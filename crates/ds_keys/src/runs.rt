@@ -18,7 +18,8 @@ use ds_screen::{Cells, Screen};
 pub(crate) fn positions_to_end<C: Cells>(screen: &Screen<C>, n: u32, p: u32) -> u32
     requires count { n ≡ length screen.now.cells }
     requires inside { p < length screen.now.cells }
-    ensures steps { result ≡ steps_to (length screen.now.cells) p (attribute_from screen.now.cells p) }
+    ensures steps { result ≡ steps_to (length screen.now.cells) p
+        (attribute_from screen.now.cells p) }
     ensures within { result ≤ length screen.now.cells }
 {
     match screen.attr_from(p) {
@@ -31,7 +32,10 @@ pub(crate) fn positions_to_end<C: Cells>(screen: &Screen<C>, n: u32, p: u32) -> 
 pub(crate) fn null_on<C: Cells>(screen: &mut Screen<C>, from: u32, count: u32)
     requires inside { from < length screen.old.cells }
     requires few { count ≤ length screen.old.cells }
-    ensures { screen.new ≡ record screen.old { cells = ruled (length screen.old.cells) (so_far screen.old.cells from count (λ p. blank)) } }
+    ensures { screen.new ≡ record screen.old {
+      cells = ruled (length screen.old.cells)
+          (so_far screen.old.cells from count (λ p. blank));
+    } }
 {
     let n = position_count(screen);
     let mut at = from;
@@ -92,7 +96,10 @@ pub(crate) fn shift_back<C: Cells>(screen: &mut Screen<C>, from: u32, end: u32)
     requires ahead { from ≤ end }
     requires within { end ≤ length screen.old.cells }
     requires characters { AreCharacters screen.old.cells from end }
-    ensures { screen.new ≡ record screen.old { cells = ruled (length screen.old.cells) (so_far screen.old.cells from (end - from) (moved_back screen.old.cells end)) } }
+    ensures { screen.new ≡ record screen.old {
+      cells = ruled (length screen.old.cells)
+          (so_far screen.old.cells from (end - from) (moved_back screen.old.cells end));
+    } }
 {
     'places: for p in from..end {
         let character = character_behind(screen, p, end);

@@ -30,8 +30,12 @@ fn position(n: u32, address: u32) -> Result<u32, Why>
 /// The attribute that stands at a position.
 fn attribute_at<C: Cells>(cells: &C, p: u32) -> Result<Attr, Why>
     requires { p < length (C.content cells.now) }
-    ensures there { IfOk result (λ bits. (bits ≡ bits_of (cell_at (C.content cells.now) p)) × (is_attribute (cell_at (C.content cells.now) p) ≡ true)) }
-    ensures missing { IfErr result (λ why. (why ≡ Why.NoFieldHere) × (is_attribute (cell_at (C.content cells.now) p) ≡ false)) }
+    ensures there { IfOk result
+        (λ bits. (bits ≡ bits_of (cell_at (C.content cells.now) p)) ×
+        (is_attribute (cell_at (C.content cells.now) p) ≡ true)) }
+    ensures missing { IfErr result
+        (λ why. (why ≡ Why.NoFieldHere) ×
+        (is_attribute (cell_at (C.content cells.now) p) ≡ false)) }
 {
     match cells.cell(p) {
         Cell::Field(attribute) => Ok(attribute),
@@ -42,7 +46,8 @@ fn attribute_at<C: Cells>(cells: &C, p: u32) -> Result<Attr, Why>
 /// Stores a cell at the buffer address, and goes on by one. A Program Tab that comes next nulls nothing.
 fn stored<C: Cells>(cells: &mut C, state: State, cell: Cell) -> State
     requires { state.address < length (C.content cells.old) }
-    ensures stores { writing (C.content cells.new) result ≡ after_storing (writing (C.content cells.old) state) cell false }
+    ensures stores { writing (C.content cells.new) result
+        ≡ after_storing (writing (C.content cells.old) state) cell false }
     ensures inside { result.address < length (C.content cells.old) }
     ensures whole { length (C.content cells.new) ≡ length (C.content cells.old) }
     ensures room { C.capacity cells.new ≡ C.capacity cells.old }
@@ -54,7 +59,8 @@ fn stored<C: Cells>(cells: &mut C, state: State, cell: Cell) -> State
 /// Stores a character as text is stored: a Program Tab that comes next nulls what it passes.
 fn stored_as_text<C: Cells>(cells: &mut C, state: State, character: Char) -> State
     requires { state.address < length (C.content cells.old) }
-    ensures stores { writing (C.content cells.new) result ≡ after_storing (writing (C.content cells.old) state) (Cell.Char character) true }
+    ensures stores { writing (C.content cells.new) result
+        ≡ after_storing (writing (C.content cells.old) state) (Cell.Char character) true }
     ensures inside { result.address < length (C.content cells.old) }
     ensures whole { length (C.content cells.new) ≡ length (C.content cells.old) }
     ensures room { C.capacity cells.new ≡ C.capacity cells.old }
@@ -72,7 +78,8 @@ fn stored_as_text<C: Cells>(cells: &mut C, state: State, character: Char) -> Sta
 fn put_text<C: Cells>(cells: &mut C, state: State, run: &[u8]) -> State
     requires inside { IsInside (C.content cells.old) state }
     requires characters { HasCharacters (text run.now) }
-    ensures acts { OrderActs (text run.now) (writing (C.content cells.old) state) (writing (C.content cells.new) result) }
+    ensures acts { OrderActs (text run.now) (writing (C.content cells.old) state)
+        (writing (C.content cells.new) result) }
     ensures inside { IsInside (C.content cells.new) result }
     ensures whole { length (C.content cells.new) ≡ length (C.content cells.old) }
     ensures room { C.capacity cells.new ≡ C.capacity cells.old }
@@ -94,9 +101,12 @@ fn repeat_to_address<C: Cells>(
     character: Char,
 ) -> Result<State, Why>
     requires inside { IsInside (C.content cells.old) state }
-    ensures acts { IfOk result (λ after. OrderActs (repeat_to_address stop character) (writing (C.content cells.old) state) (writing (C.content cells.new) after)) }
+    ensures acts { IfOk result (λ after. OrderActs (repeat_to_address stop character)
+        (writing (C.content cells.old) state) (writing (C.content cells.new) after)) }
     ensures inside { IfOk result (λ after. IsInside (C.content cells.new) after) }
-    ensures refused { IfErr result (λ why. fault_of (repeat_to_address stop character) (writing (C.content cells.old) state) ≡ Some why) }
+    ensures refused { IfErr result
+        (λ why. fault_of (repeat_to_address stop character) (writing (C.content cells.old) state)
+        ≡ Some why) }
     ensures whole { OnOk result (length (C.content cells.new) ≡ length (C.content cells.old)) }
     ensures room { C.capacity cells.new ≡ C.capacity cells.old }
 {
@@ -113,9 +123,12 @@ fn erase_unprotected_to_address<C: Cells>(
     stop: u32,
 ) -> Result<State, Why>
     requires inside { IsInside (C.content cells.old) state }
-    ensures acts { IfOk result (λ after. OrderActs (erase_unprotected_to_address stop) (writing (C.content cells.old) state) (writing (C.content cells.new) after)) }
+    ensures acts { IfOk result (λ after. OrderActs (erase_unprotected_to_address stop)
+        (writing (C.content cells.old) state) (writing (C.content cells.new) after)) }
     ensures inside { IfOk result (λ after. IsInside (C.content cells.new) after) }
-    ensures refused { IfErr result (λ why. fault_of (erase_unprotected_to_address stop) (writing (C.content cells.old) state) ≡ Some why) }
+    ensures refused { IfErr result
+        (λ why. fault_of (erase_unprotected_to_address stop) (writing (C.content cells.old) state)
+        ≡ Some why) }
     ensures whole { OnOk result (length (C.content cells.new) ≡ length (C.content cells.old)) }
     ensures room { C.capacity cells.new ≡ C.capacity cells.old }
 {
@@ -129,9 +142,11 @@ fn erase_unprotected_to_address<C: Cells>(
 pub(crate) fn act<C: Cells>(cells: &mut C, state: State, order: &Order<'_>) -> Result<State, Why>
     requires inside { IsInside (C.content cells.old) state }
     requires characters { HasCharacters (item_of order.now) }
-    ensures acts { IfOk result (λ after. OrderActs (item_of order.now) (writing (C.content cells.old) state) (writing (C.content cells.new) after)) }
+    ensures acts { IfOk result (λ after. OrderActs (item_of order.now)
+        (writing (C.content cells.old) state) (writing (C.content cells.new) after)) }
     ensures inside { IfOk result (λ after. IsInside (C.content cells.new) after) }
-    ensures refused { IfErr result (λ why. fault_of (item_of order.now) (writing (C.content cells.old) state) ≡ Some why) }
+    ensures refused { IfErr result
+        (λ why. fault_of (item_of order.now) (writing (C.content cells.old) state) ≡ Some why) }
     ensures whole { OnOk result (length (C.content cells.new) ≡ length (C.content cells.old)) }
     ensures room { C.capacity cells.new ≡ C.capacity cells.old }
 {

@@ -15,7 +15,8 @@ use ds_codec::{Cell, Char};
 /// Stores one cell, and gives the position after it.
 pub(crate) fn store<C: Cells>(cells: &mut C, b: u32, cell: Cell) -> u32
     requires inside { b < length (C.content cells.old) }
-    ensures stored { C.content cells.new ≡ ruled (length (C.content cells.old)) (single_cell (C.content cells.old) b cell) }
+    ensures stored { C.content cells.new
+        ≡ ruled (length (C.content cells.old)) (single_cell (C.content cells.old) b cell) }
     ensures after { result ≡ ring_on (length (C.content cells.old)) b 1 }
     ensures inside { result < length (C.content cells.old) }
     ensures whole { length (C.content cells.new) ≡ length (C.content cells.old) }
@@ -29,7 +30,8 @@ pub(crate) fn store<C: Cells>(cells: &mut C, b: u32, cell: Cell) -> u32
 pub(crate) fn put_run<C: Cells>(cells: &mut C, b: u32, run: &[u8]) -> u32
     requires inside { b < length (C.content cells.old) }
     requires characters { list_all is_text run.now ≡ true }
-    ensures stored { C.content cells.new ≡ ruled (length (C.content cells.old)) (text_cell (C.content cells.old) b run.now) }
+    ensures stored { C.content cells.new
+        ≡ ruled (length (C.content cells.old)) (text_cell (C.content cells.old) b run.now) }
     ensures after { result ≡ (b + length run.now) % length (C.content cells.old) }
     ensures inside { result < length (C.content cells.old) }
     ensures whole { length (C.content cells.new) ≡ length (C.content cells.old) }
@@ -59,7 +61,9 @@ fn reach(n: u32, b: u32, stop: u32) -> u32
 pub(crate) fn repeat<C: Cells>(cells: &mut C, b: u32, stop: u32, character: Char)
     requires inside { b < length (C.content cells.old) }
     requires stop_inside { stop < length (C.content cells.old) }
-    ensures stored { C.content cells.new ≡ ruled (length (C.content cells.old)) (repeated_cell (C.content cells.old) b stop character) }
+    ensures stored { C.content cells.new
+        ≡ ruled (length (C.content cells.old))
+        (repeated_cell (C.content cells.old) b stop character) }
     ensures whole { length (C.content cells.new) ≡ length (C.content cells.old) }
     ensures room { C.capacity cells.new ≡ C.capacity cells.old }
 {
@@ -75,7 +79,8 @@ pub(crate) fn repeat<C: Cells>(cells: &mut C, b: u32, stop: u32, character: Char
 pub(crate) fn erase<C: Cells>(cells: &mut C, b: u32, stop: u32)
     requires inside { b < length (C.content cells.old) }
     requires stop_inside { stop < length (C.content cells.old) }
-    ensures stored { C.content cells.new ≡ ruled (length (C.content cells.old)) (erased_cell (C.content cells.old) b stop) }
+    ensures stored { C.content cells.new
+        ≡ ruled (length (C.content cells.old)) (erased_cell (C.content cells.old) b stop) }
     ensures whole { length (C.content cells.new) ≡ length (C.content cells.old) }
     ensures room { C.capacity cells.new ≡ C.capacity cells.old }
 {

@@ -25,9 +25,11 @@ pub(crate) fn run_orders<C: Cells>(
     outbound: &Record<'_>,
 ) -> Result<State, Refused>
     requires { IsInside (C.content cells.old) start }
-    ensures done { IfOk result (λ end. acts outbound.now.orders (writing (C.content cells.old) start) ≡ Ok (writing (C.content cells.new) end)) }
+    ensures done { IfOk result (λ end. acts outbound.now.orders
+        (writing (C.content cells.old) start) ≡ Ok (writing (C.content cells.new) end)) }
     ensures inside { IfOk result (IsInside (C.content cells.new)) }
-    ensures refused { IfErr result (λ e. acts outbound.now.orders (writing (C.content cells.old) start) ≡ Err e) }
+    ensures refused { IfErr result
+        (λ e. acts outbound.now.orders (writing (C.content cells.old) start) ≡ Err e) }
     ensures whole { OnOk result (length (C.content cells.new) ≡ length (C.content cells.old)) }
     ensures room { C.capacity cells.new ≡ C.capacity cells.old }
 {
@@ -68,7 +70,9 @@ fn reset_cell(which: Reset, cell: &Cell) -> Cell
 
 /// Resets modified data tags, in one pass over the buffer.
 pub(crate) fn reset_modified<C: Cells>(cells: &mut C, which: Reset)
-    ensures stored { C.content cells.new ≡ ruled (length (C.content cells.old)) (λ p. after_reset which (cell_at (C.content cells.old) p)) }
+    ensures stored { C.content cells.new
+        ≡ ruled (length (C.content cells.old))
+        (λ p. after_reset which (cell_at (C.content cells.old) p)) }
     ensures whole { length (C.content cells.new) ≡ length (C.content cells.old) }
     ensures room { C.capacity cells.new ≡ C.capacity cells.old }
 {
@@ -83,7 +87,8 @@ pub(crate) fn reset_modified<C: Cells>(cells: &mut C, which: Reset)
 /// runs round the end).
 pub(crate) fn clear_unprotected<C: Cells>(cells: &mut C) -> u32
     requires { 0 < length (C.content cells.old) }
-    ensures stored { C.content cells.new ≡ ruled (length (C.content cells.old)) (cleared_cell (C.content cells.old)) }
+    ensures stored { C.content cells.new
+        ≡ ruled (length (C.content cells.old)) (cleared_cell (C.content cells.old)) }
     ensures first { result ≡ first_open (C.content cells.old) 0 }
     ensures inside { result < length (C.content cells.old) }
     ensures whole { length (C.content cells.new) ≡ length (C.content cells.old) }
@@ -167,9 +172,11 @@ pub(crate) fn write_orders<C: Cells>(
     outbound: &Record<'_>,
 ) -> Result<State, Refused>
     requires { cursor < length (C.content cells.old) }
-    ensures done { IfOk result (λ end. acts outbound.now.orders (begun wcc (C.content cells.old) cursor) ≡ Ok (writing (C.content cells.new) end)) }
+    ensures done { IfOk result (λ end. acts outbound.now.orders
+        (begun wcc (C.content cells.old) cursor) ≡ Ok (writing (C.content cells.new) end)) }
     ensures inside { IfOk result (IsInside (C.content cells.new)) }
-    ensures refused { IfErr result (λ e. acts outbound.now.orders (begun wcc (C.content cells.old) cursor) ≡ Err e) }
+    ensures refused { IfErr result
+        (λ e. acts outbound.now.orders (begun wcc (C.content cells.old) cursor) ≡ Err e) }
     ensures whole { OnOk result (length (C.content cells.new) ≡ length (C.content cells.old)) }
     ensures room { C.capacity cells.new ≡ C.capacity cells.old }
 {

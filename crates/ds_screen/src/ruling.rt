@@ -36,7 +36,8 @@ pub(crate) fn ruled_on(before: Attr, cell: &Cell) -> Attr
 /// The cell of a position with what rules it, by what rules the position before it.
 pub(crate) fn ruled_cell<C: Cells>(cells: &C, at: u32, before: Attr) -> RuledCell
     requires inside { at < length (C.content cells.now) }
-    requires ruled { before ≡ ruling_bits (C.content cells.now) (ring_back (length (C.content cells.now)) at 1) }
+    requires ruled { before ≡ ruling_bits (C.content cells.now)
+        (ring_back (length (C.content cells.now)) at 1) }
     ensures { result ≡ ruled_cell (C.content cells.now) at }
 {
     let cell = cells.cell(at);

@@ -216,7 +216,8 @@ impl<C: Cells> Screen<C> {
     /// Stores a character.
     pub fn put_char(&mut self, p: u32, character: Char)
         requires { p < length self.old.cells }
-        ensures changed { self.new ≡ record self.old { cells = slice_set self.old.cells p (Cell.Char character) } }
+        ensures changed { self.new
+            ≡ record self.old { cells = slice_set self.old.cells p (Cell.Char character) } }
         ensures sound { IsSound self.new }
     {
         self.cells.put(p, Cell::Char(character));
@@ -226,7 +227,8 @@ impl<C: Cells> Screen<C> {
     pub fn set_attr(&mut self, p: u32, attribute: Attr)
         requires inside { p < length self.old.cells }
         requires there { is_attribute (cell_at self.old.cells p) ≡ true }
-        ensures changed { self.new ≡ record self.old { cells = slice_set self.old.cells p (Cell.Field attribute) } }
+        ensures changed { self.new
+            ≡ record self.old { cells = slice_set self.old.cells p (Cell.Field attribute) } }
         ensures sound { IsSound self.new }
     {
         self.cells.put(p, Cell::Field(attribute));

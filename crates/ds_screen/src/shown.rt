@@ -70,7 +70,8 @@ pub(crate) fn row_text<C: Cells>(
 ) -> Result<String, AllocError>
     requires some { 0 < columns }
     requires inside { start + columns ≤ length (C.content cells.now) }
-    ensures { IfOk result (λ text. string_bytes text ≡ map (printed_cell (C.content cells.now)) (range_with_len start columns)) }
+    ensures { IfOk result (λ text. string_bytes text
+        ≡ map (printed_cell (C.content cells.now)) (range_with_len start columns)) }
 {
     let mut text = String::with_capacity(alloc, columns as usize)?;
     'places: for found in RuledCells::new(cells, start, columns) {

@@ -14,8 +14,10 @@ use ds_codec::{Cell, Char};
 /// Nulls the positions from `b` on up to the first attribute, or to the end, and gives that place.
 fn null_to_attribute<C: Cells>(cells: &mut C, b: u32) -> u32
     requires inside { b < length (C.content cells.old) }
-    ensures place { result ≡ unwrap_or (first_from is_attribute (C.content cells.old) b) (length (C.content cells.old)) }
-    ensures nulled { C.content cells.new ≡ ruled (length (C.content cells.old)) (nulled_cell (C.content cells.old) b result) }
+    ensures place { result ≡ unwrap_or (first_from is_attribute (C.content cells.old) b)
+        (length (C.content cells.old)) }
+    ensures nulled { C.content cells.new
+        ≡ ruled (length (C.content cells.old)) (nulled_cell (C.content cells.old) b result) }
     ensures whole { length (C.content cells.new) ≡ length (C.content cells.old) }
     ensures room { C.capacity cells.new ≡ C.capacity cells.old }
 {
@@ -59,7 +61,9 @@ fn stop_from<C: Cells>(cells: &C, from: u32) -> u32
 /// or a tab that ran to the end, it first nulls up to the next attribute or the end (our own rule).
 pub(crate) fn program_tab<C: Cells>(cells: &mut C, state: State) -> State
     requires inside { state.address < length (C.content cells.old) }
-    ensures tabs { writing (C.content cells.new) result ≡ tabbed (writing (C.content cells.old) state) state.nulling (first_from is_attribute (C.content cells.old) state.address) }
+    ensures tabs { writing (C.content cells.new) result
+        ≡ tabbed (writing (C.content cells.old) state) state.nulling
+        (first_from is_attribute (C.content cells.old) state.address) }
     ensures inside { result.address < length (C.content cells.old) }
     ensures whole { length (C.content cells.new) ≡ length (C.content cells.old) }
     ensures room { C.capacity cells.new ≡ C.capacity cells.old }

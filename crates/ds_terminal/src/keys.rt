@@ -25,7 +25,9 @@ fn is_clear(key: &Key) -> bool
 
 /// Clear: its answer is one byte, for which memory is had before the screen is erased.
 fn press_clear<C: Cells>(alloc: Global, screen: &mut Screen<C>) -> Result<KeyReply, AllocError>
-    ensures turned { IfOk result (λ reply. key_turn screen.new (key_reply_seen reply) ≡ pressed screen.old (Key.Attention 0x6D)) }
+    ensures turned { IfOk result
+        (λ reply. key_turn screen.new (key_reply_seen reply) ≡ pressed screen.old
+        (Key.Attention 0x6D)) }
     ensures unchanged { OnErr result (screen.new ≡ screen.old) }
 {
     let bytes = vec![in alloc; Aid::clear().byte()]?;
@@ -44,7 +46,8 @@ pub(crate) fn press_key<C: Cells>(
     screen: &mut Screen<C>,
     key: Key,
 ) -> Result<KeyReply, AllocError>
-    ensures turned { IfOk result (λ reply. key_turn screen.new (key_reply_seen reply) ≡ pressed screen.old key) }
+    ensures turned { IfOk result
+        (λ reply. key_turn screen.new (key_reply_seen reply) ≡ pressed screen.old key) }
     ensures unchanged { OnErr result (screen.new ≡ screen.old) }
 {
     if is_clear(&key) {

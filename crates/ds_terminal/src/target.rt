@@ -80,7 +80,8 @@ pub fn apply_record<T: RecordTarget>(
 /// Reads a record and applies it, or refuses it; then the target is as before. The three reads and
 /// No-operation are refused as A3.
 pub fn take_record<T: RecordTarget>(target: &mut T, bytes: &[u8]) -> Result<Effect, Refused>
-    ensures { Takes T.leads T.refuses (read_of (T.mode_of target.old) bytes.now) target.old result target.new }
+    ensures { Takes T.leads T.refuses
+        (read_of (T.mode_of target.old) bytes.now) target.old result target.new }
 {
     let record = read_record(target, bytes)?;
     apply_record(target, &record)

@@ -60,7 +60,8 @@ impl<C: Cells> Terminal<C> {
     /// Shows a record, or refuses it and changes nothing; a read and No-operation are refused as A3.
     /// Takes no memory.
     pub fn show(&mut self, bytes: &[u8]) -> Result<Effect, Refused>
-        ensures { Takes RecordShows IsRefusedBy (read_of self.old.geometry.mode bytes.now) self.old result self.new }
+        ensures { Takes RecordShows IsRefusedBy
+            (read_of self.old.geometry.mode bytes.now) self.old result self.new }
     {
         take_record(&mut self.screen, bytes)
     }
@@ -68,7 +69,8 @@ impl<C: Cells> Terminal<C> {
     /// Takes a record: shows it, answers it where it is a read, and does nothing for No-operation; or
     /// refuses it and changes nothing. Only an answer takes memory; where it was refused, nothing is changed.
     pub fn receive(&mut self, alloc: Global, bytes: &[u8]) -> Result<RecordReply, AllocError>
-        ensures turned { IfOk result (λ reply. turn self.new (reply_seen reply) ≡ received self.old bytes.now) }
+        ensures turned { IfOk result
+            (λ reply. turn self.new (reply_seen reply) ≡ received self.old bytes.now) }
         ensures unchanged { OnErr result (self.new ≡ self.old) }
     {
         receive_record(alloc, &mut self.screen, bytes)
@@ -77,7 +79,8 @@ impl<C: Cells> Terminal<C> {
     /// Presses a key, and gives the bytes that it sends. Only these take memory; where it was refused, the
     /// key isn't pressed and nothing is changed.
     pub fn press(&mut self, alloc: Global, key: Key) -> Result<KeyReply, AllocError>
-        ensures turned { IfOk result (λ reply. key_turn self.new (key_reply_seen reply) ≡ pressed self.old key) }
+        ensures turned { IfOk result
+            (λ reply. key_turn self.new (key_reply_seen reply) ≡ pressed self.old key) }
         ensures unchanged { OnErr result (self.new ≡ self.old) }
     {
         press_key(alloc, &mut self.screen, key)
@@ -94,7 +97,8 @@ fn receive_record<C: Cells>(
     screen: &mut Screen<C>,
     bytes: &[u8],
 ) -> Result<RecordReply, AllocError>
-    ensures turned { IfOk result (λ reply. turn screen.new (reply_seen reply) ≡ received screen.old bytes.now) }
+    ensures turned { IfOk result
+        (λ reply. turn screen.new (reply_seen reply) ≡ received screen.old bytes.now) }
     ensures unchanged { OnErr result (screen.new ≡ screen.old) }
 {
     let record = match read_record(screen, bytes) {

@@ -183,7 +183,8 @@ fn add_missing(
     entries: &[Entry],
 ) -> Result<(), AllocError>
     requires { All (λ entry. entry.place < length screen.now.cells) entries.now }
-    ensures { OnOk result (findings.new.items ≡ findings.old.items ++ missing_from screen.now.cells 0 entries.now) }
+    ensures { OnOk result (findings.new.items
+        ≡ findings.old.items ++ missing_from screen.now.cells 0 entries.now) }
 {
     for (index, entry) in entries.iter().enumerate() {
         if !has_field(screen, entry.place) {

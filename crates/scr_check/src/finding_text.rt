@@ -34,7 +34,8 @@ fn name_at(entries: &[Entry], index: usize) -> &str
 }
 
 fn push_sizes(out: &mut String, shown: Size, declared: Size) -> Result<(), AllocError>
-    ensures { OnOk result (string_bytes out.new ≡ string_bytes out.old ++ finding_text [] (Finding.OtherSize shown declared)) }
+    ensures { OnOk result (string_bytes out.new
+        ≡ string_bytes out.old ++ finding_text [] (Finding.OtherSize shown declared)) }
 {
     let Size { rows, cols } = shown;
     write!(out, "F6 size {rows}x{cols}, layout ")?;
@@ -58,7 +59,8 @@ fn push_keys(out: &mut String, demo: Option<Demo>) -> Result<(), AllocError>
 }
 
 fn push_overlong(out: &mut String, name: &str, found: Overlong) -> Result<(), AllocError>
-    ensures { OnOk result (string_bytes out.new ≡ string_bytes out.old ++ overlong_text name.now found) }
+    ensures { OnOk result (string_bytes out.new
+        ≡ string_bytes out.old ++ overlong_text name.now found) }
 {
     let length = found.length;
     let declared = found.declared;
@@ -67,7 +69,8 @@ fn push_overlong(out: &mut String, name: &str, found: Overlong) -> Result<(), Al
 }
 
 fn push_other_kind(out: &mut String, name: &str) -> Result<(), AllocError>
-    ensures { OnOk result (string_bytes out.new ≡ string_bytes out.old ++ other_kind_text name.now) }
+    ensures { OnOk result (string_bytes out.new
+        ≡ string_bytes out.old ++ other_kind_text name.now) }
 {
     write!(out, "F12 {name} is of the other kind")
 }
@@ -80,7 +83,8 @@ impl Finding {
     /// Adds the text of the finding's line, without the line's end. Entries go by their names in the layout
     /// that was checked.
     pub fn push_text(self, out: &mut String, layout: &Layout) -> Result<(), AllocError>
-        ensures { OnOk result (string_bytes out.new ≡ string_bytes out.old ++ finding_text layout.now.entries self) }
+        ensures { OnOk result (string_bytes out.new
+            ≡ string_bytes out.old ++ finding_text layout.now.entries self) }
     {
         let entries = layout.entries();
         match self {

@@ -104,7 +104,9 @@ fn ready(screen: &Screen<PlainCells>, size: Size) -> Result<(), Finding>
 
 /// Opens a new terminal of the layout's geometry with the records.
 pub(crate) fn open(alloc: Global, records: &[&[u8]], layout: &Layout) -> Result<Opening, AllocError>
-    ensures opened { IfOk result (λ opening. opening_seen opening ≡ opening_of layout.now (map (λ bytes. bytes.now) records.now)) }
+    ensures opened { IfOk result
+        (λ opening. opening_seen opening ≡ opening_of layout.now
+        (map (λ bytes. bytes.now) records.now)) }
     ensures sound { IfOk result IsSoundOpening }
 {
     if records.is_empty() {

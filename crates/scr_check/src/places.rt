@@ -13,7 +13,8 @@ pub(crate) fn entries_by_place(
     alloc: Global,
     layout: &Layout,
 ) -> Result<Vec<Option<usize>>, AllocError>
-    ensures { IfOk result (λ places. (place : ℕ) → slice_index_or places.items place None ≡ entry_at layout.now.entries place) }
+    ensures { IfOk result (λ places. (place : ℕ) → slice_index_or places.items place None
+        ≡ entry_at layout.now.entries place) }
 {
     let cells = layout.size().cells();
     let mut places = vec![in alloc; None; cells as usize]?;

@@ -42,11 +42,18 @@ fn verdict_of(findings: Vec<Finding>) -> Verdict
 ///
 /// Where a request for memory was refused.
 pub fn check(alloc: Global, records: &[&[u8]], layout: &Layout) -> Result<Verdict, AllocError>
-    ensures yes { IfOk result (λ verdict. verdict ≡ Verdict.Yes ↔ Conforms layout.now (map (λ bytes. bytes.now) records.now)) }
-    ensures listed { IfOk result (λ verdict. findings_in verdict ≡ answer_of layout.now (map (λ bytes. bytes.now) records.now)) }
+    ensures yes { IfOk result (λ verdict. verdict
+        ≡ Verdict.Yes ↔ Conforms layout.now (map (λ bytes. bytes.now) records.now)) }
+    ensures listed { IfOk result
+        (λ verdict. findings_in verdict ≡ answer_of layout.now
+        (map (λ bytes. bytes.now) records.now)) }
     ensures some { IfOk result TellsSome }
-    ensures promise { IfOk result (λ verdict. verdict ≡ Verdict.Yes → IsPromised layout.now (map (λ bytes. bytes.now) records.now)) }
-    ensures shown { IfOk result (λ verdict. AreShown layout.now (map (λ bytes. bytes.now) records.now) (findings_in verdict)) }
+    ensures promise { IfOk result
+        (λ verdict. verdict ≡ Verdict.Yes → IsPromised layout.now
+        (map (λ bytes. bytes.now) records.now)) }
+    ensures shown { IfOk result
+        (λ verdict. AreShown layout.now (map (λ bytes. bytes.now) records.now)
+        (findings_in verdict)) }
 {
     match open(alloc, records, layout)? {
         Opening::Leads(screen) => Ok(verdict_of(findings_of(alloc, &screen, layout)?)),

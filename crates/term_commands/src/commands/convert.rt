@@ -41,11 +41,7 @@ fn push_lines(
 }
 
 /// The lines of all records, or the first that is refused.
-fn lines_printed(
-    alloc: Global,
-    mode: Mode,
-    records: &[Vec<u8>],
-) -> Result<String, CommandError>
+fn lines_printed(alloc: Global, mode: Mode, records: &[Vec<u8>]) -> Result<String, CommandError>
     ensures { Gives string_bytes result (lines_printed mode 0 (records_held records.now)) }
 {
     let mut out = String::new(alloc);
