@@ -9,9 +9,9 @@
 //! `faults` every refusal.
 #![tactic(auto)]
 
-mod core;
+mod ends;
 
-use crate::core::answers;
+use crate::ends::answers;
 use anyhow::{Context, Result};
 use scr_layout::Layout;
 use std::alloc::Global;
