@@ -16,7 +16,7 @@ use Rattle.ds_screen.specs.Fields.{is_attribute, bits_of, governs, span_of, fiel
 use Rattle.ds_keys.specs.declared.key.Key.{Key}
 use Rattle.ds_keys.specs.declared.key.Key.TheVariants.{Typed, Right, Attention}
 use Rattle.ds_keys.specs.KeyRuns as keyed
-use Rattle.ds_keys.specs.Touched.{clears_nothing, IsTouched}
+use Rattle.ds_keys.specs.Touched.{IsTouched}
 use Rattle.ds_keys.specs.Laws.{Keeps}
 use Rattle.ds_keys.proofs.CellLaws.{same_kind, same_governs, keeps_same}
 use Rattle.ds_keys.proofs.TouchLaws.{touched_law}

@@ -1,5 +1,5 @@
 -- Records that order lines tell.
-use Rattle.std.proofs.Common.{◌≡◌, ◌≤◌, ℕ, ◌+◌, ◌&&◌, Bool, true, false, not, cond, ltb, List, [], ◌∷◌, ◌++◌, length, Option, Some, None, Ok, Err, refl, sym, ap, ◌∙◌, subst, arith, inl, inr, append_assoc, append-nil, length-append}
+use Rattle.std.proofs.Common.{◌≡◌, ◌≤◌, ℕ, ◌+◌, ◌&&◌, Bool, true, false, not, cond, ltb, List, [], ◌∷◌, ◌++◌, length, Option, Some, None, Ok, Err, refl, sym, ap, ◌∙◌, arith, inl, inr, append_assoc, append-nil, length-append}
 use Rattle.std.specs.Prelude.{Result}
 use Rattle.std.specs.Str.{is_utf8}
 use Rattle.std.proofs.lemmas.Bool.{ltb-false, le-ltb, and_parts}
@@ -10,16 +10,17 @@ use Rattle.ds_codec.specs.Order.{Item}
 use Rattle.ds_codec.specs.Reading.{◌>>=◌}
 use Rattle.order_lines.specs.Draft.{Draft}
 use Rattle.order_lines.specs.Says.{SaysCommand}
-use Rattle.order_lines.specs.Told.{Told, command, order, told_of}
+use Rattle.order_lines.specs.Told.{Told, command, order, told_of, command_told, order_told, short_told, address_told}
 use Rattle.order_lines.proofs.Said.{tells_what_is_said}
 use Rattle.term_commands.specs.declared.fault.Fault.{Fault}
 use Rattle.term_commands.specs.declared.fault.Fault.TheVariants.{TooLong}
 use Rattle.term_commands.specs.declared.input.sizes.SizeLine.{SizeLine}
 use Rattle.term_commands.specs.declared.input.sizes.SizeLine.TheVariants.{Allowed, Refused}
-use Rattle.term_commands.specs.Drafts.{OrderLine, empty, comment, sizes, words, bad, sizes_or_words, text_told, line_told, Drafts, no_drafts, all_drafts, finished, after_told, take_order_line}
-use Rattle.term_commands.specs.SaysDrafts.{LineSays, SayOrders, SayRecord, AreEmpty, EndsRecord, SayRecords, SizesAndDrafts, begins_with_number_sign, is_comment, uncommented, TellDrafts, AreTold, DraftsAreTold}
+use Rattle.term_commands.specs.Drafts.{OrderLine, empty, comment, sizes, words, bad, sizes_or_words, line_told, Drafts, no_drafts, all_drafts, finished, after_told, take_order_line}
+use Rattle.term_commands.specs.SaysDrafts.{LineSays, SayOrders, EndsRecord, SayRecords, SizesAndDrafts, begins_with_number_sign, is_comment, uncommented, TellDrafts, DraftsAreTold}
 use Rattle.term_commands.specs.Sizes.{usual_sizes, geometry_told, sizes_told}
 use Rattle.term_commands.specs.Taking.{taken}
+use Rattle.term_commands.proofs.PlainLines.{plain_utf8}
 
 -- ---- what one line is
 
@@ -28,13 +29,13 @@ data Kind (size_line : SizeLine) (line : List ℕ) : Type 0 where
   is_empty : line ≡ [] → Kind size_line line
   commented : is_comment line ≡ true → line_told size_line line ≡ comment → Kind size_line line
   sized : (geometry : Sizes) → is_comment line ≡ false → is_utf8 line ≡ true → sizes_told size_line line ≡ Some geometry → line_told size_line line ≡ sizes geometry → Kind size_line line
-  says : (told : Told) → is_comment line ≡ false → LineSays line told → line_told size_line line ≡ words told → Kind size_line line
+  speaks : (told : Told) → is_comment line ≡ false → LineSays line told → line_told size_line line ≡ words told → Kind size_line line
   wrong : line_told size_line line ≡ bad → Kind size_line line
 
 by_words : (size_line : SizeLine) (line : List ℕ) (told_sizes : Option Sizes) (told : Option Told) → is_comment line ≡ false → is_utf8 line ≡ true
     → sizes_told size_line line ≡ told_sizes → told_of line ≡ told → line_told size_line line ≡ sizes_or_words told_sizes told → Kind size_line line
 by_words size_line line (Some geometry) told plain text sizes_is told_is is = sized geometry plain text sizes_is is
-by_words size_line line None (Some told) plain text sizes_is told_is is = says told plain (text, (tells_what_is_said line told).0 told_is) is
+by_words size_line line None (Some told) plain text sizes_is told_is is = speaks told plain (text, (tells_what_is_said line told).0 told_is) is
 by_words size_line line None None plain text sizes_is told_is is = wrong is
 
 kind : (size_line : SizeLine) (line : List ℕ) → Kind size_line line
@@ -45,21 +46,29 @@ kind size_line (b ∷ bs) =
       | false ↦ λ text. wrong (rw text refl)
       | true ↦ λ text.
           elim (begins_with_number_sign (b ∷ bs)) as (λ t. begins_with_number_sign (b ∷ bs) ≡ t → Kind size_line (b ∷ bs)) [
-            | true ↦ λ sign. commented (rw (text, sign) refl) (rw (text, sign) refl)
-            | false ↦ λ sign. by_words size_line (b ∷ bs) (sizes_told size_line (b ∷ bs)) (told_of (b ∷ bs)) (rw (text, sign) refl) text refl refl (rw (text, sign) refl)
+            | true ↦ λ sign. commented (rw (sign, text) refl) (rw (sign, text) refl)
+            | false ↦ λ sign. by_words size_line (b ∷ bs) (sizes_told size_line (b ∷ bs)) (told_of (b ∷ bs)) (rw sign refl) text refl refl (rw (text, sign) refl)
           ] refl
     ] refl
+
+unsigned : (sign text : Bool) → (sign && text) ≡ false → text ≡ true → sign ≡ false
+unsigned true text is good = absurd cc
+unsigned false text is good = refl
+
+nothing_told : told_of [] ≡ None
+unfolding command_told order_told short_told address_told
+nothing_told = refl
+
+says_nothing : (told : Told) → LineSays [] told → ⊥
+says_nothing told (text, is) = let some : None ≡ Some told = sym nothing_told ∙ (tells_what_is_said [] told).1 is in absurd cc
 
 -- a line that says something tells it
 words_told : (line : List ℕ) (told : Told) → is_comment line ≡ false → LineSays line told → line_told Refused line ≡ words told
 unfolding line_told
-words_told [] told plain (text, is) = let none = (tells_what_is_said [] told).1 is in absurd cc
+words_told [] told plain says_it = absurd (says_nothing told says_it)
 words_told (b ∷ bs) told plain (text, is) =
-    let sign : begins_with_number_sign (b ∷ bs) ≡ false = sym (rw text refl) ∙ plain in
+    let sign : begins_with_number_sign (b ∷ bs) ≡ false = unsigned (begins_with_number_sign (b ∷ bs)) (is_utf8 (b ∷ bs)) plain text in
     rw (text, sign, (tells_what_is_said (b ∷ bs) told).1 is) refl
-
-says_nothing : (told : Told) → LineSays [] told → ⊥
-says_nothing told (text, is) = let none = (tells_what_is_said [] told).1 is in absurd cc
 
 -- ---- lines in turn
 
@@ -86,7 +95,7 @@ GoOn (Some draft) lines drafts =
 
 after_gap : (lines : List (List ℕ)) (drafts : List Draft) → SayRecords lines drafts → SayRecords ([] ∷ lines) drafts
 after_gap lines [] empty_lines = (refl, empty_lines)
-after_gap lines (draft ∷ drafts) (gap, block, rest, parts, none, says, ends, others) = ([] ∷ gap, block, rest, ap (λ ls. [] ∷ ls) parts, (refl, none), says, ends, others)
+after_gap lines (draft ∷ drafts) (gap, block, rest, parts, none, tells, ends, others) = ([] ∷ gap, block, rest, ap (λ ls. [] ∷ ls) parts, (refl, none), tells, ends, others)
 
 begun : (line : List ℕ) (told : Command) (lines : List (List ℕ)) (drafts : List Draft) → LineSays line (command told) → GoOn (Some (record { command = told; orders = [] })) lines drafts
     → SayRecords (line ∷ lines) drafts
@@ -95,9 +104,17 @@ begun line told lines drafts says_it (items, block, rest, later, parts, orders, 
 
 went_on : (line : List ℕ) (item : Item) (draft : Draft) (lines : List (List ℕ)) (drafts : List Draft) → LineSays line (order item) → GoOn (Some (one_more draft item)) lines drafts
     → GoOn (Some draft) (line ∷ lines) drafts
-went_on line item draft lines drafts says_it (items, block, rest, later, parts, orders, ends, same, others) =
-    (item ∷ items, line ∷ block, rest, later, ap (λ ls. line ∷ ls) parts, (says_it, orders), ends,
-    same ∙ ap (λ os. record draft { orders = os } ∷ later) (append_assoc draft.orders (item ∷ []) items), others)
+went_on line item draft lines drafts says_it (items, block, rest, later, parts, orders, ends, same, others) = (
+  item ∷ items,
+  line ∷ block,
+  rest,
+  later,
+  ap (λ ls. line ∷ ls) parts,
+  (says_it, orders),
+  ends,
+  same ∙ ap (λ os. record draft { orders = os } ∷ later) (append_assoc draft.orders (item ∷ []) items),
+  others,
+)
 
 ended_here : (draft : Draft) (lines : List (List ℕ)) (drafts : List Draft) → SayRecords lines drafts → GoOn (Some draft) ([] ∷ lines) (draft ∷ drafts)
 ended_here draft lines drafts others =
@@ -116,15 +133,18 @@ all_count ended current = length (all_drafts ended current)
 
 empty_line : (size_line : SizeLine) → line_told size_line [] ≡ empty
 unfolding line_told
-empty_line size_line = refl
+empty_line size_line = rw (plain_utf8 [] refl) refl
 
 -- where there is room for one more
+abbrev enough : Bool → Result (Unit {0}) Fault
+enough over = cond over (Err TooLong) (Ok tt)
+
 room : (ended : List Draft) (next : Drafts) (others : Drafts → Result Drafts Fault) (told : Drafts) (P : Type 0)
-    → ((((cond (ltb 1000 (length ended + 1)) (Err TooLong) (Ok tt)) >>= λ few. Ok next) >>= others) >>= λ drafts. Ok (finished drafts)) ≡ Ok told
+    → (((enough (ltb 1000 (length ended + 1)) >>= λ few. Ok next) >>= others) >>= λ drafts. Ok (finished drafts)) ≡ Ok told
     → (length ended + 1 ≤ 1000 → (others next >>= λ drafts. Ok (finished drafts)) ≡ Ok told → P) → P
 room ended next others told P is goes =
     elim (ltb 1000 (length ended + 1)) as (λ t. ltb 1000 (length ended + 1) ≡ t
-    → ((((cond t (Err TooLong) (Ok tt)) >>= λ few. Ok next) >>= others) >>= λ drafts. Ok (finished drafts)) ≡ Ok told → P) [
+    → (((enough t >>= λ few. Ok next) >>= others) >>= λ drafts. Ok (finished drafts)) ≡ Ok told → P) [
       | true ↦ λ test over. absurd cc
       | false ↦ λ test rest. goes (ltb-false _ _ test) rest
     ] refl is
@@ -154,15 +174,15 @@ by_kind line lines number geometry ended current told (commented sign comment_is
     let adds = later ended current few (rw comment_is at is) in
     record { more = adds.more; is = adds.is; goes = rw sign adds.goes; few = adds.few }
 by_kind line lines number geometry ended current told (sized sizes_of plain text sizes_is line_is) few is later = absurd cc
-by_kind line lines number geometry ended None told (says (command it) plain says_it line_is) few is later =
+by_kind line lines number geometry ended None told (speaks (command it) plain says_it line_is) few is later =
     room ended (state geometry ended (Some (record { command = it; orders = [] }))) (λ next. taken take_order_line (number + 1) next lines) told (Adds geometry ended None (line ∷ lines) told)
     (rw line_is at is)
     (λ enough goes.
     let adds = later ended (Some (record { command = it; orders = [] })) (omega (arith, enough, length-append ended (record { command = it; orders = [] } ∷ []))) goes in
     record { more = adds.more; is = adds.is; goes = rw plain (begun line it (uncommented lines) adds.more says_it adds.goes); few = adds.few })
-by_kind line lines number geometry ended (Some draft) told (says (command it) plain says_it line_is) few is later = let fails = rw line_is at is in absurd cc
-by_kind line lines number geometry ended None told (says (order it) plain says_it line_is) few is later = let fails = rw line_is at is in absurd cc
-by_kind line lines number geometry ended (Some draft) told (says (order it) plain says_it line_is) few is later =
+by_kind line lines number geometry ended (Some draft) told (speaks (command it) plain says_it line_is) few is later = let fails = rw line_is at is in absurd cc
+by_kind line lines number geometry ended None told (speaks (order it) plain says_it line_is) few is later = let fails = rw line_is at is in absurd cc
+by_kind line lines number geometry ended (Some draft) told (speaks (order it) plain says_it line_is) few is later =
     let adds = later ended (Some (one_more draft it)) (omega (arith, few, length-append ended (draft ∷ []), length-append ended (one_more draft it ∷ []))) (rw line_is at is) in
     record { more = adds.more; is = adds.is; goes = rw plain (went_on line it draft (uncommented lines) adds.more says_it adds.goes); few = adds.few }
 by_kind line lines number geometry ended current told (wrong line_is) few is later = let fails = rw line_is at is in absurd cc
@@ -189,8 +209,8 @@ abbrev Starts : List (List ℕ) → Drafts → Type 0
 Starts lines told = SizesAndDrafts (uncommented lines) told.geometry told.ended × (length told.ended ≤ 1000)
 
 sizes_after_gap : (lines : List (List ℕ)) (geometry : Sizes) (drafts : List Draft) → SizesAndDrafts lines geometry drafts → SizesAndDrafts ([] ∷ lines) geometry drafts
-sizes_after_gap lines geometry drafts (inl (gap, line, others, parts, none, text, told, says)) = inl ([] ∷ gap, line, others, ap (λ ls. [] ∷ ls) parts, (refl, none), text, told, says)
-sizes_after_gap lines geometry drafts (inr (usual, says)) = inr (usual, after_gap lines drafts says)
+sizes_after_gap lines geometry drafts (inl (gap, line, others, parts, none, text, told, tells)) = inl ([] ∷ gap, line, others, ap (λ ls. [] ∷ ls) parts, (refl, none), text, told, tells)
+sizes_after_gap lines geometry drafts (inr (usual, tells)) = inr (usual, after_gap lines drafts tells)
 
 start_by_kind : (line : List ℕ) (lines : List (List ℕ)) (number : ℕ) (told : Drafts) → Kind Allowed line
     → line_then number no_drafts (line_told Allowed line) lines ≡ Ok told → (all_told (number + 1) no_drafts lines ≡ Ok told → Starts lines told) → Starts (line ∷ lines) told
@@ -200,10 +220,10 @@ start_by_kind line lines number told (commented sign comment_is) is later = rw s
 start_by_kind line lines number told (sized geometry plain text sizes_is line_is) is later =
     let adds = said lines (number + 1) geometry [] None told (omega arith) (rw line_is at is) in
     rw (adds.is, plain) (inl ([], line, uncommented lines, refl, tt, text, sizes_is, adds.goes), adds.few)
-start_by_kind line lines number told (says (command it) plain says_it line_is) is later =
+start_by_kind line lines number told (speaks (command it) plain says_it line_is) is later =
     let adds = said lines (number + 1) usual_sizes [] (Some (record { command = it; orders = [] })) told (omega arith) (rw line_is at is) in
     rw (adds.is, plain) (inr (refl, begun line it (uncommented lines) adds.more says_it adds.goes), adds.few)
-start_by_kind line lines number told (says (order it) plain says_it line_is) is later = let fails = rw line_is at is in absurd cc
+start_by_kind line lines number told (speaks (order it) plain says_it line_is) is later = let fails = rw line_is at is in absurd cc
 start_by_kind line lines number told (wrong line_is) is later = let fails = rw line_is at is in absurd cc
 
 starts : (lines : List (List ℕ)) (number : ℕ) (told : Drafts) → all_told number no_drafts lines ≡ Ok told → Starts lines told
@@ -214,21 +234,21 @@ starts (line ∷ lines) number told is = start_by_kind line lines number told (k
 
 before_gap : (lines : List (List ℕ)) (drafts : List Draft) → SayRecords ([] ∷ lines) drafts → SayRecords lines drafts
 before_gap lines [] empty_lines = empty_lines.1
-before_gap lines (draft ∷ drafts) ([], [], rest, parts, none, says, ends, others) = absurd says
-before_gap lines (draft ∷ drafts) ([], line ∷ block, rest, parts, none, says, ends, others) =
-    let same : line ≡ [] = cc in absurd (says_nothing (command draft.command) (rw same at says.0))
-before_gap lines (draft ∷ drafts) (first ∷ gap, block, rest, parts, none, says, ends, others) =
-    let same : lines ≡ gap ++ (block ++ rest) = cc in (gap, block, rest, same, none.1, says, ends, others)
+before_gap lines (draft ∷ drafts) ([], [], rest, parts, none, tells, ends, others) = absurd tells
+before_gap lines (draft ∷ drafts) ([], line ∷ block, rest, parts, none, tells, ends, others) =
+    let same : line ≡ [] = cc in absurd (says_nothing (command draft.command) (rw same at tells.0))
+before_gap lines (draft ∷ drafts) (first ∷ gap, block, rest, parts, none, tells, ends, others) =
+    let same : lines ≡ gap ++ (block ++ rest) = cc in (gap, block, rest, same, none.1, tells, ends, others)
 
 nothing_said : (draft : Draft) (drafts : List Draft) → SayRecords [] (draft ∷ drafts) → ⊥
-nothing_said draft drafts ([], [], rest, parts, none, says, ends, others) = says
-nothing_said draft drafts ([], line ∷ block, rest, parts, none, says, ends, others) = absurd cc
-nothing_said draft drafts (first ∷ gap, block, rest, parts, none, says, ends, others) = absurd cc
+nothing_said draft drafts ([], [], rest, parts, none, tells, ends, others) = tells
+nothing_said draft drafts ([], line ∷ block, rest, parts, none, tells, ends, others) = absurd cc
+nothing_said draft drafts (first ∷ gap, block, rest, parts, none, tells, ends, others) = absurd cc
 
 comment_told : (size_line : SizeLine) (line : List ℕ) → is_comment line ≡ true → line_told size_line line ≡ comment
 unfolding line_told
-comment_told size_line [] sign = absurd cc
-comment_told size_line (b ∷ bs) sign = let both = and_parts (is_utf8 (b ∷ bs)) (begins_with_number_sign (b ∷ bs)) sign in rw (both.0, both.1) refl
+comment_told size_line [] sign = let no_sign : false ≡ true = sign in absurd cc
+comment_told size_line (b ∷ bs) sign = let both = and_parts (begins_with_number_sign (b ∷ bs)) (is_utf8 (b ∷ bs)) sign in rw (both.0, both.1) refl
 
 abbrev Again : ℕ → Sizes → List (List ℕ) → Type 0
 Again number geometry lines =
@@ -250,17 +270,17 @@ plain_again : (line : List ℕ) (lines : List (List ℕ)) (number : ℕ) (geomet
     → line_then number (state geometry ended current) (line_told Refused line) lines ≡ Ok (state geometry (ended ++ more) None)
 plain_again line lines number geometry ended None [] plain goes few later =
     empty_again line lines number geometry ended None _ goes.0 (later ended None [] goes.1 few)
-plain_again line lines number geometry ended None (draft ∷ more) plain ([], [], rest, parts, none, says, ends, others) few later = absurd says
-plain_again line lines number geometry ended None (draft ∷ more) plain ([], first ∷ block, rest, parts, none, says, ends, others) few later =
+plain_again line lines number geometry ended None (draft ∷ more) plain ([], [], rest, parts, none, tells, ends, others) few later = absurd tells
+plain_again line lines number geometry ended None (draft ∷ more) plain ([], first ∷ block, rest, parts, none, tells, ends, others) few later =
     let same : first ≡ line = cc in
     let tail : uncommented lines ≡ block ++ rest = cc in
-    command_again line lines number (state geometry ended None) draft.command _ refl (words_told line (command draft.command) plain (rw same at says.0))
+    command_again line lines number (state geometry ended None) draft.command _ refl (words_told line (command draft.command) plain (rw same at tells.0))
     (omega (arith, few, length-append ended (draft ∷ more)))
-    (later ended (Some (record { command = draft.command; orders = [] })) (draft ∷ more) (draft.orders, block, rest, more, tail, says.1, ends, refl, others) few)
-plain_again line lines number geometry ended None (draft ∷ more) plain (first ∷ gap, block, rest, parts, none, says, ends, others) few later =
+    (later ended (Some (record { command = draft.command; orders = [] })) (draft ∷ more) (draft.orders, block, rest, more, tail, tells.1, ends, refl, others) few)
+plain_again line lines number geometry ended None (draft ∷ more) plain (first ∷ gap, block, rest, parts, none, tells, ends, others) few later =
     let same : line ≡ [] = cc in
     let tail : uncommented lines ≡ gap ++ (block ++ rest) = cc in
-    empty_again line lines number geometry ended None _ same (later ended None (draft ∷ more) (gap, block, rest, tail, none.1, says, ends, others) few)
+    empty_again line lines number geometry ended None _ same (later ended None (draft ∷ more) (gap, block, rest, tail, none.1, tells, ends, others) few)
 plain_again line lines number geometry ended (Some draft) more plain (items, [], [], after, parts, orders, ends, same, others) few later = absurd cc
 plain_again line lines number geometry ended (Some draft) more plain ([], [], first ∷ rest, after, parts, orders, ends, same, others) few later =
     let here : line ≡ [] = cc in
@@ -315,13 +335,13 @@ first_words : (line : List ℕ) (it : Command) → is_comment line ≡ false →
 unfolding line_told
 first_words [] it plain says_it = absurd (says_nothing (command it) says_it)
 first_words (b ∷ bs) it plain (text, is) =
-    let sign : begins_with_number_sign (b ∷ bs) ≡ false = sym (rw text refl) ∙ plain in
+    let sign : begins_with_number_sign (b ∷ bs) ≡ false = unsigned (begins_with_number_sign (b ∷ bs)) (is_utf8 (b ∷ bs)) plain text in
     rw (text, sign, no_sizes (b ∷ bs) it is, (tells_what_is_said (b ∷ bs) (command it)).1 is) refl
 
 sizes_line : (line : List ℕ) (geometry : Sizes) → is_comment line ≡ false → is_utf8 line ≡ true → geometry_told line ≡ Some geometry → line_told Allowed line ≡ sizes geometry
 unfolding line_told
 sizes_line [] geometry plain text told = absurd cc
-sizes_line (b ∷ bs) geometry plain text told = let sign : begins_with_number_sign (b ∷ bs) ≡ false = sym (rw text refl) ∙ plain in rw (text, sign, told) refl
+sizes_line (b ∷ bs) geometry plain text told = let sign : begins_with_number_sign (b ∷ bs) ≡ false = unsigned (begins_with_number_sign (b ∷ bs)) (is_utf8 (b ∷ bs)) plain text in rw (text, sign, told) refl
 
 abbrev StartsAgain : Result Drafts Fault → Sizes → List Draft → Type 0
 StartsAgain told geometry drafts = (later : SizeLine) × (told ≡ Ok (record { size_line = later; geometry = geometry; ended = drafts; current = None }))
@@ -330,34 +350,36 @@ start_again : (line : List ℕ) (lines : List (List ℕ)) (number : ℕ) (geomet
     → SizesAndDrafts (line ∷ uncommented lines) geometry drafts → length drafts ≤ 1000
     → (SizesAndDrafts (uncommented lines) geometry drafts → StartsAgain (all_told (number + 1) no_drafts lines) geometry drafts)
     → StartsAgain (line_then number no_drafts (line_told Allowed line) lines) geometry drafts
-start_again line lines number geometry drafts plain (inl ([], first, others, parts, none, text, told, says)) few later =
+start_again line lines number geometry drafts plain (inl ([], first, others, parts, none, text, told, tells)) few later =
     let here : first ≡ line = cc in
     let tail : others ≡ uncommented lines = cc in
     let line_is : line_told Allowed line ≡ sizes geometry = sizes_line line geometry plain (rw here at text) (rw here at told) in
-    (Refused, rw line_is (again lines (number + 1) geometry [] None drafts (rw tail at says) few))
-start_again line lines number geometry drafts plain (inl (none_first ∷ gap, first, others, parts, none, text, told, says)) few later =
+    (Refused, rw line_is (again lines (number + 1) geometry [] None drafts (rw tail at tells) few))
+start_again line lines number geometry drafts plain (inl (none_first ∷ gap, first, others, parts, none, text, told, tells)) few later =
     let here : line ≡ [] = cc in
     let tail : uncommented lines ≡ gap ++ first ∷ others = cc in
-    rw (here, empty_line Allowed) (later (inl (gap, first, others, tail, none.1, text, told, says)))
-start_again line lines number geometry [] plain (inr (usual, says)) few later = rw (says.0, empty_line Allowed) (later (inr (usual, says.1)))
-start_again line lines number geometry (draft ∷ drafts) plain (inr (usual, ([], [], rest, parts, none, says, ends, others))) few later = absurd says
-start_again line lines number geometry (draft ∷ drafts) plain (inr (usual, ([], first ∷ block, rest, parts, none, says, ends, others))) few later =
+    rw (here, empty_line Allowed) (later (inl (gap, first, others, tail, none.1, text, told, tells)))
+start_again line lines number geometry [] plain (inr (usual, tells)) few later = rw (tells.0, empty_line Allowed) (later (inr (usual, tells.1)))
+start_again line lines number geometry (draft ∷ drafts) plain (inr (usual, ([], [], rest, parts, none, tells, ends, others))) few later = absurd tells
+start_again line lines number geometry (draft ∷ drafts) plain (inr (usual, ([], first ∷ block, rest, parts, none, tells, ends, others))) few later =
     let here : first ≡ line = cc in
     let tail : uncommented lines ≡ block ++ rest = cc in
-    let line_is : line_told Allowed line ≡ words (command draft.command) = first_words line draft.command plain (rw here at says.0) in
-    (Refused, rw (usual, line_is)
-    (again lines (number + 1) usual_sizes [] (Some (record { command = draft.command; orders = [] })) (draft ∷ drafts) (draft.orders, block, rest, drafts, tail, says.1, ends, refl, others) few))
-start_again line lines number geometry (draft ∷ drafts) plain (inr (usual, (none_first ∷ gap, block, rest, parts, none, says, ends, others))) few later =
+    let line_is : line_told Allowed line ≡ words (command draft.command) = first_words line draft.command plain (rw here at tells.0) in (
+      Refused,
+      rw (usual, line_is)
+          (again lines (number + 1) usual_sizes [] (Some (record { command = draft.command; orders = [] })) (draft ∷ drafts) (draft.orders, block, rest, drafts, tail, tells.1, ends, refl, others) few),
+    )
+start_again line lines number geometry (draft ∷ drafts) plain (inr (usual, (none_first ∷ gap, block, rest, parts, none, tells, ends, others))) few later =
     let here : line ≡ [] = cc in
     let tail : uncommented lines ≡ gap ++ (block ++ rest) = cc in
-    rw (here, empty_line Allowed) (later (inr (usual, (gap, block, rest, tail, none.1, says, ends, others))))
+    rw (here, empty_line Allowed) (later (inr (usual, (gap, block, rest, tail, none.1, tells, ends, others))))
 
 starts_again : (lines : List (List ℕ)) (number : ℕ) (geometry : Sizes) (drafts : List Draft) → SizesAndDrafts (uncommented lines) geometry drafts → length drafts ≤ 1000
     → StartsAgain (all_told number no_drafts lines) geometry drafts
-starts_again [] number geometry drafts (inl ([], first, others, parts, none, text, told, says)) few = absurd cc
-starts_again [] number geometry drafts (inl (none_first ∷ gap, first, others, parts, none, text, told, says)) few = absurd cc
-starts_again [] number geometry [] (inr (usual, says)) few = (Allowed, rw usual refl)
-starts_again [] number geometry (draft ∷ drafts) (inr (usual, says)) few = absurd (nothing_said draft drafts says)
+starts_again [] number geometry drafts (inl ([], first, others, parts, none, text, told, tells)) few = absurd cc
+starts_again [] number geometry drafts (inl (none_first ∷ gap, first, others, parts, none, text, told, tells)) few = absurd cc
+starts_again [] number geometry [] (inr (usual, tells)) few = (Allowed, rw usual refl)
+starts_again [] number geometry (draft ∷ drafts) (inr (usual, tells)) few = absurd (nothing_said draft drafts tells)
 starts_again (line ∷ lines) number geometry drafts tells few =
     elim (is_comment line) as (λ t. is_comment line ≡ t → SizesAndDrafts (cond (not t) (line ∷ uncommented lines) (uncommented lines)) geometry drafts
     → StartsAgain (line_then number no_drafts (line_told Allowed line) lines) geometry drafts) [

@@ -1,5 +1,5 @@
 -- What order lines tell, beside the taking of them in turn: which lines are ignored, and which make each record.
-use Rattle.std.specs.Prelude.{◌≡◌, ◌⊎◌, ℕ, ◌≤◌, Bool, true, false, not, ◌&&◌, ◌==◌, List, [], ◌∷◌, ◌++◌, length, Option, Some, None, Result, Ok, Err}
+use Rattle.std.specs.Prelude.{◌≡◌, ◌⊎◌, ℕ, ◌≤◌, Bool, true, false, not, ◌&&◌, ◌==◌, List, [], ◌∷◌, ◌++◌, length, Some, None, Ok}
 use Rattle.std.specs.List.{filter}
 use Rattle.std.specs.Str.{is_utf8}
 use Rattle.ds_codec.specs.Geometry.{Sizes}
@@ -60,7 +60,7 @@ begins_with_number_sign [] = false
 begins_with_number_sign (b ∷ bs) = b == 0x23
 
 abbrev pub is_comment : List ℕ → Bool
-is_comment line = is_utf8 line && begins_with_number_sign line
+is_comment line = begins_with_number_sign line && is_utf8 line
 
 -- the lines that are no comments
 abbrev pub uncommented : List (List ℕ) → List (List ℕ)
