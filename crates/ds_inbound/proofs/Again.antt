@@ -8,7 +8,7 @@ use Rattle.std.proofs.lemmas.List.Concat.{flat_map-cons}
 use Rattle.ds_codec.specs.declared.size.Mode.{Mode}
 use Rattle.ds_codec.specs.declared.size.Mode.TheVariants.{Bits14}
 use Rattle.ds_codec.specs.Address.{SpellsAddress, written_address, six_bit_code}
-use Rattle.ds_codec.specs.Aid.{is_aid, is_short_aid}
+use Rattle.ds_codec.specs.Aid.{is_short_aid}
 use Rattle.ds_codec.specs.Geometry.{limit_of, cells_of}
 use Rattle.ds_codec.proofs.Below.{both_true}
 use Rattle.ds_codec.proofs.Codes.{six_bit_spells}
@@ -100,17 +100,17 @@ sound_cursor v sound = omega (arith, sound.whole, sound.cursor_inside)
 and_left : (a b : Bool) → (a && b) ≡ true → a ≡ true
 and_left a b e = (both_true a b e).0
 
-pub short_sendable : (v : Picture) (all : Bool) → IsSound v → is_aid v.aid ≡ true → (is_short_aid v.aid && not all) ≡ true
+pub short_sendable : (v : Picture) (all : Bool) → IsSound v → (is_short_aid v.aid && not all) ≡ true
     → IsSendable v.geometry.mode (length v.cells) (answer_of v all)
-short_sendable v all sound known alone =
-    rw (answer_short v all alone) (record { few = sound_few v sound; aid = known; cursor = (and_left (is_short_aid v.aid) (not all) alone, refl, refl); lead = refl; fields = refl })
+short_sendable v all sound alone =
+    rw (answer_short v all alone) (record { few = sound_few v sound; aid = sound.attention; cursor = (and_left (is_short_aid v.aid) (not all) alone, refl, refl); lead = refl; fields = refl })
 
-pub long_sendable : (v : Picture) (all : Bool) → IsSound v → is_aid v.aid ≡ true → (is_short_aid v.aid && not all) ≡ false
+pub long_sendable : (v : Picture) (all : Bool) → IsSound v → (is_short_aid v.aid && not all) ≡ false
     → list_all is_sendable (lead_sent v.cells (attributes_from v.cells 0)) ≡ true
     → list_all (is_field_sendable (length v.cells)) (fields_sent v.cells (attributes_from v.cells 0)) ≡ true
     → IsSendable v.geometry.mode (length v.cells) (answer_of v all)
-long_sendable v all sound known long lead fields =
-    rw (answer_long v all long) (record { few = sound_few v sound; aid = known; cursor = sound_cursor v sound; lead = lead; fields = fields })
+long_sendable v all sound long lead fields =
+    rw (answer_long v all long) (record { few = sound_few v sound; aid = sound.attention; cursor = sound_cursor v sound; lead = lead; fields = fields })
 
 pub short_bytes : (v : Picture) (all : Bool) (empty out : List ℕ) → (is_short_aid v.aid && not all) ≡ true → empty ≡ [] → out ≡ empty ++ v.aid ∷ [] → out ≡ bytes_sent v all
 short_bytes v all empty out alone none next = rw (next, none, answer_short v all alone) refl

@@ -1,7 +1,8 @@
 -- What each key does: every cell, the cursor, the lock, the attention identifier, and the answer.
-use Rattle.std.specs.Prelude.{◌≡◌, ℕ, ◌+◌, ◌-◌, Bool, true, false, ◌&&◌, ◌==◌, nat_lt, nat_le, List, length, Option, Some, None, unwrap_or, if◌then◌else◌}
+use Rattle.std.specs.Prelude.{◌≡◌, ℕ, ◌+◌, ◌-◌, Bool, true, false, not, ◌&&◌, ◌||◌, ◌==◌, nat_lt, nat_le, List, length, Option, Some, None, unwrap_or, if◌then◌else◌}
 use Rattle.ds_codec.specs.declared.cell.Cell.{Cell}
 use Rattle.ds_codec.specs.declared.cell.Cell.TheVariants.{Field, Char}
+use Rattle.ds_codec.specs.Aid.{is_long_aid, is_short_aid}
 use Rattle.ds_codec.specs.Attribute.{with_modified}
 use Rattle.ds_codec.specs.Character.{glyph, is_graphic}
 use Rattle.ds_screen.specs.declared.lock.Lock.{Lock}
@@ -93,10 +94,14 @@ erase_input_step v = step (cleared v) Done
 abbrev pub sent : Picture → ℕ → Step
 sent v aid = step (record v { lock = Waiting; aid = aid }) (Sent aid)
 
--- 60 stands for no key; Clear, 6D, erases first
+-- the attention identifiers of Enter, PF1 to PF24, PA1 to PA3 and Clear; 60 stands for no key
+abbrev pub is_sending : ℕ → Bool
+is_sending aid = is_long_aid aid || is_short_aid aid
+
+-- a key that sends; Clear, 6D, erases first
 unfoldable pub attention_step : Picture → ℕ → Step
 attention_step v aid =
-    if aid == 0x60 then ignored v else (if aid == 0x6D then sent (erased v.geometry.default v) aid else sent v aid)
+    if not (is_sending aid) then ignored v else (if aid == 0x6D then sent (erased v.geometry.default v) aid else sent v aid)
 
 -- a key on a free keyboard
 unfoldable pub free_step : Picture → Key → Step

@@ -18,10 +18,10 @@ has_characters mode (set_attribute kind value) part spelled = tt
 has_characters mode (modify_field pairs) part spelled = tt
 has_characters mode insert_cursor part spelled = tt
 has_characters mode program_tab part spelled = tt
-has_characters mode (repeat_to_address stop character) part spelled = tt
+has_characters mode (repeat_to_address stop character) part (first, second, rest, is, address, told) = told.0
 has_characters mode (erase_unprotected_to_address stop) part spelled = tt
 
-spelled_characters : (mode : Mode) (at : ℕ) (sites : List Site) (bytes : List ℕ) → AreSpelled mode at sites bytes → HaveCharacters sites
+pub spelled_characters : (mode : Mode) (at : ℕ) (sites : List Site) (bytes : List ℕ) → AreSpelled mode at sites bytes → HaveCharacters sites
 spelled_characters mode at [] bytes spelled = tt
 spelled_characters mode at (site ∷ sites) bytes (part, rest, joined, there, order, follows, others) =
     (has_characters mode site.order part order, spelled_characters mode (at + length part) sites rest others)

@@ -45,7 +45,7 @@ effect_length (graphic_escape code) w = length-ruled (length w.cells) _
 inside_good : (n address : ℕ) → address < n → outside_of n address ≡ None
 inside_good n address lt = cond-true (ltb address n) _ _ (lt-ltb address n lt)
 
-good_inside : (n address : ℕ) → outside_of n address ≡ None → address < n
+pub good_inside : (n address : ℕ) → outside_of n address ≡ None → address < n
 good_inside n address good =
     elim (cases_Bool (ltb address n)) [
       | inl lt ↦ ltb-true address n lt

@@ -1,14 +1,15 @@
 -- Laws on what records do, in the words of the data stream.
 use Rattle.std.specs.Prelude.{◌≡◌, ℕ, ◌+◌, ◌%◌, ◌<◌, ◌↔◌, true, List, [], ◌∷◌, ◌++◌, length, replicate, Ok, Err, Some}
 use Rattle.ds_codec.specs.declared.cell.Cell.{Cell}
+use Rattle.ds_codec.specs.declared.size.Mode.{Mode}
 use Rattle.ds_codec.specs.declared.command.Command.{Command}
 use Rattle.ds_codec.specs.declared.command.Command.TheVariants.{Write, EraseWrite, EraseWriteAlternate, EraseAllUnprotected}
 use Rattle.ds_codec.specs.Geometry.{cells_of}
 use Rattle.ds_codec.specs.Order.{Item, set_buffer_address, modify_field, repeat_to_address, erase_unprotected_to_address, Site}
-use Rattle.ds_codec.specs.Record.{Message}
+use Rattle.ds_codec.specs.Record.{Message, SpellsRecord}
 use Rattle.ds_screen.specs.declared.refused.Refused.{Refused}
 use Rattle.ds_screen.specs.Ring.{ring_distance}
-use Rattle.ds_screen.specs.Picture.{Picture, blank, cell_at}
+use Rattle.ds_screen.specs.Picture.{Picture, IsSound, blank, cell_at}
 use Rattle.ds_screen.specs.Fields.{is_attribute, is_character, governs}
 use Rattle.ds_screen.specs.Orders.{Writing, effect_of, fault_of}
 use Rattle.ds_screen.specs.Records.{begun, acts, RecordShows}
@@ -16,6 +17,12 @@ use Rattle.ds_screen.specs.Records.{begun, acts, RecordShows}
 -- a record leads from a picture to one picture
 abbrev pub HasOneEffect : Type 0
 HasOneEffect = (before after other : Picture) (message : Message) → RecordShows before message after → RecordShows before message other → after ≡ other
+
+-- a record that some bytes spell leaves a sound picture sound
+abbrev pub RecordsStaySound : Type 0
+RecordsStaySound =
+    (before after : Picture) (message : Message) (mode : Mode) (bytes : List ℕ) → IsSound before → SpellsRecord mode message bytes
+    → RecordShows before message after → IsSound after
 
 -- the address of an order is that of a position
 abbrev pub HasAddressInside : ℕ → Item → Type 0

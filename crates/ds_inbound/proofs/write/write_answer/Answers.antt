@@ -1,6 +1,6 @@
 use Rattle.std.proofs.Common.{◌≡◌, ◌∷◌, [], ◌++◌, ◌&&◌, true, false, not, length, sym, ◌∙◌, ap}
 use Rattle.ds_codec.specs.Address.{written_address}
-use Rattle.ds_codec.specs.Aid.{is_aid, is_short_aid}
+use Rattle.ds_codec.specs.Aid.{is_short_aid}
 use Rattle.ds_inbound.proofs.Again.{short_sendable, long_sendable, short_bytes, long_bytes}
 use Rattle.ds_inbound.proofs.write.write_answer.Goals as goal
 
@@ -15,8 +15,7 @@ pub returns-then-is_sent_alone-clause-sendable : goal.returns-then-is_sent_alone
 returns-then-is_sent_alone-clause-sendable g c =
     let v = c.args.screen.now in
     let alone : (is_short_aid v.aid && not c.args.all) ≡ true = sym (c.if-is_sent_alone.ensures ∙ ap (λ a. is_short_aid a && not c.args.all) c.aid-aid.ensures) in
-    let known : is_aid v.aid ≡ true = ap is_aid (sym (c.byte.ensures.value ∙ c.aid-aid.ensures)) ∙ c.byte.ensures.valid in
-    short_sendable v c.args.all c.size.ensures.sound known alone
+    short_sendable v c.args.all c.size.ensures.sound alone
 
 pub returns-clause-written : goal.returns-clause-written
 returns-clause-written g c =
@@ -32,5 +31,4 @@ pub returns-clause-sendable : goal.returns-clause-sendable
 returns-clause-sendable g c =
     let v = c.args.screen.now in
     let long : (is_short_aid v.aid && not c.args.all) ≡ false = sym (c.if-is_sent_alone.ensures ∙ ap (λ a. is_short_aid a && not c.args.all) c.aid-aid.ensures) in
-    let known : is_aid v.aid ≡ true = ap is_aid (sym (c.byte-2.ensures.value ∙ c.aid-aid.ensures)) ∙ c.byte-2.ensures.valid in
-    long_sendable v c.args.all c.size.ensures.sound known long c.in_ok-push_lead.ensures.sendable c.in_ok-push_fields.ensures.sendable
+    long_sendable v c.args.all c.size.ensures.sound long c.in_ok-push_lead.ensures.sendable c.in_ok-push_fields.ensures.sendable
