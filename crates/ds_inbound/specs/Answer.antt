@@ -73,7 +73,8 @@ long_answer v =
       fields = fields_sent v.cells (attributes_from v.cells 0);
     }
 
--- what a picture answers to Read Modified; where all is set, to Read Modified All, which sends no short answer
+-- what a picture answers to Read Modified; where all is set, to Read Modified All, which sends no short answer. That
+-- no key, 60, is answered as Enter is, is our own rule.
 unfoldable pub answer_of : Picture → Bool → Answer
 answer_of v all = if is_short_aid v.aid && not all then short_answer v.aid else long_answer v
 

@@ -12,5 +12,6 @@ pub mod EffectLaws
 pub mod CharacterLaws
 pub mod SoundLaws
 pub mod GovernLaws
+pub mod OpenLaws
 pub mod PrintLaws
 pub mod Rows

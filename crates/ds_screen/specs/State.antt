@@ -1,3 +1,4 @@
+-- For the code's own proofs: only functions within the crate cite this file, so no public contract rests on it.
 -- The state that orders work on, as the code keeps it.
 use Rattle.std.specs.Prelude.{◌≡◌, ◌<◌, true, List, [], ◌∷◌, length}
 use Rattle.std.specs.List.{list_all}
