@@ -1,5 +1,7 @@
 -- A picture whose characters exist can send its answer.
-use Rattle.std.proofs.Common.{◌≡◌, ℕ, zero, suc, ◌+◌, ◌-◌, ◌<◌, ◌≤◌, Bool, true, false, cond, not, ◌&&◌, List, [], ◌∷◌, length, map, refl, arith, inl, inr}
+use Rattle.std.proofs.Common.{◌≡◌, ℕ, zero, suc, ◌+◌, ◌-◌, ◌<◌, ◌≤◌, Bool, true, false, cond, not, ◌&&◌, List, [], ◌∷◌, length, map, Result, Ok, Err, refl, arith, inl, inr}
+use Rattle.std.specs.Prelude.{IfOk}
+use Rattle.std.specs.Global.{Vec}
 use Rattle.std.specs.List.{range_with_len, filter, list_all}
 use Rattle.std.proofs.lemmas.Bool.{lt-ltb, cases_Bool}
 use Rattle.ds_codec.specs.declared.cell.Cell.{Cell}
@@ -12,7 +14,8 @@ use Rattle.ds_screen.specs.Fields.{is_attribute, span_of, attributes_from}
 use Rattle.ds_screen.proofs.RingLaws.{on_lt}
 use Rattle.ds_inbound.specs.Answer.{is_null, character_of, characters_at, is_modified_at, field_sent, fields_sent, lead_sent, answer_of, bytes_sent}
 use Rattle.ds_codec.specs.Aid.{is_short_aid}
-use Rattle.ds_inbound.specs.Inbound.{is_sendable}
+use Rattle.ds_inbound.specs.Inbound.{is_sendable, SaysOnly}
+use Rattle.ds_inbound.specs.Reading.{read_of}
 use Rattle.ds_inbound.specs.Sending.{is_field_sendable, IsSendable}
 use Rattle.ds_inbound.specs.Laws.{AnswersSayThemselves, AnswersAreReadAgain}
 use Rattle.ds_inbound.proofs.Answers.{read_again, says_only}
@@ -105,3 +108,15 @@ answers_say v all sound =
 pub answers_read : AnswersAreReadAgain
 answers_read v all sound =
     read_again v.geometry.mode (length v.cells) (bytes_sent v all) (answer_of v all) (sendable_spelled v.geometry.mode (length v.cells) (answer_of v all) (picture_sendable v all sound))
+
+-- ---- the contract of writing
+
+pub reads_again : {E : Type 0} (v : Picture) (all : Bool) (r : Result (Vec ℕ) E) → IfOk r (λ bytes. bytes.items ≡ bytes_sent v all) → IsSound v
+    → IfOk r (λ bytes. read_of v.geometry.mode (length v.cells) bytes.items ≡ Ok (answer_of v all))
+reads_again v all (Ok bytes) is sound = rw is (answers_read v all sound)
+reads_again v all (Err e) is sound = tt
+
+pub says_again : {E : Type 0} (v : Picture) (all : Bool) (r : Result (Vec ℕ) E) → IfOk r (λ bytes. bytes.items ≡ bytes_sent v all) → IsSound v
+    → IfOk r (λ bytes. SaysOnly v.geometry.mode (length v.cells) (answer_of v all) bytes.items)
+says_again v all (Ok bytes) is sound = rw is (answers_say v all sound)
+says_again v all (Err e) is sound = tt
