@@ -40,8 +40,7 @@ returns-clause-shows g c =
 pub invariant_of-self-2 : goal.invariant_of-self-2
 invariant_of-self-2 g c =
     let after : Picture = picture c.self.inside.geometry c.in-Some.base.size (g.C.Cells.content c.swap.new.x) c.in_ok-end.end.cursor c.lock_after-self-inside.result c.aid_after-self-inside.result in
-    let sound : IsSound c.args.self.now = subst IsSound c.self.view_is c.self.invariant.0 in
-    (
+    let sound : IsSound c.args.self.now = subst IsSound c.self.view_is c.self.invariant.0 in (
       shown_sound c.args.self.now after c.args.outbound.now.command c.args.outbound.now.orders c.in_ok-end.ensures.characters sound (returns-clause-shows g c),
       search rules,
       search rules,
