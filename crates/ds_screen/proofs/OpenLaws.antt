@@ -1,13 +1,13 @@
 -- What is open, by the attribute that governs.
-use Rattle.std.proofs.Common.{◌≡◌, ℕ, ◌<◌, ◌&&◌, Bool, true, false, not, List, length, Option, Some, None, refl, sym, ◌∙◌, ap, inl, inr}
-use Rattle.std.proofs.lemmas.Bool.{false≢true, eq-eqb, eqb-true, and_parts, not-true}
+use Rattle.std.proofs.Common.{◌≡◌, ℕ, ◌<◌, ◌&&◌, true, not, List, length, Option, Some, None, refl, sym, ◌∙◌, ap, inl, inr}
+use Rattle.std.proofs.lemmas.Bool.{eq-eqb, eqb-true, and_parts, not-true}
 use Rattle.ds_codec.specs.declared.cell.Cell.{Cell}
 use Rattle.ds_codec.specs.Attribute.{is_protected}
 use Rattle.ds_screen.specs.Ring.{ring_back, ring_distance}
 use Rattle.ds_screen.specs.Picture.{cell_at}
 use Rattle.ds_screen.specs.Fields.{is_attribute, is_character, bits_of, bits_at, attribute_before, is_at, governs, is_open}
-use Rattle.ds_screen.specs.Laws.{Governs, HasNoAttribute, IsOpen, OpensExactly}
-use Rattle.ds_screen.proofs.RingLaws.{back_lt, back-zero, search_cases}
+use Rattle.ds_screen.specs.Laws.{IsOpen, OpensExactly}
+use Rattle.ds_screen.proofs.RingLaws.{search_cases}
 use Rattle.ds_screen.proofs.RuledLaws.{distance_lt}
 use Rattle.ds_screen.proofs.FieldLaws.{before_found, before_none}
 use Rattle.ds_screen.proofs.GovernLaws.{back_distance, back_inside_ring, governs_so, so_governs}

@@ -1,5 +1,5 @@
 -- What a record leaves of a sound picture is sound.
-use Rattle.std.proofs.Common.{◌≡◌, ℕ, ◌+◌, ◌%◌, ◌<◌, ◌≤◌, ◌⊎◌, Bool, true, false, cond, List, [], ◌∷◌, length, Option, Some, None, Result, Ok, Err, refl, sym, ◌∙◌, ap, subst, arith, inl, inr}
+use Rattle.std.proofs.Common.{◌≡◌, ℕ, ◌+◌, ◌%◌, ◌<◌, ◌≤◌, ◌⊎◌, Bool, true, false, List, [], ◌∷◌, length, Option, Some, None, Result, Ok, Err, refl, sym, ◌∙◌, subst, arith, inl, inr}
 use Rattle.std.specs.Option.{option_map, unwrap_or}
 use Rattle.std.proofs.lemmas.Bool.{cond_both}
 use Rattle.std.proofs.lemmas.List.{length-replicate}
@@ -13,15 +13,14 @@ use Rattle.ds_codec.specs.Aid.{is_aid}
 use Rattle.ds_codec.specs.Command.{wcc_of}
 use Rattle.ds_codec.specs.Geometry.{IsGood, cells_of}
 use Rattle.ds_codec.specs.Order.{Item, Site, text, start_field, start_field_extended, set_buffer_address, set_attribute, modify_field, insert_cursor, program_tab, repeat_to_address, erase_unprotected_to_address, graphic_escape}
-use Rattle.ds_codec.specs.Record.{Message, SpellsRest}
-use Rattle.ds_screen.specs.declared.lock.Lock.{Lock}
+use Rattle.ds_codec.specs.Record.{SpellsRest}
 use Rattle.ds_screen.specs.declared.refused.Why.{Why}
 use Rattle.ds_screen.specs.declared.refused.Refused.{Refused}
-use Rattle.ds_screen.specs.Ring.{ring_on, least}
-use Rattle.ds_screen.specs.Picture.{Picture, IsSound, blank, ruled}
+use Rattle.ds_screen.specs.Ring.{ring_on}
+use Rattle.ds_screen.specs.Picture.{Picture, IsSound, blank}
 use Rattle.ds_screen.specs.Fields.{is_attribute, is_open, first_open}
 use Rattle.ds_screen.specs.Orders.{Writing, first_from, is_unprotected_attribute, tab_stop, tabbed, effect_of, fault_of}
-use Rattle.ds_screen.specs.Records.{resets, restores, unmodified, new_picture, erased, begun, finished, unless, acts, finishes, cleared_cell, all_cleared, shown_of}
+use Rattle.ds_screen.specs.Records.{resets, restores, erased, begun, finished, unless, acts, finishes, cleared_cell, all_cleared, shown_of}
 use Rattle.ds_screen.specs.State.{HasCharacters, HaveCharacters}
 use Rattle.ds_screen.specs.Laws.{RecordsStaySound}
 use Rattle.ds_screen.proofs.RingLaws.{on_lt, least_found, least_none, search_cases}
