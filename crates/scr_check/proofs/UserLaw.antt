@@ -1,7 +1,7 @@
 -- A yes for a screen that took the records and was pressed.
-use Rattle.std.proofs.Common.{◌≡◌, ℕ, ◌&&◌, true, false, not, List, [], ◌∷◌, length, Ok, refl, sym, ◌∙◌, ap, subst, inl}
+use Rattle.std.proofs.Common.{◌≡◌, ℕ, ◌&&◌, true, false, not, List, [], ◌∷◌, Ok, refl, sym, ◌∙◌, ap, subst, inl}
 use Rattle.std.proofs.lemmas.List.{length-replicate}
-use Rattle.ds_codec.specs.Aid.{is_long_aid, is_aid}
+use Rattle.ds_codec.specs.Aid.{is_long_aid}
 use Rattle.ds_codec.specs.Geometry.{cells_of}
 use Rattle.ds_codec.proofs.Records.{ReadSays, read_says}
 use Rattle.ds_screen.specs.declared.lock.Lock.TheVariants.{Free}
