@@ -8,6 +8,7 @@ pub mod Again
 pub mod Faults
 pub mod Walk
 pub mod Records
+pub mod Laid
 pub mod Written
 pub mod Aids
 pub mod DigitPairs

@@ -7,7 +7,7 @@ use Rattle.ds_codec.specs.declared.refused.Refused.{Refused}
 use Rattle.ds_codec.specs.declared.refused.Why.{Why}
 use Rattle.ds_codec.specs.Character.{is_text}
 use Rattle.ds_codec.specs.Order.{Item, text, start_field, start_field_extended, set_buffer_address, set_attribute, modify_field, insert_cursor, program_tab, repeat_to_address, erase_unprotected_to_address, graphic_escape, Site, SpellsOrder, HasFault}
-use Rattle.ds_codec.specs.Record.{is_text_order, MayFollow, AreSpelled, AreOrders}
+use Rattle.ds_codec.specs.Record.{is_text_order, MayFollow, AreSpelled, HaveSpelling}
 use Rattle.ds_codec.specs.Reading.{◌>>=◌, front, orders_from, sites_in, refusal_in}
 use Rattle.ds_codec.proofs.Below.{both_true}
 use Rattle.std.specs.Prelude.{IsOk}
@@ -268,5 +268,5 @@ walk_spelled : (mode : Mode) (at : ℕ) (bytes : List ℕ) (r : Result (List Sit
 walk_spelled mode at bytes (Ok sites) says good = says
 walk_spelled mode at bytes (Err e) says good = absurd cc
 
-pub all_spelled : (mode : Mode) (at : ℕ) (bytes : List ℕ) → IsOk (orders_from mode 0 at bytes) → AreOrders (sites_in (orders_from mode 0 at bytes))
-all_spelled mode at bytes good = (mode, at, bytes, walk_spelled mode at bytes (orders_from mode 0 at bytes) (walk mode at bytes) good)
+pub all_spelled : (mode : Mode) (bytes : List ℕ) → IsOk (orders_from mode 0 2 bytes) → HaveSpelling (sites_in (orders_from mode 0 2 bytes))
+all_spelled mode bytes good = (mode, bytes, walk_spelled mode 2 bytes (orders_from mode 0 2 bytes) (walk mode 2 bytes) good)

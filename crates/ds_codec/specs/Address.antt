@@ -8,7 +8,8 @@ abbrev pub top_bits : ℕ → ℕ
 top_bits byte = byte / 64 % 4
 
 -- Two bytes that begin with 00 are a number of 14 bits, the high byte first. Where they begin with 01 or 11 the
--- low six bits of each are a number of 12 bits. No address begins with 10.
+-- low six bits of each are a number of 12 bits; that the first two bits of the second byte may then be any is our own
+-- rule. No address begins with 10.
 abbrev pub SpellsAddress : Mode → ℕ → ℕ → ℕ → Type 0
 SpellsAddress Bits14 address first second =
     ((top_bits first ≡ 0) × (address ≡ 256 * (first % 64) + second))

@@ -1,4 +1,4 @@
--- Field attributes: six bits.
+-- Field attributes: six bits. Bit 02 is kept without effect, which is our own rule.
 use Rattle.std.specs.Prelude.{ℕ, ◌+◌, ◌-◌, ◌/◌, ◌%◌, Bool, ◌==◌, if◌then◌else◌}
 
 -- bit 20: the operator cannot type there

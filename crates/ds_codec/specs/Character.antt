@@ -14,7 +14,7 @@ glyph code alt = record { code = code; alt = alt }
 abbrev pub null : Glyph
 null = glyph 0 false
 
--- the controls that are stored as characters: NUL, FF, CR, NL, EM, DUP, FM and SUB
+-- the controls that are stored as characters: NUL, FF, CR, NL, EM, DUP, FM and SUB (that these are text is our own rule)
 abbrev pub stored_controls : List ℕ
 stored_controls = 0x00 ∷ 0x0C ∷ 0x0D ∷ 0x15 ∷ 0x19 ∷ 0x1C ∷ 0x1E ∷ 0x3F ∷ []
 

@@ -74,7 +74,7 @@ field_types = 0xC0 ∷ 0xC1 ∷ 0xC2 ∷ 0x41 ∷ 0x42 ∷ 0x43 ∷ 0x45 ∷ 0x4
 unfoldable pub is_field_type : ℕ → Bool
 is_field_type kind = list_any (λ t. t == kind) field_types
 
--- Set Attribute takes these too, and 00, which resets all
+-- Set Attribute takes 00 too, which resets all, and these; that C0, C1 and C2 are among them is our own rule
 unfoldable pub is_set_type : ℕ → Bool
 is_set_type kind = list_any (λ t. t == kind) (0x00 ∷ field_types)
 
@@ -98,7 +98,7 @@ last_attribute [] = None
 last_attribute (kind ∷ []) = None
 last_attribute (kind ∷ value ∷ pairs) = or_else (last_attribute pairs) (if kind == 0xC0 then Some (value % 64) else None)
 
--- a count of pairs, and the pairs
+-- a count of pairs, and the pairs; that there may be none is our own rule
 abbrev pub SpellsPairs : List ℕ → List ℕ → Type 0
 SpellsPairs pairs part = (count : ℕ) × (part ≡ count ∷ pairs) × (length pairs ≡ 2 * count) × (have_types pairs ≡ true)
 

@@ -125,7 +125,8 @@ abbrev pub sites_in : Result (List Site) Refused → List Site
 sites_in (Ok sites) = sites
 sites_in (Err e) = []
 
-abbrev pub refusal_in : {A : Type 0} → Result A Refused → Option Refused
+-- the refusal, where there is one
+abbrev pub refusal_in : {A E : Type 0} → Result A E → Option E
 refusal_in (Ok found) = None
 refusal_in (Err e) = Some e
 

@@ -1,5 +1,5 @@
 -- The outbound grammar: which command and orders a record's bytes spell, and the leftmost fault of a record.
-use Rattle.std.specs.Prelude.{◌≡◌, ℕ, ◌+◌, Bool, true, false, ◌&&◌, List, [], ◌∷◌, ◌++◌, length, Option, Some, None}
+use Rattle.std.specs.Prelude.{◌≡◌, ℕ, ◌+◌, Bool, true, false, ◌&&◌, List, [], ◌∷◌, ◌++◌, length, take, drop, Option, Some, None}
 use Rattle.ds_codec.specs.declared.size.Mode.{Mode}
 use Rattle.ds_codec.specs.declared.command.Command.{Command}
 use Rattle.ds_codec.specs.declared.command.CommandCode.{CommandCode}
@@ -7,7 +7,7 @@ use Rattle.ds_codec.specs.declared.command.CommandCode.TheVariants.{Write, Erase
 use Rattle.ds_codec.specs.declared.refused.Why.{Why}
 use Rattle.ds_codec.specs.declared.refused.Why.TheVariants.{Empty, UnknownCommand, StructuredField, NoWcc, Trailing}
 use Rattle.ds_codec.specs.Command.{is_code_of, command_code_of, wcc_of}
-use Rattle.ds_codec.specs.Order.{Item, text, Site, SpellsOrder, HasFault}
+use Rattle.ds_codec.specs.Order.{Item, text, start_field_extended, modify_field, Site, SpellsOrder, HasFault}
 
 -- what a record says: a command, and orders at their places
 pub record Message : Type 0 where
@@ -30,11 +30,22 @@ AreSpelled mode at (site ∷ sites) bytes =
     (part : List ℕ) × (rest : List ℕ) × (bytes ≡ part ++ rest) × (site.at ≡ at) × SpellsOrder mode site.order part
     × MayFollow site.order sites × AreSpelled mode (at + length part) sites rest
 
--- some bytes spell the orders
-abbrev pub AreOrders : List Site → Type 0
-AreOrders sites = (mode : Mode) × (at : ℕ) × (bytes : List ℕ) × AreSpelled mode at sites bytes
+-- in some mode some bytes spell the orders, the first of them at place 2, as a record's
+abbrev pub HaveSpelling : List Site → Type 0
+HaveSpelling sites = (mode : Mode) × (bytes : List ℕ) × AreSpelled mode 2 sites bytes
 
--- a write control character and orders for a write, nothing for another command
+-- a text is the bytes of the record from its order's place on, and pairs are those after that byte and their count
+abbrev pub LiesAt : List ℕ → ℕ → Item → Type 0
+LiesAt bytes at (text run) = take (length run) (drop at bytes) ≡ run
+LiesAt bytes at (start_field_extended pairs) = take (length pairs) (drop (at + 2) bytes) ≡ pairs
+LiesAt bytes at (modify_field pairs) = take (length pairs) (drop (at + 2) bytes) ≡ pairs
+LiesAt bytes at order = Unit {0}
+
+abbrev pub AreLaidOut : List ℕ → List Site → Type 0
+AreLaidOut bytes [] = Unit {0}
+AreLaidOut bytes (site ∷ sites) = LiesAt bytes site.at site.order × AreLaidOut bytes sites
+
+-- a write control character and orders for a write, nothing for another command (that nothing may follow is our own rule)
 abbrev pub SpellsRest : Mode → Option ℕ → List Site → List ℕ → Type 0
 SpellsRest mode None orders rest = (orders ≡ []) × (rest ≡ [])
 SpellsRest mode (Some wcc) orders rest = (more : List ℕ) × (rest ≡ wcc ∷ more) × AreSpelled mode 2 orders more

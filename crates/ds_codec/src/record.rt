@@ -31,11 +31,12 @@ impl<'a> Model for Record<'a> {
 impl<'a> Record<'a> {
     ghost use Rattle.std.specs.Prelude.{◌≡◌, ℕ, IfOk, IfErr, Ok, Err};
     ghost use Rattle.ds_codec.specs.declared.refused.Why.{Why};
-    ghost use Rattle.ds_codec.specs.Record.{Message, SpellsRecord, IsRefusedAt, AreOrders};
+    ghost use Rattle.ds_codec.specs.Record.{Message, SpellsRecord, IsRefusedAt, HaveSpelling, AreLaidOut};
     ghost use Rattle.ds_codec.specs.Reading.{read_of};
 
-    /// Reads a record: the one command and orders that its bytes spell, or its leftmost fault. Within
-    /// an order a missing byte comes before a bad one.
+    /// Reads a record: the one command and orders that its bytes spell, each text and each list of pairs
+    /// where it stands among them, or the leftmost fault. Within an order a missing byte comes before a
+    /// bad one.
     pub fn read(mode: Mode, bytes: &'a [u8]) -> Result<Record<'a>, Refused>
         ensures spelled { IfOk result (λ message. SpellsRecord mode message bytes.now) }
         ensures only { (message : Message) → SpellsRecord mode message bytes.now
@@ -44,6 +45,7 @@ impl<'a> Record<'a> {
         ensures refused_only { (at : ℕ) (why : Why) → IsRefusedAt mode bytes.now at why
             → result ≡ Err (record { at = at; why = why }) }
         ensures exact { result ≡ read_of mode bytes.now }
+        ensures laid { IfOk result (λ message. AreLaidOut bytes.now message.orders) }
     {
         read_all(mode, bytes)
     }
@@ -58,7 +60,7 @@ impl<'a> Record<'a> {
     /// The orders with their places, from first to last. Takes no memory.
     pub fn orders(&self) -> Orders<'a>
         ensures all { result ≡ self.now.orders }
-        ensures spelled { AreOrders self.now.orders }
+        ensures spelled { HaveSpelling self.now.orders }
     {
         Orders {
             mode: self.mode,

@@ -1,25 +1,21 @@
 -- What is written is read again.
-use Rattle.std.proofs.Common.{◌≡◌, ℕ, ◌/◌, ◌%◌, ◌<◌, ◌≤◌, Bool, true, false, cond, not, leb, ◌&&◌, List, [], ◌∷◌, ◌++◌, length, Option, Some, None, Result, Ok, Err, refl, sym, ap, subst, ◌∙◌, arith, append_assoc, inl, inr}
-use Rattle.std.specs.Prelude.{IfOk, OnOk}
-use Rattle.std.specs.Global.{Vec}
+use Rattle.std.proofs.Common.{◌≡◌, ℕ, ◌/◌, ◌%◌, ◌<◌, ◌≤◌, Bool, true, false, cond, not, leb, ◌&&◌, List, [], ◌∷◌, ◌++◌, length, Option, Some, None, refl, sym, ap, subst, ◌∙◌, arith, append_assoc, inl, inr}
 use Rattle.std.specs.List.{list_all}
 use Rattle.std.proofs.lemmas.Bool.{leb-true, ltb-true, cond-true, cond-false}
 use Rattle.std.proofs.lemmas.List.Concat.{flat_map-cons}
 use Rattle.ds_codec.specs.declared.size.Mode.{Mode}
 use Rattle.ds_codec.specs.declared.size.Mode.TheVariants.{Bits14}
 use Rattle.ds_codec.specs.Address.{SpellsAddress, written_address, six_bit_code}
-use Rattle.ds_codec.specs.Aid.{is_aid, is_short_aid}
+use Rattle.ds_codec.specs.Aid.{is_short_aid}
 use Rattle.ds_codec.specs.Geometry.{limit_of, cells_of}
 use Rattle.ds_codec.proofs.Below.{both_true}
 use Rattle.ds_codec.proofs.Codes.{six_bit_spells}
 use Rattle.ds_screen.specs.Picture.{Picture, IsSound}
 use Rattle.ds_screen.specs.Fields.{attributes_from}
 use Rattle.ds_inbound.specs.Answer.{Sent, Answer, lead_sent, fields_sent, short_answer, long_answer, answer_of, written_characters, written_field, written_fields, written_after, written_answer, bytes_sent}
-use Rattle.ds_inbound.specs.Inbound.{is_sendable, IsAddressThen, IsFieldThen, AreFieldsThen, SpellsAfter, SpellsInbound, SaysOnly}
-use Rattle.ds_inbound.specs.Reading.{read_of}
+use Rattle.ds_inbound.specs.Inbound.{is_sendable, IsAddressThen, IsFieldThen, AreFieldsThen, SpellsAfter, SpellsInbound}
 use Rattle.ds_inbound.specs.Sending.{is_field_sendable, HasGoodCursor, IsSendable}
 use Rattle.ds_inbound.proofs.Glyphs.{then_written}
-use Rattle.ds_inbound.proofs.Answers.{read_again, says_only}
 
 -- ---- what can be sent is spelled as it is written
 
@@ -100,17 +96,17 @@ sound_cursor v sound = omega (arith, sound.whole, sound.cursor_inside)
 and_left : (a b : Bool) → (a && b) ≡ true → a ≡ true
 and_left a b e = (both_true a b e).0
 
-pub short_sendable : (v : Picture) (all : Bool) → IsSound v → is_aid v.aid ≡ true → (is_short_aid v.aid && not all) ≡ true
+pub short_sendable : (v : Picture) (all : Bool) → IsSound v → (is_short_aid v.aid && not all) ≡ true
     → IsSendable v.geometry.mode (length v.cells) (answer_of v all)
-short_sendable v all sound known alone =
-    rw (answer_short v all alone) (record { few = sound_few v sound; aid = known; cursor = (and_left (is_short_aid v.aid) (not all) alone, refl, refl); lead = refl; fields = refl })
+short_sendable v all sound alone =
+    rw (answer_short v all alone) (record { few = sound_few v sound; aid = sound.attention; cursor = (and_left (is_short_aid v.aid) (not all) alone, refl, refl); lead = refl; fields = refl })
 
-pub long_sendable : (v : Picture) (all : Bool) → IsSound v → is_aid v.aid ≡ true → (is_short_aid v.aid && not all) ≡ false
+pub long_sendable : (v : Picture) (all : Bool) → IsSound v → (is_short_aid v.aid && not all) ≡ false
     → list_all is_sendable (lead_sent v.cells (attributes_from v.cells 0)) ≡ true
     → list_all (is_field_sendable (length v.cells)) (fields_sent v.cells (attributes_from v.cells 0)) ≡ true
     → IsSendable v.geometry.mode (length v.cells) (answer_of v all)
-long_sendable v all sound known long lead fields =
-    rw (answer_long v all long) (record { few = sound_few v sound; aid = known; cursor = sound_cursor v sound; lead = lead; fields = fields })
+long_sendable v all sound long lead fields =
+    rw (answer_long v all long) (record { few = sound_few v sound; aid = sound.attention; cursor = sound_cursor v sound; lead = lead; fields = fields })
 
 pub short_bytes : (v : Picture) (all : Bool) (empty out : List ℕ) → (is_short_aid v.aid && not all) ≡ true → empty ≡ [] → out ≡ empty ++ v.aid ∷ [] → out ≡ bytes_sent v all
 short_bytes v all empty out alone none next = rw (next, none, answer_short v all alone) refl
@@ -126,19 +122,3 @@ long_bytes v all empty one addressed led out long none first second third last =
     let start : one ≡ v.aid ∷ [] = first ∙ ap (λ b. b ++ v.aid ∷ []) none in
     last ∙ ap (λ b. b ++ f) (third ∙ ap (λ b. b ++ l) (second ∙ ap (λ b. b ++ a) start)) ∙ append_assoc (v.aid ∷ a) l f
     ∙ ap (λ b. v.aid ∷ b) (refl) ∙ sym (ap (written_answer v.geometry.mode (length v.cells)) (answer_long v all long))
-
--- ---- the contract of writing
-
-pub reads_again : {E : Type 0} (v : Picture) (all : Bool) (r : Result (Vec ℕ) E) → IfOk r (λ bytes. bytes.items ≡ bytes_sent v all)
-    → OnOk r (IsSendable v.geometry.mode (length v.cells) (answer_of v all))
-    → IfOk r (λ bytes. read_of v.geometry.mode (length v.cells) bytes.items ≡ Ok (answer_of v all))
-reads_again v all (Ok bytes) is good =
-    rw is (read_again v.geometry.mode (length v.cells) (bytes_sent v all) (answer_of v all) (sendable_spelled v.geometry.mode (length v.cells) (answer_of v all) good))
-reads_again v all (Err e) is good = tt
-
-pub says_again : {E : Type 0} (v : Picture) (all : Bool) (r : Result (Vec ℕ) E) → IfOk r (λ bytes. bytes.items ≡ bytes_sent v all)
-    → OnOk r (IsSendable v.geometry.mode (length v.cells) (answer_of v all))
-    → IfOk r (λ bytes. SaysOnly v.geometry.mode (length v.cells) (answer_of v all) bytes.items)
-says_again v all (Ok bytes) is good =
-    rw is (says_only v.geometry.mode (length v.cells) (bytes_sent v all) (answer_of v all) (sendable_spelled v.geometry.mode (length v.cells) (answer_of v all) good))
-says_again v all (Err e) is good = tt

@@ -1,5 +1,7 @@
 -- A picture whose characters exist can send its answer.
-use Rattle.std.proofs.Common.{◌≡◌, ℕ, zero, suc, ◌+◌, ◌-◌, ◌<◌, ◌≤◌, Bool, true, false, cond, not, ◌&&◌, List, [], ◌∷◌, length, map, refl, arith, inl, inr}
+use Rattle.std.proofs.Common.{◌≡◌, ℕ, zero, suc, ◌+◌, ◌-◌, ◌<◌, ◌≤◌, Bool, true, false, cond, not, ◌&&◌, List, [], ◌∷◌, length, map, Result, Ok, Err, refl, arith, inl, inr}
+use Rattle.std.specs.Prelude.{IfOk}
+use Rattle.std.specs.Global.{Vec}
 use Rattle.std.specs.List.{range_with_len, filter, list_all}
 use Rattle.std.proofs.lemmas.Bool.{lt-ltb, cases_Bool}
 use Rattle.ds_codec.specs.declared.cell.Cell.{Cell}
@@ -7,12 +9,13 @@ use Rattle.ds_codec.specs.declared.cell.Cell.TheVariants.{Field, Char}
 use Rattle.ds_codec.specs.Character.{Glyph, is_glyph, is_text}
 use Rattle.ds_codec.proofs.Below.{both_true}
 use Rattle.ds_screen.specs.Ring.{ring_on}
-use Rattle.ds_screen.specs.Picture.{Picture, cell_at, blank, IsSound}
+use Rattle.ds_screen.specs.Picture.{Picture, cell_at, blank, is_real, IsSound}
 use Rattle.ds_screen.specs.Fields.{is_attribute, span_of, attributes_from}
 use Rattle.ds_screen.proofs.RingLaws.{on_lt}
-use Rattle.ds_inbound.specs.Answer.{is_null, character_of, characters_at, is_modified_at, field_sent, fields_sent, lead_sent, answer_of, bytes_sent, is_real, IsReal}
+use Rattle.ds_inbound.specs.Answer.{is_null, character_of, characters_at, is_modified_at, field_sent, fields_sent, lead_sent, answer_of, bytes_sent}
 use Rattle.ds_codec.specs.Aid.{is_short_aid}
-use Rattle.ds_inbound.specs.Inbound.{is_sendable}
+use Rattle.ds_inbound.specs.Inbound.{is_sendable, SaysOnly}
+use Rattle.ds_inbound.specs.Reading.{read_of}
 use Rattle.ds_inbound.specs.Sending.{is_field_sendable, IsSendable}
 use Rattle.ds_inbound.specs.Laws.{AnswersSayThemselves, AnswersAreReadAgain}
 use Rattle.ds_inbound.proofs.Answers.{read_again, says_only}
@@ -91,17 +94,29 @@ fields_sendable cells (q ∷ places) all below =
 
 -- ---- pictures
 
-pub picture_sendable : (v : Picture) (all : Bool) → IsSound v → IsReal v → IsSendable v.geometry.mode (length v.cells) (answer_of v all)
-picture_sendable v all sound real =
+pub picture_sendable : (v : Picture) (all : Bool) → IsSound v → IsSendable v.geometry.mode (length v.cells) (answer_of v all)
+picture_sendable v all sound =
     elim (cases_Bool (is_short_aid v.aid && not all)) [
-      | inl alone ↦ short_sendable v all sound real.aid alone
-      | inr long ↦ long_sendable v all sound real.aid long (lead_sendable v.cells (attributes_from v.cells 0) real.characters) (fields_sendable v.cells (attributes_from v.cells 0) real.characters (attributes_below v.cells))
+      | inl alone ↦ short_sendable v all sound alone
+      | inr long ↦ long_sendable v all sound long (lead_sendable v.cells (attributes_from v.cells 0) sound.characters) (fields_sendable v.cells (attributes_from v.cells 0) sound.characters (attributes_below v.cells))
     ]
 
 pub answers_say : AnswersSayThemselves
-answers_say v all sound real =
-    says_only v.geometry.mode (length v.cells) (bytes_sent v all) (answer_of v all) (sendable_spelled v.geometry.mode (length v.cells) (answer_of v all) (picture_sendable v all sound real))
+answers_say v all sound =
+    says_only v.geometry.mode (length v.cells) (bytes_sent v all) (answer_of v all) (sendable_spelled v.geometry.mode (length v.cells) (answer_of v all) (picture_sendable v all sound))
 
 pub answers_read : AnswersAreReadAgain
-answers_read v all sound real =
-    read_again v.geometry.mode (length v.cells) (bytes_sent v all) (answer_of v all) (sendable_spelled v.geometry.mode (length v.cells) (answer_of v all) (picture_sendable v all sound real))
+answers_read v all sound =
+    read_again v.geometry.mode (length v.cells) (bytes_sent v all) (answer_of v all) (sendable_spelled v.geometry.mode (length v.cells) (answer_of v all) (picture_sendable v all sound))
+
+-- ---- the contract of writing
+
+pub reads_again : {E : Type 0} (v : Picture) (all : Bool) (r : Result (Vec ℕ) E) → IfOk r (λ bytes. bytes.items ≡ bytes_sent v all) → IsSound v
+    → IfOk r (λ bytes. read_of v.geometry.mode (length v.cells) bytes.items ≡ Ok (answer_of v all))
+reads_again v all (Ok bytes) is sound = rw is (answers_read v all sound)
+reads_again v all (Err e) is sound = tt
+
+pub says_again : {E : Type 0} (v : Picture) (all : Bool) (r : Result (Vec ℕ) E) → IfOk r (λ bytes. bytes.items ≡ bytes_sent v all) → IsSound v
+    → IfOk r (λ bytes. SaysOnly v.geometry.mode (length v.cells) (answer_of v all) bytes.items)
+says_again v all (Ok bytes) is sound = rw is (answers_say v all sound)
+says_again v all (Err e) is sound = tt

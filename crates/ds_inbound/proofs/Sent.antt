@@ -1,11 +1,10 @@
 -- What is sent, cell after cell and field after field.
-use Rattle.std.proofs.Common.{◌≡◌, ℕ, zero, suc, ◌+◌, ◌-◌, ◌<◌, ◌≤◌, Bool, true, false, cond, not, List, [], ◌∷◌, ◌++◌, length, map, take, refl, sym, ap, ◌∙◌, arith, append_assoc}
-use Rattle.std.specs.List.{range_with_len, filter, flat_map, list_all}
-use Rattle.std.proofs.lemmas.Bool.{cond-true, cond-false, lt-ltb}
+use Rattle.std.proofs.Common.{◌≡◌, ℕ, zero, suc, ◌+◌, ◌-◌, ◌<◌, ◌≤◌, true, false, cond, not, List, [], ◌∷◌, ◌++◌, length, map, take, refl, sym, ap, ◌∙◌, arith, append_assoc}
+use Rattle.std.specs.List.{range_with_len, filter, flat_map}
+use Rattle.std.proofs.lemmas.Bool.{cond-true, cond-false}
 use Rattle.std.proofs.lemmas.List.{map-append, append-nil, take_more, take_all}
 use Rattle.std.proofs.lemmas.List.Concat.{flat_map-cons}
 use Rattle.std.proofs.lemmas.List.Elements.{filter-append}
-use Rattle.std.proofs.lemmas.List.Folds.{list_all-append}
 use Rattle.std.proofs.lemmas.List.FromFn.{map-range_with_len_more}
 use Rattle.std.proofs.lemmas.Grind.{flat_map-append}
 use Rattle.ds_codec.specs.declared.size.Mode.{Mode}
@@ -21,8 +20,7 @@ use Rattle.ds_screen.specs.Picture.{cell_at}
 use Rattle.ds_screen.specs.Fields.{is_attribute, span_of, field_at, attributes_from, fields_of}
 use Rattle.ds_screen.proofs.RingLaws.{on_lt}
 use Rattle.ds_inbound.specs.Answer.{Sent, is_null, character_of, characters_at, is_modified_at, field_sent, fields_sent, lead_sent, written_characters, written_field, written_fields, written_cell}
-use Rattle.ds_inbound.specs.Inbound.{is_sendable}
-use Rattle.ds_inbound.specs.Sending.{sent_in, places_on, has_places, is_field_sendable, IsFieldOf}
+use Rattle.ds_inbound.specs.Sending.{sent_in, places_on, has_places, IsFieldOf}
 use Rattle.ds_inbound.proofs.Spans.{span_is_run, span_short, whole_run}
 
 -- ---- cell after cell
@@ -54,18 +52,12 @@ run_bytes before so_far after characters more all said next whole =
     next ∙ ap (λ b. b ++ written_characters more) said ∙ append_assoc before (written_characters characters) (written_characters more)
     ∙ ap (λ b. before ++ b) (sym (ap written_characters whole ∙ flat_map-append written_character characters more))
 
-pub all_more : {A : Type 0} (test : A → Bool) (xs more all : List A) → list_all test xs ≡ true → list_all test more ≡ true → all ≡ xs ++ more → list_all test all ≡ true
-all_more test xs more all first later whole = ap (list_all test) whole ∙ list_all-append test xs more ∙ rw (first, later) refl
-
 no_places : (cells : List Cell) (n place : ℕ) → characters_at cells (places_on n place 0) ≡ []
 unfolding characters_at
 no_places cells n place = refl
 
 pub run_start : (cells : List Cell) (n place : ℕ) (bytes : List ℕ) → bytes ≡ bytes ++ written_characters (characters_at cells (places_on n place 0))
 run_start cells n place bytes = sym (ap (λ cs. bytes ++ written_characters cs) (no_places cells n place) ∙ append-nil bytes)
-
-pub run_sendable : (cells : List Cell) (n place : ℕ) → list_all is_sendable (characters_at cells (places_on n place 0)) ≡ true
-run_sendable cells n place = ap (list_all is_sendable) (no_places cells n place)
 
 -- ---- one field
 
@@ -102,11 +94,6 @@ field_bytes mode cells field before marked addressed after here mark address run
     let w : List ℕ = written_characters (characters_at cells (places_on (length cells) field.place field.length)) in
     run ∙ ap (λ b. b ++ w) (address ∙ ap (λ b. b ++ a) mark) ∙ append_assoc (before ++ 17 ∷ []) a w ∙ append_assoc before (17 ∷ []) (a ++ w)
     ∙ ap (λ f. before ++ written_field mode (length cells) f) (sym (field_run cells field here))
-
-pub field_sendable : (cells : List Cell) (field : FieldAt) → IsFieldOf cells field
-    → list_all is_sendable (characters_at cells (places_on (length cells) field.place field.length)) ≡ true → is_field_sendable (length cells) (field_sent cells field.at) ≡ true
-field_sendable cells field here good =
-    ap (is_field_sendable (length cells)) (field_run cells field here) ∙ rw (lt-ltb field.place (length cells) (field_place cells field here), good) refl
 
 -- ---- field after field
 
@@ -160,10 +147,6 @@ pub fields_bytes : (mode : Mode) (n : ℕ) (out after : List ℕ) (field : Sent)
 fields_bytes mode n out after field fields all next whole =
     ap (λ b. b ++ written_fields mode n fields) next ∙ append_assoc out (written_field mode n field) (written_fields mode n fields)
     ∙ ap (λ b. out ++ b) (sym (ap (written_fields mode n) whole ∙ flat_map-cons (written_field mode n) field fields))
-
-pub fields_good : (n : ℕ) (field : Sent) (fields all : List Sent) → is_field_sendable n field ≡ true → list_all (is_field_sendable n) fields ≡ true → all ≡ field ∷ fields
-    → list_all (is_field_sendable n) all ≡ true
-fields_good n field fields all here later whole = ap (list_all (is_field_sendable n)) whole ∙ rw (here, later) refl
 
 pub sent_none : (cells : List Cell) → sent_among cells [] ≡ []
 unfolding fields_sent

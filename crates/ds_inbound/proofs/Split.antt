@@ -14,7 +14,8 @@ use Rattle.ds_codec.specs.Aid.{is_short_aid}
 use Rattle.ds_inbound.specs.Inbound.{AreGlyphsThen, AreFieldsThen, IsTailThen}
 use Rattle.ds_codec.specs.Character.{is_text}
 use Rattle.ds_inbound.specs.Characters.{front_character, characters_in}
-use Rattle.ds_inbound.specs.Reading.{front, Tail, before, tail_from, fields_of_tail, fields_in, AreFields, refusal_in, long_body, answer_after}
+use Rattle.ds_codec.specs.Reading.{refusal_in}
+use Rattle.ds_inbound.specs.Reading.{front, Tail, before, tail_from, fields_of_tail, fields_in, AreFields, long_body, answer_after}
 use Rattle.ds_inbound.proofs.Glyphs.{characters_again, written_then, no_characters, sendable_then, characters_written}
 use Rattle.ds_inbound.proofs.Fronts.{front_some}
 use Rattle.ds_inbound.proofs.Walk.{then_tail, step, stop, WalkSays, walk, tail_again}

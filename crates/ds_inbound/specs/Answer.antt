@@ -1,14 +1,14 @@
 -- What a terminal sends: first what it says, then its bytes.
-use Rattle.std.specs.Prelude.{◌≡◌, ℕ, Bool, true, not, ◌&&◌, ◌==◌, List, [], ◌∷◌, ◌++◌, map, length, Option, Some, None, if◌then◌else◌}
-use Rattle.std.specs.List.{range_with_len, filter, flat_map, list_all}
+use Rattle.std.specs.Prelude.{ℕ, Bool, not, ◌&&◌, ◌==◌, List, [], ◌∷◌, ◌++◌, map, length, Option, Some, None, if◌then◌else◌}
+use Rattle.std.specs.List.{range_with_len, filter, flat_map}
 use Rattle.ds_codec.specs.declared.size.Mode.{Mode}
 use Rattle.ds_codec.specs.declared.cell.Cell.{Cell}
 use Rattle.ds_codec.specs.declared.cell.Cell.TheVariants.{Field, Char}
 use Rattle.ds_codec.specs.declared.order.OrderCode.TheVariants.{Sf, Sba}
 use Rattle.ds_codec.specs.Address.{six_bit_code, written_address}
-use Rattle.ds_codec.specs.Aid.{is_aid, is_short_aid}
+use Rattle.ds_codec.specs.Aid.{is_short_aid}
 use Rattle.ds_codec.specs.Attribute.{is_modified}
-use Rattle.ds_codec.specs.Character.{Glyph, null, is_glyph}
+use Rattle.ds_codec.specs.Character.{Glyph, null}
 use Rattle.ds_codec.specs.Order.{code_of}
 use Rattle.ds_codec.specs.Writing.{written_character}
 use Rattle.ds_screen.specs.Ring.{ring_on}
@@ -73,7 +73,8 @@ long_answer v =
       fields = fields_sent v.cells (attributes_from v.cells 0);
     }
 
--- what a picture answers to Read Modified; where all is set, to Read Modified All, which sends no short answer
+-- what a picture answers to Read Modified; where all is set, to Read Modified All, which sends no short answer. That
+-- no key, 60, is answered as Enter is, is our own rule.
 unfoldable pub answer_of : Picture → Bool → Answer
 answer_of v all = if is_short_aid v.aid && not all then short_answer v.aid else long_answer v
 
@@ -112,14 +113,3 @@ written_cell (Char character) = written_character character
 -- the attention identifier, the cursor and every cell
 unfoldable pub buffer_of : Picture → List ℕ
 buffer_of v = v.aid ∷ (written_address v.geometry.mode (length v.cells) v.cursor ++ flat_map written_cell v.cells)
-
--- ---- what the types of cells and of attention identifiers say of a picture
-
-abbrev pub is_real : Cell → Bool
-is_real (Field bits) = true
-is_real (Char character) = is_glyph character
-
--- each character exists, and the attention identifier is one
-pub record IsReal (v : Picture) : Type 0 where
-  pub characters : list_all is_real v.cells ≡ true
-  pub aid : is_aid v.aid ≡ true

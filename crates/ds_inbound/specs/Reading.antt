@@ -43,9 +43,9 @@ front mode cells (byte ∷ more) =
     if byte == code_of Sba then place_at mode cells more else as_item (front_character (byte ∷ more))
 
 -- what a fault of an item makes of an answer
-abbrev pub placed : {A : Type 0} → ℕ → Result A Why → Result A Refused
-placed at (Ok found) = Ok found
-placed at (Err why) = Err (record { at = at; why = why })
+abbrev pub fault_at : {A : Type 0} → ℕ → Result A Why → Result A Refused
+fault_at at (Ok found) = Ok found
+fault_at at (Err why) = Err (record { at = at; why = why })
 
 -- characters before the first field, and fields
 pub record Tail : Type 0 where
@@ -65,7 +65,7 @@ abbrev pub tail_from : Mode → ℕ → ℕ → ℕ → List ℕ → Result Tail
 tail_from mode cells skip at [] = Ok no_tail
 tail_from mode cells (suc skip) at (byte ∷ rest) = tail_from mode cells skip (at + 1) rest
 tail_from mode cells zero at (byte ∷ rest) = do
-  first ← placed at (front mode cells (byte ∷ rest))
+  first ← fault_at at (front mode cells (byte ∷ rest))
   others ← tail_from mode cells (first.1 - 1) (at + 1) rest
   Ok (before first.0 others)
 
@@ -81,10 +81,6 @@ fields_in mode cells bytes = fields_of_tail (tail_from mode cells 0 0 bytes)
 abbrev pub AreFields : Mode → ℕ → List ℕ → Type 0
 AreFields mode cells bytes = tail_from mode cells 0 0 bytes ≡ Ok (record { lead = []; fields = fields_in mode cells bytes })
 
-abbrev pub refusal_in : {A : Type 0} → Result A Refused → Option Refused
-refusal_in (Ok found) = None
-refusal_in (Err e) = Some e
-
 -- a field as it lies in memory, and the field that it says
 abbrev pub sent_of : FieldSlice → Sent
 sent_of slice = record { place = slice.place; characters = characters_in slice.raw.now }
@@ -99,7 +95,7 @@ long_body mode cells aid cursor body = do
 
 abbrev pub long_of : Mode → ℕ → ℕ → Result ℕ Why → List ℕ → Result Answer Refused
 long_of mode cells aid cursor body = do
-  position ← placed 1 cursor
+  position ← fault_at 1 cursor
   long_body mode cells aid position body
 
 -- what follows the attention identifier

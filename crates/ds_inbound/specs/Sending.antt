@@ -1,3 +1,4 @@
+-- For the code's own proofs: only functions within the crate cite this file, so no public contract rests on it.
 -- What the code that writes answers goes by: cell after cell, and field after field.
 use Rattle.std.specs.Prelude.{◌≡◌, ℕ, ◌<◌, ◌≤◌, Bool, true, false, ◌&&◌, nat_lt, List, [], ◌∷◌, map, length, Option, Some, None, if◌then◌else◌}
 use Rattle.std.specs.List.{range_with_len, list_all}

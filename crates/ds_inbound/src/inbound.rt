@@ -86,7 +86,8 @@ impl<'a> Inbound<'a> {
 
 ghost use Rattle.std.specs.Prelude.{◌≡◌};
 ghost use Rattle.ds_codec.specs.Address.{address_at};
-ghost use Rattle.ds_inbound.specs.Reading.{refusal_in, inside, tail_from, long_body, long_of, answer_after, read_of};
+ghost use Rattle.ds_codec.specs.Reading.{refusal_in};
+ghost use Rattle.ds_inbound.specs.Reading.{inside, tail_from, long_body, long_of, answer_after, read_of};
 
 /// Looks at every character and every field of what stands behind the cursor.
 fn check_tail(mode: Mode, cells: u32, body: &[u8]) -> Result<(), Refused>

@@ -1,18 +1,17 @@
 //! Answers written (GA23-0059, "Read operations").
 
-ghost use Rattle.std.specs.Prelude.{◌≡◌, ◌++◌, ◌∷◌, ◌<◌, ◌≤◌, true, not, ◌&&◌, length, Some, Ok, IfOk, OnOk};
-ghost use Rattle.std.specs.List.{list_all};
+ghost use Rattle.std.specs.Prelude.{◌≡◌, ◌++◌, ◌∷◌, ◌<◌, ◌≤◌, not, ◌&&◌, length, Some, Ok, IfOk, OnOk};
 ghost use Rattle.ds_codec.specs.Address.{six_bit_code, written_address};
 ghost use Rattle.ds_codec.specs.Attribute.{is_modified};
-ghost use Rattle.ds_codec.specs.Character.{is_glyph};
 ghost use Rattle.ds_codec.specs.Writing.{written_character};
 ghost use Rattle.ds_screen.specs.Ring.{ring_on};
+ghost use Rattle.ds_screen.specs.Picture.{IsSound};
 ghost use Rattle.ds_screen.specs.Fields.{attributes_from};
 ghost use Rattle.ds_inbound.specs.Answer.{is_null, characters_at, field_sent, fields_sent, lead_sent, answer_of, written_characters, written_field, written_fields, bytes_sent, written_cell, buffer_of};
 ghost use Rattle.ds_codec.specs.Aid.{is_short_aid};
-ghost use Rattle.ds_inbound.specs.Inbound.{is_sendable, SaysOnly};
+ghost use Rattle.ds_inbound.specs.Inbound.{SaysOnly};
 ghost use Rattle.ds_inbound.specs.Reading.{read_of};
-ghost use Rattle.ds_inbound.specs.Sending.{sent_in, places_on, has_places, is_field_sendable, IsFieldOf, IsSendable};
+ghost use Rattle.ds_inbound.specs.Sending.{sent_in, places_on, has_places, IsFieldOf};
 
 use ds_codec::{Aid, Cell, Char, OrderCode, encode_address, push_character, to_six_bit_code};
 use ds_screen::ring::next;
@@ -58,17 +57,15 @@ pub fn write_buffer<C: Cells>(alloc: Global, screen: &Screen<C>) -> Result<Vec<u
 
 /// Whether a character is the null.
 fn is_null(character: Char) -> bool
-    ensures value { result ≡ is_null character }
-    ensures real { is_glyph character ≡ true }
+    ensures { result ≡ is_null character }
 {
     !character.alt() && character.code() == 0
 }
 
 /// What is sent of a cell: its character, nothing of a null or an attribute.
 fn push_sent(out: &mut Vec<u8>, cell: Cell) -> Result<(), AllocError>
-    ensures written { OnOk result
+    ensures { OnOk result
         (out.new.items ≡ out.old.items ++ written_characters (sent_in cell)) }
-    ensures sendable { list_all is_sendable (sent_in cell) ≡ true }
 {
     match cell {
         Cell::Field(_) => Ok(()),
@@ -91,11 +88,8 @@ fn push_run<C: Cells>(
 ) -> Result<(), AllocError>
     requires inside { place < length screen.now.cells }
     requires few { count ≤ length screen.now.cells }
-    ensures written { OnOk result (out.new.items ≡ out.old.items
+    ensures { OnOk result (out.new.items ≡ out.old.items
         ++ written_characters (characters_at screen.now.cells (places_on (length screen.now.cells) place count))) }
-    ensures sendable { OnOk result
-        (list_all is_sendable
-        (characters_at screen.now.cells (places_on (length screen.now.cells) place count)) ≡ true) }
 {
     let n = screen.size().cells();
     let mut p = place;
@@ -128,11 +122,8 @@ fn push_field<C: Cells>(
     field: &FieldAt,
 ) -> Result<(), AllocError>
     requires { IsFieldOf screen.now.cells field.now }
-    ensures written { OnOk result (out.new.items ≡ out.old.items
+    ensures { OnOk result (out.new.items ≡ out.old.items
         ++ written_field screen.now.geometry.mode (length screen.now.cells) (field_sent screen.now.cells field.now.at)) }
-    ensures sendable { OnOk result
-        (is_field_sendable (length screen.now.cells) (field_sent screen.now.cells field.now.at)
-        ≡ true) }
 {
     out.push(OrderCode::Sba.byte())?;
     push_address(out, screen, field.place)?;
@@ -142,11 +133,8 @@ fn push_field<C: Cells>(
 
 /// The modified fields.
 fn push_fields<C: Cells>(out: &mut Vec<u8>, screen: &Screen<C>) -> Result<(), AllocError>
-    ensures written { OnOk result (out.new.items ≡ out.old.items
+    ensures { OnOk result (out.new.items ≡ out.old.items
         ++ written_fields screen.now.geometry.mode (length screen.now.cells) (fields_sent screen.now.cells (attributes_from screen.now.cells 0))) }
-    ensures sendable { OnOk result
-        (list_all (is_field_sendable (length screen.now.cells))
-        (fields_sent screen.now.cells (attributes_from screen.now.cells 0)) ≡ true) }
 {
     'fields: for field in screen.fields() {
         if field.attr.modified() {
@@ -169,12 +157,9 @@ fn is_formatted<C: Cells>(screen: &Screen<C>) -> bool
 
 /// The characters of an unformatted screen.
 fn push_lead<C: Cells>(out: &mut Vec<u8>, screen: &Screen<C>) -> Result<(), AllocError>
-    ensures written { OnOk result
+    ensures { OnOk result
         (out.new.items ≡ out.old.items ++ written_characters
         (lead_sent screen.now.cells (attributes_from screen.now.cells 0))) }
-    ensures sendable { OnOk result
-        (list_all is_sendable (lead_sent screen.now.cells (attributes_from screen.now.cells 0))
-        ≡ true) }
 {
     if !is_formatted(screen) {
         push_run(out, screen, 0, screen.size().cells())?;
@@ -195,8 +180,7 @@ fn write_answer<C: Cells>(
     all: bool,
 ) -> Result<Vec<u8>, AllocError>
     ensures written { IfOk result (λ bytes. bytes.items ≡ bytes_sent screen.now all) }
-    ensures sendable { OnOk result
-        (IsSendable screen.now.geometry.mode (length screen.now.cells) (answer_of screen.now all)) }
+    ensures sound { IsSound screen.now }
 {
     let n = screen.size().cells();
     let aid = screen.aid();

@@ -18,7 +18,7 @@ use Rattle.ds_screen.proofs.FieldLaws.{before_found, before_none, before_back}
 use Rattle.ds_keys.specs.declared.key.Key.{Key}
 use Rattle.ds_keys.specs.declared.key.Key.TheVariants.{Typed, Left, Right, Up, Down, Tab, BackTab, NewLine, Home, EraseEof, EraseInput, Delete, Reset, Attention}
 use Rattle.ds_keys.specs.Moves.{row_end}
-use Rattle.ds_keys.specs.KeyStep.{Step, sent, marked_cell, typed_cell, is_in_rest, end_erased_cell, run_end, deleted_cell, typed_step, erase_eof_step, delete_step, erase_input_step, attention_step, free_step, error_step, step_under, step_of}
+use Rattle.ds_keys.specs.KeyStep.{Step, is_sending, sent, marked_cell, typed_cell, is_in_rest, end_erased_cell, run_end, deleted_cell, typed_step, erase_eof_step, delete_step, erase_input_step, attention_step, free_step, error_step, step_under, step_of}
 use Rattle.ds_keys.specs.KeyRuns.{after_key, answer_of, after, is_sent, is_quiet}
 use Rattle.ds_keys.specs.Kept.{moved_back, AreCharacters}
 use Rattle.ds_keys.specs.Laws.{Keeps, is_clear, KeyKeeps, QuietKeysKeep}
@@ -178,18 +178,18 @@ input_keeps v = rule_keeps v.cells (cleared_cell v.cells) (λ p lt. cleared_each
 attention_keeps : (v : Picture) (aid : ℕ) → (aid == 0x6D) ≡ false → KeepsStep v (attention_step v aid)
 unfolding attention_step
 attention_keeps v aid other =
-    cond_both (eqb aid 0x60) _ _ (KeepsStep v)
+    cond_both (not (is_sending aid)) _ _ (KeepsStep v)
     (λ none. keeps_same v.cells)
     (λ key. subst (KeepsStep v) (sym (cond-false (eqb aid 0x6D) (sent (erased v.geometry.default v) aid) (sent v aid) other)) (keeps_same v.cells))
 
 attention_quiet : (v : Picture) (aid : ℕ) → is_sent (attention_step v aid).pressed ≡ false → KeepsStep v (attention_step v aid)
 unfolding attention_step
 attention_quiet v aid quiet =
-    elim (cases_Bool (eqb aid 0x60)) [
-      | inl none ↦ subst (KeepsStep v) (sym (cond-true (eqb aid 0x60) _ _ none)) (keeps_same v.cells)
+    elim (cases_Bool (not (is_sending aid))) [
+      | inl none ↦ subst (KeepsStep v) (sym (cond-true (not (is_sending aid)) _ _ none)) (keeps_same v.cells)
       | inr key ↦ elim (cases_Bool (eqb aid 0x6D)) [
         | inl clear ↦
-            let is : attention_step v aid ≡ sent (erased v.geometry.default v) aid = cond-false (eqb aid 0x60) _ _ key ∙ cond-true (eqb aid 0x6D) _ _ clear in
+            let is : attention_step v aid ≡ sent (erased v.geometry.default v) aid = cond-false (not (is_sending aid)) _ _ key ∙ cond-true (eqb aid 0x6D) _ _ clear in
             absurd (false≢true (sym quiet ∙ ap (λ (s : Step). is_sent s.pressed) is))
         | inr other ↦ attention_keeps v aid other
       ]

@@ -1,5 +1,6 @@
 -- Worked rows, computed: the definitions say what the rules of the keys say.
 use Rattle.std.proofs.Common.{◌≡◌, ℕ, List, [], ◌∷◌, ◌++◌, false, replicate, refl}
+use Rattle.ds_codec.specs.Aid.{is_long_aid, is_short_aid}
 use Rattle.ds_codec.specs.declared.cell.Cell.{Cell}
 use Rattle.ds_codec.specs.declared.cell.Cell.TheVariants.{Field, Char}
 use Rattle.ds_codec.specs.declared.size.Mode.TheVariants.{Bits14}
@@ -75,7 +76,7 @@ wrapped_erase = refl
 
 -- Clear sends, and leaves nulls
 cleared : step_of form (Attention 0x6D) ≡ record { after = record (screen 2 10 (replicate 20 blank) 0) { lock = Waiting; aid = 0x6D }; pressed = Sent 0x6D }
-unfolding step_of free_step attention_step
+unfolding step_of free_step attention_step is_long_aid is_short_aid
 cleared = refl
 
 -- three characters in a buffer without attributes

@@ -14,7 +14,7 @@ use Rattle.ds_screen.specs.Records.{unprotected_unmodified, erased, cleared_cell
 use Rattle.ds_screen.proofs.RuledLaws.{cell_at-ruled}
 use Rattle.ds_keys.specs.declared.key.Key.{Key}
 use Rattle.ds_keys.specs.declared.key.Key.TheVariants.{Typed, Left, Right, Up, Down, Tab, BackTab, NewLine, Home, EraseEof, EraseInput, Delete, Reset, Attention}
-use Rattle.ds_keys.specs.KeyStep.{Step, ignored, inhibited, sent, modified, marked_cell, typed_cell, is_in_rest, end_erased_cell, run_end, deleted_cell, typed_step, erase_eof_step, delete_step, erase_input_step, attention_step, free_step, error_step, step_under, step_of}
+use Rattle.ds_keys.specs.KeyStep.{Step, is_sending, ignored, inhibited, sent, modified, marked_cell, typed_cell, is_in_rest, end_erased_cell, run_end, deleted_cell, typed_step, erase_eof_step, delete_step, erase_input_step, attention_step, free_step, error_step, step_under, step_of}
 use Rattle.ds_keys.specs.KeyRuns.{after_key, answer_of, after, is_accepted, is_sent, is_quiet}
 use Rattle.ds_keys.specs.Touched.{is_edit, is_erase_input, edits, clears, clears_nothing, WasModified, IsTouched}
 use Rattle.ds_keys.specs.Laws.{Keeps, ModifiedIsTouched}
@@ -165,14 +165,14 @@ input_marks v q there =
 attention_marks : (v : Picture) (aid q : ℕ) → is_sent (attention_step v aid).pressed ≡ false → Marks v (Attention aid) q (attention_step v aid)
 unfolding attention_step
 attention_marks v aid q quiet =
-    elim (cases_Bool (eqb aid 0x60)) [
-      | inl none ↦ subst (Marks v (Attention aid) q) (sym (cond-true (eqb aid 0x60) _ _ none)) (marks_nothing v (Attention aid) q (ignored v) refl refl refl)
+    elim (cases_Bool (not (is_sending aid))) [
+      | inl none ↦ subst (Marks v (Attention aid) q) (sym (cond-true (not (is_sending aid)) _ _ none)) (marks_nothing v (Attention aid) q (ignored v) refl refl refl)
       | inr key ↦ elim (cases_Bool (eqb aid 0x6D)) [
         | inl clear ↦
-            let is : attention_step v aid ≡ sent (erased v.geometry.default v) aid = cond-false (eqb aid 0x60) _ _ key ∙ cond-true (eqb aid 0x6D) _ _ clear in
+            let is : attention_step v aid ≡ sent (erased v.geometry.default v) aid = cond-false (not (is_sending aid)) _ _ key ∙ cond-true (eqb aid 0x6D) _ _ clear in
             absurd (false≢true (sym quiet ∙ ap (λ (s : Step). is_sent s.pressed) is))
         | inr other ↦
-            let is : attention_step v aid ≡ sent v aid = cond-false (eqb aid 0x60) _ _ key ∙ cond-false (eqb aid 0x6D) _ _ other in
+            let is : attention_step v aid ≡ sent v aid = cond-false (not (is_sending aid)) _ _ key ∙ cond-false (eqb aid 0x6D) _ _ other in
             absurd (false≢true (sym quiet ∙ ap (λ (s : Step). is_sent s.pressed) is))
       ]
     ]

@@ -1,3 +1,4 @@
+-- For the code's own proofs: only functions within the crate cite this file, so no public contract rests on it.
 -- What the loops of the keys leave as they go on.
 use Rattle.std.specs.Prelude.{◌≡◌, ℕ, ◌+◌, ◌-◌, ◌<◌, ◌≤◌, false, ◌==◌, nat_lt, List, length, Option, Some, None, if◌then◌else◌}
 use Rattle.ds_codec.specs.declared.cell.Cell.{Cell}

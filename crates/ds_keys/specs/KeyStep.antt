@@ -1,7 +1,8 @@
 -- What each key does: every cell, the cursor, the lock, the attention identifier, and the answer.
-use Rattle.std.specs.Prelude.{◌≡◌, ℕ, ◌+◌, ◌-◌, Bool, true, false, ◌&&◌, ◌==◌, nat_lt, nat_le, List, length, Option, Some, None, unwrap_or, if◌then◌else◌}
+use Rattle.std.specs.Prelude.{◌≡◌, ℕ, ◌+◌, ◌-◌, Bool, true, false, not, ◌&&◌, ◌||◌, ◌==◌, nat_lt, nat_le, List, length, Option, Some, None, unwrap_or, if◌then◌else◌}
 use Rattle.ds_codec.specs.declared.cell.Cell.{Cell}
 use Rattle.ds_codec.specs.declared.cell.Cell.TheVariants.{Field, Char}
+use Rattle.ds_codec.specs.Aid.{is_long_aid, is_short_aid}
 use Rattle.ds_codec.specs.Attribute.{with_modified}
 use Rattle.ds_codec.specs.Character.{glyph, is_graphic}
 use Rattle.ds_screen.specs.declared.lock.Lock.{Lock}
@@ -39,7 +40,8 @@ is_in_rest cells c (Some q) p = governs cells q p && nat_le (ring_distance (leng
 unfoldable pub end_erased_cell : List Cell → ℕ → ℕ → Cell
 end_erased_cell cells c p = if is_in_rest cells c (attribute_before cells c) p then blank else marked_cell cells c p
 
--- the run that Delete moves ends before the first attribute behind the cursor in its row, else with the row
+-- the run that Delete moves ends before the first attribute behind the cursor in its row, else with the row; that it
+-- ends there, so that the field's other rows stay, is our own rule
 unfoldable pub run_end : List Cell → ℕ → ℕ → ℕ
 run_end cells cols c = c + unwrap_or (least (row_end cols c - c) (λ d. is_attribute (cell_at cells (c + d)))) (row_end cols c - c)
 
@@ -74,7 +76,7 @@ edited v rule cursor = step (record v { cells = ruled (length v.cells) rule; cur
 abbrev pub if_open : Picture → Step → Step
 if_open v change = if is_open v.cells v.cursor then change else inhibited v
 
--- codes other than 40 to FE are not typed
+-- codes other than 40 to FE are not typed, which is our own rule
 unfoldable pub typed_step : Picture → ℕ → Step
 typed_step v code =
     if is_graphic code
@@ -87,16 +89,23 @@ erase_eof_step v = if_open v (edited v (end_erased_cell v.cells v.cursor) v.curs
 unfoldable pub delete_step : Picture → Step
 delete_step v = if_open v (edited v (deleted_cell v.cells (run_end v.cells v.size.cols v.cursor) v.cursor) v.cursor)
 
+-- that the cursor goes to the least open position, and not to the first of a field, is our own rule where a field runs
+-- round the end; so it is of Home
 abbrev pub erase_input_step : Picture → Step
 erase_input_step v = step (cleared v) Done
 
 abbrev pub sent : Picture → ℕ → Step
 sent v aid = step (record v { lock = Waiting; aid = aid }) (Sent aid)
 
--- 60 stands for no key; Clear, 6D, erases first
+-- the attention identifiers of Enter, PF1 to PF24, PA1 to PA3 and Clear; that 60, which stands for no key, is ignored is
+-- our own rule
+abbrev pub is_sending : ℕ → Bool
+is_sending aid = is_long_aid aid || is_short_aid aid
+
+-- a key that sends; Clear, 6D, erases first
 unfoldable pub attention_step : Picture → ℕ → Step
 attention_step v aid =
-    if aid == 0x60 then ignored v else (if aid == 0x6D then sent (erased v.geometry.default v) aid else sent v aid)
+    if not (is_sending aid) then ignored v else (if aid == 0x6D then sent (erased v.geometry.default v) aid else sent v aid)
 
 -- a key on a free keyboard
 unfoldable pub free_step : Picture → Key → Step
@@ -115,7 +124,8 @@ free_step v Delete = delete_step v
 free_step v Reset = step v Done
 free_step v (Attention aid) = attention_step v aid
 
--- after an error Reset alone acts
+-- After an error Reset alone acts, and a keyboard that waits ignores every key. These rules of the lock, and that a key
+-- that cannot act where the cursor stands sets the error, are our own.
 abbrev pub error_step : Picture → Key → Step
 error_step v Reset = step (record v { lock = Free }) Done
 error_step v key = ignored v

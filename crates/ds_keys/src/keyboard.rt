@@ -58,7 +58,7 @@ fn erase_input<C: Cells>(screen: &mut Screen<C>) -> Pressed
 fn attend<C: Cells>(screen: &mut Screen<C>, aid: Aid) -> Pressed
     ensures { step screen.new result ≡ attention_step screen.old aid }
 {
-    if aid == Aid::none() {
+    if !(aid.is_long() || aid.is_short()) {
         return Pressed::Ignored;
     }
     if aid == Aid::clear() {

@@ -24,7 +24,8 @@ pub fn touched_law()
     ensures { ModifiedIsTouched }
 {}
 
-/// Keys leave a sound picture sound: its length is its size's, and the cursor is inside.
+/// Keys leave a sound picture sound: its length is its size's, the cursor is inside, its characters exist, and
+/// so does its attention identifier.
 pub fn sound_law()
     ensures { KeysStaySound }
 {}

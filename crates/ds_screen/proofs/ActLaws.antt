@@ -2,7 +2,7 @@
 use Rattle.std.proofs.Common.{◌≡◌, ℕ, ◌+◌, List, [], ◌∷◌, length, Some, Ok, Err, refl, sym, ◌∙◌, ap}
 use Rattle.ds_codec.specs.declared.size.Mode.{Mode}
 use Rattle.ds_codec.specs.Order.{Item, Site, text, start_field, start_field_extended, set_buffer_address, set_attribute, modify_field, insert_cursor, program_tab, repeat_to_address, erase_unprotected_to_address, graphic_escape, SpellsOrder}
-use Rattle.ds_codec.specs.Record.{AreSpelled, AreOrders}
+use Rattle.ds_codec.specs.Record.{AreSpelled, HaveSpelling}
 use Rattle.ds_screen.specs.declared.refused.Why.{Why}
 use Rattle.ds_screen.specs.Orders.{Writing, effect_of, fault_of, OrderActs}
 use Rattle.ds_screen.specs.Records.{acts, unless}
@@ -18,16 +18,16 @@ has_characters mode (set_attribute kind value) part spelled = tt
 has_characters mode (modify_field pairs) part spelled = tt
 has_characters mode insert_cursor part spelled = tt
 has_characters mode program_tab part spelled = tt
-has_characters mode (repeat_to_address stop character) part spelled = tt
+has_characters mode (repeat_to_address stop character) part (first, second, rest, is, address, told) = told.0
 has_characters mode (erase_unprotected_to_address stop) part spelled = tt
 
-spelled_characters : (mode : Mode) (at : ℕ) (sites : List Site) (bytes : List ℕ) → AreSpelled mode at sites bytes → HaveCharacters sites
+pub spelled_characters : (mode : Mode) (at : ℕ) (sites : List Site) (bytes : List ℕ) → AreSpelled mode at sites bytes → HaveCharacters sites
 spelled_characters mode at [] bytes spelled = tt
 spelled_characters mode at (site ∷ sites) bytes (part, rest, joined, there, order, follows, others) =
     (has_characters mode site.order part order, spelled_characters mode (at + length part) sites rest others)
 
-pub orders_characters : (sites : List Site) → AreOrders sites → HaveCharacters sites
-orders_characters sites (mode, at, bytes, spelled) = spelled_characters mode at sites bytes spelled
+pub orders_characters : (sites : List Site) → HaveSpelling sites → HaveCharacters sites
+orders_characters sites (mode, bytes, spelled) = spelled_characters mode 2 sites bytes spelled
 
 -- an order that acts leaves the rest to do
 pub acts_on : (site : Site) (sites : List Site) (before after : Writing) → OrderActs site.order before after → acts (site ∷ sites) before ≡ acts sites after

@@ -45,7 +45,7 @@ effect_length (graphic_escape code) w = length-ruled (length w.cells) _
 inside_good : (n address : ℕ) → address < n → outside_of n address ≡ None
 inside_good n address lt = cond-true (ltb address n) _ _ (lt-ltb address n lt)
 
-good_inside : (n address : ℕ) → outside_of n address ≡ None → address < n
+pub good_inside : (n address : ℕ) → outside_of n address ≡ None → address < n
 good_inside n address good =
     elim (cases_Bool (ltb address n)) [
       | inl lt ↦ ltb-true address n lt
@@ -74,19 +74,19 @@ no_fault (repeat_to_address stop character) w inside stands = inside_good (lengt
 no_fault (erase_unprotected_to_address stop) w inside stands = inside_good (length w.cells) stop inside
 no_fault (graphic_escape code) w inside stands = refl
 
-is_good : (order : Item) (w : Writing) → fault_of order w ≡ None → HasAddressInside (length w.cells) order × StandsOnField order w
+can_act : (order : Item) (w : Writing) → fault_of order w ≡ None → HasAddressInside (length w.cells) order × StandsOnField order w
 unfolding fault_of
-is_good (text run) w good = (tt, tt)
-is_good (start_field attribute) w good = (tt, tt)
-is_good (start_field_extended pairs) w good = (tt, tt)
-is_good (set_buffer_address address) w good = (good_inside (length w.cells) address good, tt)
-is_good (set_attribute kind value) w good = (tt, tt)
-is_good (modify_field pairs) w good = (tt, good_there (is_attribute (cell_at w.cells w.address)) good)
-is_good insert_cursor w good = (tt, tt)
-is_good program_tab w good = (tt, tt)
-is_good (repeat_to_address stop character) w good = (good_inside (length w.cells) stop good, tt)
-is_good (erase_unprotected_to_address stop) w good = (good_inside (length w.cells) stop good, tt)
-is_good (graphic_escape code) w good = (tt, tt)
+can_act (text run) w good = (tt, tt)
+can_act (start_field attribute) w good = (tt, tt)
+can_act (start_field_extended pairs) w good = (tt, tt)
+can_act (set_buffer_address address) w good = (good_inside (length w.cells) address good, tt)
+can_act (set_attribute kind value) w good = (tt, tt)
+can_act (modify_field pairs) w good = (tt, good_there (is_attribute (cell_at w.cells w.address)) good)
+can_act insert_cursor w good = (tt, tt)
+can_act program_tab w good = (tt, tt)
+can_act (repeat_to_address stop character) w good = (good_inside (length w.cells) stop good, tt)
+can_act (erase_unprotected_to_address stop) w good = (good_inside (length w.cells) stop good, tt)
+can_act (graphic_escape code) w good = (tt, tt)
 
 -- ---- orders in turn
 acts_more : (site : Site) (sites : List Site) (w : Writing) → fault_of site.order w ≡ None → acts (site ∷ sites) w ≡ acts sites (effect_of site.order w)
@@ -115,7 +115,7 @@ was_done [] w end n len is = (tt, tt)
 was_done (site ∷ sites) w end n len is =
     elim (option_cases (fault_of site.order w)) [
       | inl good ↦
-          let here = is_good site.order w good in
+          let here = can_act site.order w good in
           let rest = was_done sites (effect_of site.order w) end n (len ∙ sym (effect_length site.order w)) (sym (acts_more site sites w good) ∙ is) in
           ((subst (λ m. HasAddressInside m site.order) (sym len) here.0, rest.0), (here.1, rest.1))
       | inr bad ↦ absurd (not_both (acts (site ∷ sites) w) _ end (acts_stop site sites w bad.0 bad.1) is)

@@ -18,14 +18,17 @@ distance_back n p k inside few =
       | inr a ↦ elim (distance_cases n (ring_back n p k) p) [ inl d ↦ omega arith | inr d ↦ omega arith ]
     ]
 
-back_distance : (n p r : ℕ) → p < n → r < n → ring_back n p (ring_distance n r p) ≡ r
+pub back_distance : (n p r : ℕ) → p < n → r < n → ring_back n p (ring_distance n r p) ≡ r
 back_distance n p r inside lt =
     elim (distance_cases n r p) [
       | inl d ↦ elim (back_cases n p (ring_distance n r p)) [ inl a ↦ omega arith | inr a ↦ omega arith ]
       | inr d ↦ elim (back_cases n p (ring_distance n r p)) [ inl a ↦ omega arith | inr a ↦ omega arith ]
     ]
 
-governs_so : (cells : List Cell) (q p : ℕ) → p < length cells → governs cells q p ≡ true → Governs cells q p
+pub back_inside_ring : (n p e : ℕ) → p < n → e < n → ring_back n p e < n
+back_inside_ring n p e inside few = elim (back_cases n p e) [ inl c ↦ omega arith | inr c ↦ omega arith ]
+
+pub governs_so : (cells : List Cell) (q p : ℕ) → p < length cells → governs cells q p ≡ true → Governs cells q p
 governs_so cells q p inside so =
     let n : ℕ = length cells in
     let parts = and_parts (is_character (cell_at cells p)) (is_at (attribute_before cells p) q) so in
@@ -45,7 +48,7 @@ governs_so cells q p inside so =
       | inr none ↦ absurd (false≢true (sym (ap (λ o. is_at o q) (sym (before_none cells n p refl none))) ∙ parts.1))
     ]
 
-so_governs : (cells : List Cell) (q p : ℕ) → q < length cells → p < length cells → Governs cells q p → governs cells q p ≡ true
+pub so_governs : (cells : List Cell) (q p : ℕ) → q < length cells → p < length cells → Governs cells q p → governs cells q p ≡ true
 so_governs cells q p lt inside rules =
     let n : ℕ = length cells in
     let few : ring_distance n q p < n = distance_lt n q p lt inside in
@@ -57,9 +60,6 @@ so_governs cells q p lt inside rules =
     ])
     rules.attribute in
     ap (λ t. t && is_at (attribute_before cells p) q) rules.character ∙ ap (λ o. is_at o q) (sym found) ∙ eq-eqb q q refl
-  where
-    back_inside_ring : (n p e : ℕ) → p < n → e < n → ring_back n p e < n
-    back_inside_ring n p e inside few = elim (back_cases n p e) [ inl c ↦ omega arith | inr c ↦ omega arith ]
 
 pub governs_exactly : GovernsExactly
 governs_exactly cells q p lt inside = (λ so. governs_so cells q p inside so, λ rules. so_governs cells q p lt inside rules)

@@ -9,6 +9,9 @@ pub mod ShowLaws
 pub mod SpanLaws
 pub mod RulingLaws
 pub mod EffectLaws
+pub mod CharacterLaws
+pub mod SoundLaws
 pub mod GovernLaws
+pub mod OpenLaws
 pub mod PrintLaws
 pub mod Rows

@@ -1,3 +1,4 @@
+-- For the code's own proofs: no public contract rests on this file, but that a screen's fields are seen as a `picture`.
 -- What a screen keeps beside its picture, and what a write begins with.
 use Rattle.std.specs.Prelude.{ℕ, ◌≤◌, List, replicate, Option, Some, None}
 use Rattle.ds_codec.specs.declared.cell.Cell.{Cell}

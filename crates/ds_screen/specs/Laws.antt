@@ -1,21 +1,29 @@
 -- Laws on what records do, in the words of the data stream.
-use Rattle.std.specs.Prelude.{◌≡◌, ℕ, ◌+◌, ◌%◌, ◌<◌, ◌↔◌, true, List, [], ◌∷◌, ◌++◌, length, replicate, Ok, Err, Some}
+use Rattle.std.specs.Prelude.{◌≡◌, ℕ, ◌+◌, ◌%◌, ◌<◌, ◌⊎◌, ◌↔◌, true, false, List, [], ◌∷◌, ◌++◌, length, replicate, Ok, Err, Some}
 use Rattle.ds_codec.specs.declared.cell.Cell.{Cell}
+use Rattle.ds_codec.specs.declared.size.Mode.{Mode}
 use Rattle.ds_codec.specs.declared.command.Command.{Command}
 use Rattle.ds_codec.specs.declared.command.Command.TheVariants.{Write, EraseWrite, EraseWriteAlternate, EraseAllUnprotected}
+use Rattle.ds_codec.specs.Attribute.{is_protected}
 use Rattle.ds_codec.specs.Geometry.{cells_of}
 use Rattle.ds_codec.specs.Order.{Item, set_buffer_address, modify_field, repeat_to_address, erase_unprotected_to_address, Site}
-use Rattle.ds_codec.specs.Record.{Message}
+use Rattle.ds_codec.specs.Record.{Message, SpellsRecord}
 use Rattle.ds_screen.specs.declared.refused.Refused.{Refused}
 use Rattle.ds_screen.specs.Ring.{ring_distance}
-use Rattle.ds_screen.specs.Picture.{Picture, blank, cell_at}
-use Rattle.ds_screen.specs.Fields.{is_attribute, is_character, governs}
+use Rattle.ds_screen.specs.Picture.{Picture, IsSound, blank, cell_at}
+use Rattle.ds_screen.specs.Fields.{is_attribute, is_character, bits_of, governs, is_open}
 use Rattle.ds_screen.specs.Orders.{Writing, effect_of, fault_of}
 use Rattle.ds_screen.specs.Records.{begun, acts, RecordShows}
 
 -- a record leads from a picture to one picture
 abbrev pub HasOneEffect : Type 0
 HasOneEffect = (before after other : Picture) (message : Message) → RecordShows before message after → RecordShows before message other → after ≡ other
+
+-- a record that some bytes spell leaves a sound picture sound
+abbrev pub RecordsStaySound : Type 0
+RecordsStaySound =
+    (before after : Picture) (message : Message) (mode : Mode) (bytes : List ℕ) → IsSound before → SpellsRecord mode message bytes
+    → RecordShows before message after → IsSound after
 
 -- the address of an order is that of a position
 abbrev pub HasAddressInside : ℕ → Item → Type 0
@@ -78,6 +86,18 @@ pub record Governs (cells : List Cell) (q p : ℕ) : Type 0 where
 abbrev pub GovernsExactly : Type 0
 GovernsExactly =
     (cells : List Cell) (q p : ℕ) → q < length cells → p < length cells → (governs cells q p ≡ true) ↔ Governs cells q p
+
+abbrev pub HasNoAttribute : List Cell → Type 0
+HasNoAttribute cells = (q : ℕ) → q < length cells → is_attribute (cell_at cells q) ≡ false
+
+-- p holds a character, and either there is no attribute at all, or the one that governs p is unprotected
+abbrev pub IsOpen : List Cell → ℕ → Type 0
+IsOpen cells p =
+    (is_character (cell_at cells p) ≡ true)
+    × (HasNoAttribute cells ⊎ ((q : ℕ) × (q < length cells) × Governs cells q p × (is_protected (bits_of (cell_at cells q)) ≡ false)))
+
+abbrev pub OpensExactly : Type 0
+OpensExactly = (cells : List Cell) (p : ℕ) → p < length cells → (is_open cells p ≡ true) ↔ IsOpen cells p
 
 -- the distance from q to p is the least number of steps on from q that lead to p
 pub record IsLeastWay (n q p steps : ℕ) : Type 0 where

@@ -65,7 +65,8 @@ abbrev pub tab_stop : List Cell → ℕ → ℕ
 tab_stop cells b = behind (length cells) (first_from is_unprotected_attribute cells b)
 
 -- Program Tab, by whether it nulls and by the first attribute from the buffer address on: it nulls up to that
--- attribute, or to the end, where it stops and goes on nulling
+-- attribute, or to the end, where it stops and goes on nulling. When it nulls, how far, and what it does at the end
+-- are our own rules.
 abbrev pub tabbed : Writing → Bool → Option ℕ → Writing
 tabbed w false attribute = record w { address = tab_stop w.cells w.address; nulling = false }
 tabbed w true (Some e) =
@@ -78,7 +79,8 @@ abbrev pub after_storing : Writing → Cell → Bool → Writing
 after_storing w cell nulling =
     record w { cells = ruled (length w.cells) (single_cell w.cells w.address cell); address = ring_on (length w.cells) w.address 1; nulling = nulling }
 
--- what an order leaves
+-- What an order leaves. That Program Tab nulls right after text, after a graphic escape as after text, and after one
+-- that ran to the end, and after no other order, is our own rule; so is that Set Attribute leaves the cells as they are.
 unfoldable pub effect_of : Item → Writing → Writing
 effect_of (text run) w =
     record w { cells = ruled (length w.cells) (text_cell w.cells w.address run); address = (w.address + length run) % length w.cells; nulling = true }

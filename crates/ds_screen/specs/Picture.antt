@@ -1,10 +1,11 @@
 -- What a terminal shows and keeps.
-use Rattle.std.specs.Prelude.{◌≡◌, ℕ, ◌<◌, ◌⊎◌, List, map, length, slice_index_or}
-use Rattle.std.specs.List.{range_with_len}
+use Rattle.std.specs.Prelude.{◌≡◌, ℕ, ◌<◌, ◌⊎◌, Bool, true, List, map, length, slice_index_or}
+use Rattle.std.specs.List.{range_with_len, list_all}
 use Rattle.ds_codec.specs.declared.cell.Cell.{Cell}
-use Rattle.ds_codec.specs.declared.cell.Cell.TheVariants.{Char}
+use Rattle.ds_codec.specs.declared.cell.Cell.TheVariants.{Field, Char}
 use Rattle.ds_codec.specs.declared.size.Size.{Size}
-use Rattle.ds_codec.specs.Character.{null}
+use Rattle.ds_codec.specs.Aid.{is_aid}
+use Rattle.ds_codec.specs.Character.{null, is_glyph}
 use Rattle.ds_codec.specs.Geometry.{Sizes, IsGood, cells_of}
 use Rattle.ds_screen.specs.declared.lock.Lock.{Lock}
 
@@ -30,10 +31,18 @@ cell_at cells p = slice_index_or cells p blank
 unfoldable pub ruled : ℕ → (ℕ → Cell) → List Cell
 ruled n rule = map rule (range_with_len 0 n)
 
--- what holds of every screen's picture
+-- an attribute, or a character that exists: a text byte, or 40 to FE of the alternate set
+abbrev pub is_real : Cell → Bool
+is_real (Field bits) = true
+is_real (Char character) = is_glyph character
+
+-- what holds of every screen's picture: good sizes, a cell for each position of the one in use, the cursor at one of
+-- them, only characters that exist, and an attention identifier, which may be that of no key
 pub record IsSound (v : Picture) : Type 0 where
   pub default_good : IsGood v.geometry.mode v.geometry.default
   pub alternate_good : IsGood v.geometry.mode v.geometry.alternate
   pub one_of_two : (v.size ≡ v.geometry.default) ⊎ (v.size ≡ v.geometry.alternate)
   pub whole : length v.cells ≡ cells_of v.size
   pub cursor_inside : v.cursor < cells_of v.size
+  pub characters : list_all is_real v.cells ≡ true
+  pub attention : is_aid v.aid ≡ true

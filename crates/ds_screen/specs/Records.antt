@@ -18,7 +18,8 @@ use Rattle.ds_screen.specs.Picture.{Picture, blank, cell_at, ruled}
 use Rattle.ds_screen.specs.Fields.{is_open, first_open}
 use Rattle.ds_screen.specs.Orders.{Writing, effect_of, fault_of}
 
--- the write control character resets every modified data tag, restores the keyboard, sounds the alarm
+-- the write control character resets every modified data tag, restores the keyboard, sounds the alarm; that its other
+-- bits have no effect is our own rule
 abbrev pub resets : ℕ → Bool
 resets wcc = wcc % 2 == 1
 

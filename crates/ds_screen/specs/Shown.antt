@@ -1,4 +1,4 @@
--- What is printed of a screen.
+-- What is printed of a screen: all of it is our own rule.
 use Rattle.std.specs.Prelude.{ℕ, ◌+◌, ◌-◌, ◌*◌, ◌&&◌, ◌==◌, nat_le, nat_lt, List, [], ◌∷◌, map, length, slice_index, codes, if◌then◌else◌}
 use Rattle.std.specs.List.{range_with_len}
 use Rattle.ds_codec.specs.declared.cell.Cell.{Cell}

@@ -28,7 +28,7 @@ pub use field::FieldAt;
 pub use fields::Fields;
 pub use laws::{
     distance_is_least, each_write_has_an_effect, nearest_attribute_governs, one_effect,
-    refused_at_the_least,
+    open_is_unprotected, records_stay_sound, refused_at_the_least,
 };
 pub use lock::Lock;
 pub use plain::PlainCells;

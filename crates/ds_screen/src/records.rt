@@ -2,7 +2,7 @@
 
 ghost use Rattle.std.specs.Prelude.{◌≡◌, ◌<◌, ◌≤◌, length, replicate, Ok, Err, Some, None, IfOk, IfErr, OnOk, IfSome, MatchOption};
 ghost use Rattle.ds_screen.specs.Picture.{blank, cell_at, ruled};
-ghost use Rattle.ds_screen.specs.State.{writing, IsInside};
+ghost use Rattle.ds_screen.specs.State.{writing, HaveCharacters, IsInside};
 ghost use Rattle.ds_screen.specs.Records.{acts, begun, cleared_cell};
 ghost use Rattle.ds_screen.specs.Fields.{first_open};
 ghost use Rattle.ds_screen.specs.Kept.{HasRoom, start_of};
@@ -30,6 +30,7 @@ pub(crate) fn run_orders<C: Cells>(
     ensures inside { IfOk result (IsInside (C.content cells.new)) }
     ensures refused { IfErr result
         (λ e. acts outbound.now.orders (writing (C.content cells.old) start) ≡ Err e) }
+    ensures characters { HaveCharacters outbound.now.orders }
     ensures whole { OnOk result (length (C.content cells.new) ≡ length (C.content cells.old)) }
     ensures room { C.capacity cells.new ≡ C.capacity cells.old }
 {
@@ -177,6 +178,7 @@ pub(crate) fn write_orders<C: Cells>(
     ensures inside { IfOk result (IsInside (C.content cells.new)) }
     ensures refused { IfErr result
         (λ e. acts outbound.now.orders (begun wcc (C.content cells.old) cursor) ≡ Err e) }
+    ensures characters { HaveCharacters outbound.now.orders }
     ensures whole { OnOk result (length (C.content cells.new) ≡ length (C.content cells.old)) }
     ensures room { C.capacity cells.new ≡ C.capacity cells.old }
 {

@@ -1,7 +1,7 @@
 -- What a key that sends leaves.
 use Rattle.std.proofs.Common.{◌≡◌, ℕ, ◌&&◌, Bool, true, false, not, cond, eqb, List, [], ◌∷◌, length, refl, sym, ◌∙◌, ap}
 use Rattle.std.proofs.lemmas.Bool.{eqb-true}
-use Rattle.ds_codec.specs.Aid.{is_short_aid}
+use Rattle.ds_codec.specs.Aid.{is_long_aid, is_short_aid}
 use Rattle.ds_codec.specs.Character.{is_graphic}
 use Rattle.ds_screen.specs.declared.lock.Lock.{Lock}
 use Rattle.ds_screen.specs.declared.lock.Lock.TheVariants.{Free, Waiting, Error}
@@ -11,7 +11,7 @@ use Rattle.ds_keys.specs.declared.key.Key.{Key}
 use Rattle.ds_keys.specs.declared.key.Key.TheVariants.{Typed, Left, Right, Up, Down, Tab, BackTab, NewLine, Home, EraseEof, EraseInput, Delete, Reset, Attention}
 use Rattle.ds_keys.specs.declared.pressed.Pressed.{Pressed}
 use Rattle.ds_keys.specs.declared.pressed.Pressed.TheVariants.{Done, Inhibited, Ignored, Sent}
-use Rattle.ds_keys.specs.KeyStep.{Step, step, step_under, step_of, free_step, typed_step, erase_eof_step, delete_step, attention_step, error_step, ignored, inhibited, sent as sends}
+use Rattle.ds_keys.specs.KeyStep.{Step, step, step_under, step_of, free_step, typed_step, erase_eof_step, delete_step, attention_step, error_step, is_sending, ignored, inhibited, sent as sends}
 use Rattle.ds_keys.specs.KeyRuns.{is_sent}
 use Rattle.ds_keys.specs.Laws.{is_clear}
 use Rattle.ds_terminal.specs.Terminal.{key_turn, key_reply, sent, pressed}
@@ -20,7 +20,7 @@ use Rattle.ds_inbound.proofs.Again.{answer_short}
 
 -- ---- Clear
 clear_aid : (lock : Lock) (v w : Picture) (aid : ℕ) → step w (Sent aid) ≡ step_under lock v (Attention 0x6D) → w.aid ≡ 0x6D
-unfolding free_step attention_step
+unfolding free_step attention_step is_long_aid is_short_aid
 clear_aid Free v w aid is = ap (λ (s : Step). s.after.aid) is
 clear_aid Waiting v w aid is = let told : Sent aid ≡ Ignored = ap (λ (s : Step). s.pressed) is in absurd cc
 clear_aid Error v w aid is = let told : Sent aid ≡ Ignored = ap (λ (s : Step). s.pressed) is in absurd cc
@@ -102,7 +102,7 @@ free_undone v EraseEof other = by_open (is_open v.cells v.cursor) v _
 free_undone v EraseInput other = undoes_told v _ Done refl
 free_undone v Delete other = by_open (is_open v.cells v.cursor) v _
 free_undone v Reset other = undoes_told v v Done refl
-free_undone v (Attention aid) other = by_aid (eqb aid 0x60) (eqb aid 0x6D) v _ aid other
+free_undone v (Attention aid) other = by_aid (not (is_sending aid)) (eqb aid 0x6D) v _ aid other
 
 error_undone : (v : Picture) (key : Key) → Undoes v (error_step v key)
 error_undone v (Typed code) = undoes_told v v Ignored refl

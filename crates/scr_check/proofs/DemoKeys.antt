@@ -1,6 +1,7 @@
 -- What the keys of a demo do: Right to a place, one character typed over and over, and Enter.
 use Rattle.std.proofs.Common.{◌≡◌, ◌≢◌, ℕ, zero, suc, ◌+◌, ◌-◌, ◌<◌, ◌&&◌, ◌||◌, Bool, true, false, not, eqb, List, [], ◌∷◌, ◌++◌, length, replicate, refl, sym, ◌∙◌, ap, subst, arith, inl, inr}
 use Rattle.std.proofs.lemmas.Bool.{cond-true, cond-false, false≢true, not-true, and_parts, eq-eqb, ne_eqb}
+use Rattle.ds_codec.specs.Aid.{is_long_aid, is_short_aid}
 use Rattle.ds_codec.specs.declared.cell.Cell.{Cell}
 use Rattle.ds_codec.specs.declared.cell.Cell.TheVariants.{Field, Char}
 use Rattle.ds_codec.specs.Attribute.{is_protected, is_modified}
@@ -51,7 +52,7 @@ runs_on v w x first others a b rest =
 
 -- ---- Enter
 pub enter_step : (v : Picture) → v.lock ≡ Free → step_of v (Attention 0x7D) ≡ step (record v { lock = Waiting; aid = 0x7D }) (Sent 0x7D)
-unfolding step_of free_step attention_step
+unfolding step_of free_step attention_step is_long_aid is_short_aid
 enter_step v free = ap (λ l. step_under l v (Attention 0x7D)) free
 
 pub enter_accepted : (v : Picture) → v.lock ≡ Free → are_accepted v (Attention 0x7D ∷ []) ≡ true

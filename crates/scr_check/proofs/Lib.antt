@@ -7,7 +7,6 @@ pub mod KeptLaws
 pub mod Among
 pub mod TouchedFields
 pub mod LeadLaws
-pub mod RealLaws
 pub mod SentLaws
 pub mod PromiseLaws
 pub mod ListLaws

@@ -1,6 +1,5 @@
 -- A picture against which nothing stands keeps the promise.
 use Rattle.std.proofs.Common.{◌≡◌, ℕ, Bool, true, false, cond, List, [], ◌∷◌, length, map, refl, sym, ◌∙◌, ap, subst}
-use Rattle.std.specs.List.{list_all}
 use Rattle.ds_codec.specs.declared.cell.Cell.{Cell}
 use Rattle.ds_codec.specs.Aid.{is_long_aid}
 use Rattle.ds_codec.specs.Character.{is_graphic}
@@ -19,7 +18,7 @@ use Rattle.ds_keys.proofs.CellLaws.{same_kind}
 use Rattle.ds_keys.proofs.KeepLaws.{quiet_keys_keep}
 use Rattle.ds_keys.proofs.TouchLaws.{touched_law}
 use Rattle.ds_keys.proofs.SoundLaws.{keys_stay_sound}
-use Rattle.ds_inbound.specs.Answer.{is_real, bytes_sent}
+use Rattle.ds_inbound.specs.Answer.{bytes_sent}
 use Rattle.ds_inbound.specs.Inbound.{SaysOnly}
 use Rattle.scr_layout.specs.Layout.{Declaration}
 use Rattle.scr_check.specs.Findings.{findings_of}
@@ -108,7 +107,6 @@ keys_stay v (key ∷ keys) = keys_stay (keyed.after_key v key) keys ∙ key_stay
 -- what holds of it before anything is said of findings
 pub record IsOpened (layout : Declaration) (v : Picture) : Type 0 where
   pub sound : IsSound v
-  pub real : list_all is_real v.cells ≡ true
   pub geometry : v.geometry ≡ layout.geometry
   pub size : v.size ≡ layout.size
   pub some : fields_of v.cells ≡ [] → ⊥
@@ -135,10 +133,10 @@ touched_sent v0 keys quiet =
 
 -- ---- the promise
 
-said : (layout : Declaration) (v0 : Picture) (keys : List Key) (aid : ℕ) → IsOpened layout v0 → keyed.IsQuiet v0 keys → list_all is_real (keyed.after v0 keys).cells ≡ true
+said : (layout : Declaration) (v0 : Picture) (keys : List Key) (aid : ℕ) → IsOpened layout v0 → keyed.IsQuiet v0 keys
     → is_long_aid aid ≡ true → (keyed.after v0 keys).lock ≡ Free
     → SaysOnly layout.geometry.mode (cells_of layout.size) (due_answer aid (keyed.after v0 keys) (sent_places (keyed.after v0 keys).cells)) (bytes_sent (keyed.after_key (keyed.after v0 keys) (Attention aid)) false)
-said layout v0 keys aid opened quiet real long free =
+said layout v0 keys aid opened quiet long free =
     let v : Picture = keyed.after v0 keys in
     let k : Keeps v0.cells v.cells = quiet_keys_keep v0 keys quiet in
     let some : attributes_from v.cells 0 ≡ [] → ⊥ = λ none. attributes_some v0.cells opened.some (sym (same_attributes v0.cells v.cells k) ∙ none) in
@@ -148,11 +146,10 @@ said layout v0 keys aid opened quiet real long free =
     let cells : length v.cells ≡ cells_of layout.size = k.whole ∙ opened.sound.whole ∙ ap cells_of opened.size in
     let M : _ → Type 0 = λ m. SaysOnly m (cells_of layout.size) due bytes in
     let N : ℕ → Type 0 = λ n. SaysOnly v.geometry.mode n due bytes in
-    subst M mode (subst N cells (due_said v aid (keys_stay_sound v0 keys opened.sound) real free long some))
+    subst M mode (subst N cells (due_said v aid (keys_stay_sound v0 keys opened.sound) free long some))
 
-pub keeps_promise : (layout : Declaration) (v0 : Picture) → IsOpened layout v0 → findings_of layout v0 ≡ []
-    → ((keys : List Key) → keyed.IsQuiet v0 keys → list_all is_real (keyed.after v0 keys).cells ≡ true) → KeepsPromise layout v0
-keeps_promise layout v0 opened clean reals keys quiet =
+pub keeps_promise : (layout : Declaration) (v0 : Picture) → IsOpened layout v0 → findings_of layout v0 ≡ [] → KeepsPromise layout v0
+keeps_promise layout v0 opened clean keys quiet =
     let v : Picture = keyed.after v0 keys in
     let k : Keeps v0.cells v.cells = quiet_keys_keep v0 keys quiet in
     let kept : IsProtectedSame v0.cells v.cells = kept_protected v0.cells v.cells k in
@@ -163,7 +160,7 @@ keeps_promise layout v0 opened clean reals keys quiet =
         sent = key_sends v aid free long;
         places = sent_places v.cells;
         touched = touched;
-        says = said layout v0 keys aid opened quiet (reals keys quiet) long free;
+        says = said layout v0 keys aid opened quiet long free;
         declared = λ q among.
             let is = (touched.exactly q).0 among in
             declared_field layout.entries v0.cells v.cells q k kept.characters (touched_entry layout v0 keys q opened.sound clean quiet is.0 is.1);

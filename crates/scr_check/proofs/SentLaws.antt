@@ -1,6 +1,6 @@
 -- What Enter or a PF key sends from a screen with fields.
 use Rattle.std.proofs.Common.{◌≡◌, ℕ, ◌-◌, ◌&&◌, Bool, true, false, not, cond, eqb, List, [], ◌∷◌, length, map, Some, refl, sym, ◌∙◌, ap, subst, arith}
-use Rattle.std.specs.List.{range_with_len, filter, list_all}
+use Rattle.std.specs.List.{range_with_len, filter}
 use Rattle.std.specs.List.Sorted.{IsStrictlyIncreasing}
 use Rattle.std.proofs.lemmas.Bool.{cond-false, and_parts, not-true}
 use Rattle.std.proofs.lemmas.List.Kept.{IsStrictlyIncreasing-filter}
@@ -12,9 +12,9 @@ use Rattle.ds_screen.specs.Picture.{Picture, IsSound, cell_at}
 use Rattle.ds_screen.specs.Fields.{is_attribute, attributes_from}
 use Rattle.ds_keys.specs.declared.key.Key.TheVariants.{Attention}
 use Rattle.ds_keys.specs.declared.pressed.Pressed.TheVariants.{Sent}
-use Rattle.ds_keys.specs.KeyStep.{sent, attention_step, free_step, step_under, step_of}
+use Rattle.ds_keys.specs.KeyStep.{sent, is_sending, attention_step, free_step, step_under, step_of}
 use Rattle.ds_keys.specs.KeyRuns as keyed
-use Rattle.ds_inbound.specs.Answer.{Answer, is_modified_at, fields_sent, field_sent, lead_sent, short_answer, long_answer, answer_of, bytes_sent, is_real}
+use Rattle.ds_inbound.specs.Answer.{Answer, is_modified_at, fields_sent, field_sent, lead_sent, short_answer, long_answer, answer_of, bytes_sent}
 use Rattle.ds_inbound.specs.Inbound.{SaysOnly}
 use Rattle.ds_inbound.proofs.Pictures.{answers_say}
 use Rattle.scr_check.specs.Promise.{is_among, due_answer}
@@ -25,28 +25,28 @@ use Rattle.scr_check.proofs.KeptLaws.{attribute_inside}
 
 -- neither none nor Clear, not sent alone, and an attention identifier
 abbrev sends_fields : ℕ → Bool
-sends_fields aid = not (eqb aid 0x60) && (not (eqb aid 0x6D) && (not (is_short_aid aid) && is_aid aid))
+sends_fields aid = not (not (is_sending aid)) && (not (eqb aid 0x6D) && (not (is_short_aid aid) && is_aid aid))
 
 long_sends : (aid : ℕ) → is_long_aid aid ≡ true → sends_fields aid ≡ true
 unfolding is_long_aid is_short_aid is_aid
 long_sends aid long = each_of_all sends_fields long_aids aid refl long
 
 record IsLong (aid : ℕ) : Type 0 where
-  some : eqb aid 0x60 ≡ false
+  some : not (is_sending aid) ≡ false
   plain : eqb aid 0x6D ≡ false
   long : is_short_aid aid ≡ false
   known : is_aid aid ≡ true
 
 long_parts : (aid : ℕ) → is_long_aid aid ≡ true → IsLong aid
 long_parts aid long =
-    let a = and_parts (not (eqb aid 0x60)) (not (eqb aid 0x6D) && (not (is_short_aid aid) && is_aid aid)) (long_sends aid long) in
+    let a = and_parts (not (not (is_sending aid))) (not (eqb aid 0x6D) && (not (is_short_aid aid) && is_aid aid)) (long_sends aid long) in
     let b = and_parts (not (eqb aid 0x6D)) (not (is_short_aid aid) && is_aid aid) a.1 in
     let c = and_parts (not (is_short_aid aid)) (is_aid aid) b.1 in
     record { some = not-true _ a.0; plain = not-true _ b.0; long = not-true _ c.0; known = c.1 }
 
 attends : (v : Picture) (aid : ℕ) → IsLong aid → attention_step v aid ≡ sent v aid
 unfolding attention_step
-attends v aid long = cond-false (eqb aid 0x60) _ _ long.some ∙ cond-false (eqb aid 0x6D) _ _ long.plain
+attends v aid long = cond-false (not (is_sending aid)) _ _ long.some ∙ cond-false (eqb aid 0x6D) _ _ long.plain
 
 step_sends : (v : Picture) (aid : ℕ) → v.lock ≡ Free → IsLong aid → step_of v (Attention aid) ≡ sent v aid
 unfolding step_of free_step
@@ -88,20 +88,22 @@ answers_due v aid long some =
     ap (λ t. cond (t && true) (short_answer aid) (long_answer (sending v aid))) (long_parts aid long).long
     ∙ due_record aid v [] [] (lead_none v.cells (attributes_from v.cells 0) some)
 
-sending_sound : (v : Picture) (aid : ℕ) → IsSound v → IsSound (sending v aid)
-sending_sound v aid sound =
+sending_sound : (v : Picture) (aid : ℕ) → IsLong aid → IsSound v → IsSound (sending v aid)
+sending_sound v aid long sound =
     record {
       default_good = sound.default_good;
       alternate_good = sound.alternate_good;
       one_of_two = sound.one_of_two;
       whole = sound.whole;
       cursor_inside = sound.cursor_inside;
+      characters = sound.characters;
+      attention = long.known;
     }
 
-pub due_said : (v : Picture) (aid : ℕ) → IsSound v → list_all is_real v.cells ≡ true → v.lock ≡ Free → is_long_aid aid ≡ true → (attributes_from v.cells 0 ≡ [] → ⊥)
+pub due_said : (v : Picture) (aid : ℕ) → IsSound v → v.lock ≡ Free → is_long_aid aid ≡ true → (attributes_from v.cells 0 ≡ [] → ⊥)
     → SaysOnly v.geometry.mode (length v.cells) (due_answer aid v (sent_places v.cells)) (bytes_sent (keyed.after_key v (Attention aid)) false)
-due_said v aid sound real free long some =
-    let said = answers_say (sending v aid) false (sending_sound v aid sound) (record { characters = real; aid = (long_parts aid long).known }) in
+due_said v aid sound free long some =
+    let said = answers_say (sending v aid) false (sending_sound v aid (long_parts aid long) sound) in
     let P : Answer → Type 0 = λ a. SaysOnly v.geometry.mode (length v.cells) a (bytes_sent (sending v aid) false) in
     let Q : Picture → Type 0 = λ w. SaysOnly v.geometry.mode (length v.cells) (due_answer aid v (sent_places v.cells)) (bytes_sent w false) in
     subst Q (sym (key_leaves v aid free long)) (subst P (answers_due v aid long some) said)

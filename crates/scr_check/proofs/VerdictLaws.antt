@@ -15,7 +15,6 @@ use Rattle.scr_check.specs.Promise.{KeepsPromise}
 use Rattle.scr_check.specs.Leads.{IsPromised}
 use Rattle.scr_check.specs.Demos.{IsShown, AreShown}
 use Rattle.scr_check.proofs.LeadLaws.{ok_is, opened_geometry, opened_ready, leads_from_every}
-use Rattle.scr_check.proofs.RealLaws.{opened_real, keys_real}
 use Rattle.scr_check.proofs.PromiseLaws.{IsOpened, keeps_promise}
 use Rattle.scr_check.proofs.DemoLaws.{findings_shown}
 
@@ -24,7 +23,6 @@ opened_so layout records opened opens sound =
     let ready = opened_ready layout records opened opens in
     record {
       sound = sound;
-      real = opened_real layout records opened opens;
       geometry = opened_geometry layout records opened opens;
       size = ready.1.0;
       some = ready.1.1;
@@ -33,7 +31,7 @@ opened_so layout records opened opens sound =
 pub promise_of : (layout : Declaration) (records : List (List ℕ)) (opened : Picture) → opening_of layout records ≡ Ok opened → IsSound opened
     → findings_of layout opened ≡ [] → KeepsPromise layout opened
 promise_of layout records opened opens sound clean =
-    keeps_promise layout opened (opened_so layout records opened opens sound) clean (λ keys quiet. keys_real opened keys quiet (opened_real layout records opened opens))
+    keeps_promise layout opened (opened_so layout records opened opens sound) clean
 
 clean_promised : (layout : Declaration) (records : List (List ℕ)) (opened : Picture) → opening_of layout records ≡ Ok opened → IsSound opened
     → findings_of layout opened ≡ [] → IsPromised layout records

@@ -4,13 +4,13 @@ use Rattle.ds_codec.specs.Aid.{is_long_aid}
 use Rattle.ds_codec.specs.Record.{Message}
 use Rattle.ds_codec.specs.Reading.{read_of}
 use Rattle.ds_screen.specs.declared.lock.Lock.TheVariants.{Free}
-use Rattle.ds_screen.specs.Picture.{Picture, IsSound}
+use Rattle.ds_screen.specs.Picture.{Picture}
 use Rattle.ds_screen.specs.Records.{RecordShows}
 use Rattle.ds_keys.specs.declared.key.Key.{Key}
 use Rattle.ds_keys.specs.declared.pressed.Pressed.{Pressed}
 use Rattle.ds_keys.specs.KeyStep.{KeyStep}
 use Rattle.ds_keys.specs.KeyRuns as keyed
-use Rattle.scr_layout.specs.Layout.{Declaration}
+use Rattle.scr_layout.specs.Layout.{Declaration, IsLayout}
 use Rattle.scr_check.specs.Opening.{opening_of}
 use Rattle.scr_check.specs.Findings.{Conforms}
 use Rattle.scr_check.specs.Promise.{IsProtectedSame, SendsTouched, KeepsPromise}
@@ -39,12 +39,14 @@ pub record IsPromised (layout : Declaration) (records : List (List ℕ)) : Type 
   pub anywhere : LeadsFromEvery layout records opened
   pub promise : KeepsPromise layout opened
 
--- For a user: a screen of the layout's geometry, whatever it held before, took the records and was pressed. Then what is
--- protected stands as the records wrote it, and the next Enter or PF key on a free keyboard sends the touched fields.
+-- For a user: a picture of the layout's geometry, whatever it held before, took the records and was pressed. Then what
+-- is protected stands as the records wrote it, and the next Enter or PF key on a free keyboard sends the touched fields.
+-- Nothing is asked of the picture but its geometry, nor of the one that the records left; of the layout, what holds of
+-- each that is read.
 abbrev pub YesMeans : Type 0
 YesMeans =
-    (layout : Declaration) (records : List (List ℕ)) → Conforms layout records
-    → (before opened v : Picture) (keys : List Key) → before.geometry ≡ layout.geometry → RecordsLead before records opened → IsSound opened
+    (layout : Declaration) (records : List (List ℕ)) → IsLayout layout → Conforms layout records
+    → (before opened v : Picture) (keys : List Key) → before.geometry ≡ layout.geometry → RecordsLead before records opened
     → KeysLead opened keys v
     → IsProtectedSame opened.cells v.cells
     × ((aid : ℕ) → is_long_aid aid ≡ true → v.lock ≡ Free → SendsTouched layout opened keys v aid)

@@ -9,7 +9,7 @@ use Rattle.std.proofs.lemmas.Nat.{mul-add-lt}
 use Rattle.ds_codec.specs.declared.size.Size.{Size}
 use Rattle.ds_codec.specs.declared.size.Mode.{Mode}
 use Rattle.ds_codec.specs.declared.size.Mode.TheVariants.{Bits14}
-use Rattle.ds_codec.specs.Geometry.{IsGood, cells_of}
+use Rattle.ds_codec.specs.Geometry.{IsGood, cells_of, is_good}
 use Rattle.std.proofs.lemmas.List.{map-append}
 use Rattle.toml.specs.Data.{Data, Members, as_array}
 use Rattle.scr_layout.specs.declared.fault.LayoutFault.{LayoutFault}
@@ -21,7 +21,7 @@ use Rattle.scr_layout.specs.Fault.{at_key}
 use Rattle.scr_layout.specs.Field.{field_keys, has_name, has_place, name_of, integer_at, place_of, length_of, kind_of, entry_of}
 use Rattle.scr_layout.specs.Layout.{Declaration, IsLayout, entries_of, declaration_of, table_of, layout_of}
 use Rattle.scr_layout.specs.Results.{tested, in_field}
-use Rattle.scr_layout.specs.SizeText.{is_good, is_x, number_of, size_of_text}
+use Rattle.scr_layout.specs.SizeText.{is_x, number_of, size_of_text}
 use Rattle.scr_layout.specs.Top.{top_keys, size_of, size_or, default_of, alternate_of, screen_or, screen_of, tables_in, are_tables, tables_of, tables_or, fields_of}
 use Rattle.scr_layout.specs.Values.{value_at, needed_at, text_of, from_one_to, with_only}
 use Rattle.scr_layout.proofs.Steps.{bind_ok, tested_ok, ok_or_ok, in_field_ok, cond_some, cond_then, and_then_some, same_ok}
@@ -30,16 +30,16 @@ use Rattle.scr_layout.proofs.Steps.{bind_ok, tested_ok, ok_or_ok, in_field_ok, c
 
 pub IsGood-from_test : (mode : Mode) (s : Size) → is_good mode s ≡ true → IsGood mode s
 IsGood-from_test mode s h =
-    let a = and_parts (((nat_le 1 s.rows && nat_le s.rows 255) && nat_le 2 s.cols) && nat_le s.cols 255) _ h in
-    let b = and_parts ((nat_le 1 s.rows && nat_le s.rows 255) && nat_le 2 s.cols) _ a.0 in
-    let d = and_parts (nat_le 1 s.rows && nat_le s.rows 255) _ b.0 in
-    let e = and_parts (nat_le 1 s.rows) _ d.0 in
+    let a = and_parts (nat_le 1 s.rows && nat_le s.rows 255) _ h in
+    let b = and_parts (nat_le 1 s.rows) _ a.0 in
+    let d = and_parts (nat_le 2 s.cols && nat_le s.cols 255) _ a.1 in
+    let e = and_parts (nat_le 2 s.cols) _ d.0 in
     record {
-      some_rows = leb-true _ _ e.0;
-      few_rows = leb-true _ _ e.1;
-      two_cols = leb-true _ _ d.1;
-      few_cols = leb-true _ _ b.1;
-      few_cells = leb-true _ _ a.1;
+      some_rows = leb-true _ _ b.0;
+      few_rows = leb-true _ _ b.1;
+      two_cols = leb-true _ _ e.0;
+      few_cols = leb-true _ _ e.1;
+      few_cells = leb-true _ _ d.1;
     }
 
 good_size : (mode : Mode) (r : ℕ) (c : ℕ) (s : Size) → (if_good : cond (is_good mode (record { rows = r; cols = c })) (Some (record { rows = r; cols = c })) None ≡ Some s) → IsGood mode s

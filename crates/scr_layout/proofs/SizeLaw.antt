@@ -11,8 +11,8 @@ use Rattle.std.proofs.Math.Seq.{drop-append-add}
 use Rattle.std.proofs.lemmas.Str.Parse.{not_in_digits}
 use Rattle.ds_codec.specs.declared.size.Size.{Size}
 use Rattle.ds_codec.specs.declared.size.Mode.{Mode}
-use Rattle.ds_codec.specs.Geometry.{IsGood, cells_of, limit_of}
-use Rattle.scr_layout.specs.SizeText.{is_good, is_x, number_of, size_of_text, size_text}
+use Rattle.ds_codec.specs.Geometry.{IsGood, cells_of, limit_of, is_good}
+use Rattle.scr_layout.specs.SizeText.{is_x, number_of, size_of_text, size_text}
 use Rattle.scr_layout.proofs.Sizes.{own, list_any-some}
 use Rattle.scr_layout.proofs.Steps.{cond_some, cond_then, and_then_some}
 

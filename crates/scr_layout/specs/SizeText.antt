@@ -3,18 +3,13 @@ use Rattle.std.specs.Prelude.{ℕ, ◌^◌, Bool, ◌&&◌, ◌==◌, nat_le, na
 use Rattle.std.specs.List.{before_first, after_first, list_any}
 use Rattle.std.specs.Str.{all_ascii_digits}
 use Rattle.std.specs.Str.Parse.{digits_value}
-use Rattle.ds_codec.specs.Geometry.{cells_of, limit_of}
+use Rattle.ds_codec.specs.Geometry.{is_good}
 use Rattle.ds_codec.specs.declared.size.Size.{Size}
 use Rattle.ds_codec.specs.declared.size.Mode.{Mode}
 
 infixl 10 ◌>>=◌
 abbrev ◌>>=◌ : {A B : Type 0} → Option A → (A → Option B) → Option B
 o >>= f = option_and_then f o
-
--- a size that a terminal of the mode can have
-abbrev pub is_good : Mode → Size → Bool
-is_good mode size =
-    nat_le 1 size.rows && nat_le size.rows 255 && nat_le 2 size.cols && nat_le size.cols 255 && nat_le (cells_of size) (limit_of mode)
 
 -- the number that decimal digits spell, the first of them 1 to 9; it is below 2 ^ 16
 unfoldable pub number_of : List ℕ → Option ℕ

@@ -2,8 +2,8 @@
 
 ghost use Rattle.std.specs.Prelude.{◌≡◌, IfSome};
 ghost use Rattle.ds_codec.specs.declared.size.Size.{Size};
-ghost use Rattle.ds_codec.specs.Geometry.{IsGood};
-ghost use Rattle.scr_layout.specs.SizeText.{is_good, number_of, size_of_text, size_text};
+ghost use Rattle.ds_codec.specs.Geometry.{IsGood, is_good};
+ghost use Rattle.scr_layout.specs.SizeText.{number_of, size_of_text, size_text};
 
 use ds_codec::{Geometry, Mode, Size};
 

@@ -11,11 +11,11 @@ use Rattle.term_commands.specs.declared.fault.Fault.{Fault}
 use Rattle.term_commands.specs.declared.fault.Fault.TheVariants.{TooLong}
 use Rattle.term_commands.specs.Keys.{KeyLine, key_told, after_key_line, take_key}
 use Rattle.term_commands.specs.Keys as keys
-use Rattle.term_commands.specs.Says.{is_good, key_of_line, NameKeys, KeysAreNamed}
+use Rattle.term_commands.specs.Says.{is_no_fault, key_of_line, NameKeys, KeysAreNamed}
 use Rattle.term_commands.specs.Taking.{taken}
 
 abbrev good_line : List ℕ → Bool
-good_line line = is_good (key_told line)
+good_line line = is_no_fault (key_told line)
 
 abbrev key_in : List ℕ → List Key
 key_in line = key_of_line (key_told line)
@@ -68,7 +68,7 @@ told_again (line ∷ lines) number before good few =
     let both = both_true (good_line line) (list_all good_line lines) good in
     let others : List Key = flat_map key_in lines in
     let all : flat_map key_in (line ∷ lines) ≡ key_of_line (key_told line) ++ others = flat_map-cons key_in line lines in
-    elim (key_told line) as (λ k. is_good k ≡ true → flat_map key_in (line ∷ lines) ≡ key_of_line k ++ others
+    elim (key_told line) as (λ k. is_no_fault k ≡ true → flat_map key_in (line ∷ lines) ≡ key_of_line k ++ others
     → (after_key_line number before k >>= λ next. taken take_key (number + 1) next lines) ≡ Ok (before ++ flat_map key_in (line ∷ lines))) [
       | keys.ignored ↦ λ fine is. rw is (told_again lines (number + 1) before both.1 (rw is at few))
       | keys.named key ↦ λ fine is.

@@ -32,10 +32,11 @@ TellsFirstFault take none =
 
 -- ---- keys
 
-abbrev pub is_good : KeyLine → Bool
-is_good keys.bad = false
-is_good (keys.named key) = true
-is_good keys.ignored = true
+-- a line that names a key, or is ignored
+abbrev pub is_no_fault : KeyLine → Bool
+is_no_fault keys.bad = false
+is_no_fault (keys.named key) = true
+is_no_fault keys.ignored = true
 
 abbrev pub key_of_line : KeyLine → List Key
 key_of_line keys.bad = []
@@ -44,7 +45,7 @@ key_of_line keys.ignored = []
 
 -- No line is bad, and the keys are those that lines name, in the order of the lines: at most 100,000.
 pub record NameKeys (lines : List (List ℕ)) (told : List Key) : Type 0 where
-  pub good : list_all (λ line. is_good (key_told line)) lines ≡ true
+  pub good : list_all (λ line. is_no_fault (key_told line)) lines ≡ true
   pub keys : told ≡ flat_map (λ line. key_of_line (key_told line)) lines
   pub few : length told ≤ 100000
 

@@ -2,7 +2,10 @@
 
 use super::{FORM, SMALL, WRAPPED, field, new_screen, screen_after};
 use ds_codec::Attr;
-use ds_screen::FieldAt;
+use ds_screen::{
+    FieldAt, distance_is_least, each_write_has_an_effect, nearest_attribute_governs, one_effect,
+    open_is_unprotected, records_stay_sound, refused_at_the_least,
+};
 use std::test::Fail;
 
 #[test]
@@ -114,4 +117,16 @@ fn attributes_are_set(rt: HostRuntime) -> Result<(), Fail> {
         }
     }
     Ok(())
+}
+
+#[test]
+fn laws_do_nothing(rt: HostRuntime) {
+    one_effect();
+    records_stay_sound();
+    each_write_has_an_effect();
+    refused_at_the_least();
+    nearest_attribute_governs();
+    open_is_unprotected();
+    distance_is_least();
+    let _ = rt;
 }

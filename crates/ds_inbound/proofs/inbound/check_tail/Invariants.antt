@@ -1,5 +1,6 @@
 use Rattle.std.proofs.Common.{◌≡◌, ◌+◌, length}
-use Rattle.ds_inbound.specs.Reading.{tail_from, refusal_in}
+use Rattle.ds_codec.specs.Reading.{refusal_in}
+use Rattle.ds_inbound.specs.Reading.{tail_from}
 use Rattle.ds_inbound.proofs.inbound.check_tail.Given as goal
 
 abbrev pub invariant-items : goal.invariant-items

@@ -1,4 +1,4 @@
-use Rattle.ds_inbound.proofs.Sent.{field_place, field_length, field_bytes, field_sendable}
+use Rattle.ds_inbound.proofs.Sent.{field_place, field_length, field_bytes}
 use Rattle.ds_inbound.proofs.write.push_field.Goals as goal
 
 pub push_address-requires : goal.push_address-requires
@@ -10,9 +10,6 @@ push_run-requires-clause-inside g c = field_place c.args.screen.now.cells c.args
 pub push_run-requires-clause-few : goal.push_run-requires-clause-few
 push_run-requires-clause-few g c = field_length c.args.screen.now.cells c.args.field.now c.requires
 
-pub returns-clause-written : goal.returns-clause-written
-returns-clause-written g c =
-    field_bytes c.args.screen.now.geometry.mode c.args.screen.now.cells c.args.field.now c.args.out.now.items _ _ _ c.requires (rw c.byte.ensures at c.in_ok-push.ensures.items) c.in_ok-push_address.ensures c.in_ok-push_run.ensures.written
-
-pub returns-clause-sendable : goal.returns-clause-sendable
-returns-clause-sendable g c = field_sendable c.args.screen.now.cells c.args.field.now c.requires c.in_ok-push_run.ensures.sendable
+pub returns : goal.returns
+returns g c =
+    field_bytes c.args.screen.now.geometry.mode c.args.screen.now.cells c.args.field.now c.args.out.now.items _ _ _ c.requires (rw c.byte.ensures at c.in_ok-push.ensures.items) c.in_ok-push_address.ensures c.in_ok-push_run.ensures

@@ -1,11 +1,9 @@
 use Rattle.std.proofs.Common.{◌≡◌, ◌++◌, ◌∷◌, [], length, sym, ◌∙◌, ap, subst}
-use Rattle.std.specs.List.{list_all}
 use Rattle.std.proofs.lemmas.List.{append-nil}
 use Rattle.ds_screen.specs.Fields.{fields_of}
 use Rattle.ds_screen.specs.declared.field.FieldAt.{FieldAt}
 use Rattle.ds_inbound.specs.Answer.{field_sent, written_fields}
-use Rattle.ds_inbound.specs.Sending.{is_field_sendable}
-use Rattle.ds_inbound.proofs.Sent.{sent_among, AreFieldsOf, sent_all, all_fields, sent_more, sent_less, sent_none, fields_bytes, fields_good}
+use Rattle.ds_inbound.proofs.Sent.{sent_among, AreFieldsOf, sent_all, all_fields, sent_more, sent_less, sent_none, fields_bytes}
 use Rattle.ds_inbound.proofs.write.push_fields.Goals as goal
 
 pub fields-init : goal.fields-init
@@ -15,7 +13,6 @@ fields-init g c =
     let sent = ap (sent_among v.cells) same ∙ sent_all v.cells in
     record {
       written = ap (λ ss. c.args.out.now.items ++ written_fields v.geometry.mode (length v.cells) ss) sent;
-      sendable = λ good. ap (list_all (is_field_sendable (length v.cells))) (sym sent) ∙ good;
       fields = subst (AreFieldsOf v.cells) (sym same) (all_fields v.cells);
     }
 
@@ -28,8 +25,7 @@ fields-preserved-in-Continue-1 g c =
     let more : sent_among v.cells c.fields.field-iterator ≡ field_sent v.cells field.at ∷ sent_among v.cells c.next.new.self =
     ap (sent_among v.cells) split ∙ sent_more v.cells field c.next.new.self there.0 (sym c.if-modified.ensures) in
     record {
-      written = fields_bytes v.geometry.mode (length v.cells) c.fields.out.items _ (field_sent v.cells field.at) _ _ c.in_ok-push_field.ensures.written more ∙ c.fields.invariant.written;
-      sendable = λ good. c.fields.invariant.sendable (fields_good (length v.cells) (field_sent v.cells field.at) _ _ c.in_ok-push_field.ensures.sendable good more);
+      written = fields_bytes v.geometry.mode (length v.cells) c.fields.out.items _ (field_sent v.cells field.at) _ _ c.in_ok-push_field.ensures more ∙ c.fields.invariant.written;
       fields = there.1;
     }
 
@@ -43,18 +39,11 @@ fields-preserved g c =
     ap (sent_among v.cells) split ∙ sent_less v.cells field c.next.new.self there.0 (sym c.if-modified.ensures) in
     record {
       written = ap (λ ss. c.fields.out.items ++ written_fields v.geometry.mode (length v.cells) ss) (sym less) ∙ c.fields.invariant.written;
-      sendable = λ good. c.fields.invariant.sendable (ap (list_all (is_field_sendable (length v.cells))) less ∙ good);
       fields = there.1;
     }
 
-pub returns-clause-written : goal.returns-clause-written
-returns-clause-written g c =
+pub returns : goal.returns
+returns g c =
     let v = c.args.screen.now in
     let none : sent_among v.cells c.fields.field-iterator ≡ [] = ap (sent_among v.cells) c.in-None.ensures.steps.0 ∙ sent_none v.cells in
     sym (append-nil c.fields.out.items) ∙ ap (λ ss. c.fields.out.items ++ written_fields v.geometry.mode (length v.cells) ss) (sym none) ∙ c.fields.invariant.written
-
-pub returns-clause-sendable : goal.returns-clause-sendable
-returns-clause-sendable g c =
-    let v = c.args.screen.now in
-    let none : sent_among v.cells c.fields.field-iterator ≡ [] = ap (sent_among v.cells) c.in-None.ensures.steps.0 ∙ sent_none v.cells in
-    c.fields.invariant.sendable (ap (list_all (is_field_sendable (length v.cells))) none)

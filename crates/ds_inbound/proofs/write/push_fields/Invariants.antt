@@ -1,8 +1,6 @@
-use Rattle.std.proofs.Common.{◌≡◌, ◌++◌, true, length}
-use Rattle.std.specs.List.{list_all}
+use Rattle.std.proofs.Common.{◌≡◌, ◌++◌, length}
 use Rattle.ds_screen.specs.Fields.{attributes_from}
 use Rattle.ds_inbound.specs.Answer.{fields_sent, written_fields}
-use Rattle.ds_inbound.specs.Sending.{is_field_sendable}
 use Rattle.ds_inbound.proofs.Sent.{sent_among, AreFieldsOf}
 use Rattle.ds_inbound.proofs.write.push_fields.Given as goal
 
@@ -14,6 +12,5 @@ invariant-fields g l =
     record {
       written : l.out.items ++ written_fields l.screen.geometry.mode (length cells) (sent_among cells l.field-iterator)
           ≡ l.fn.out.items ++ written_fields l.screen.geometry.mode (length cells) all;
-      sendable : list_all (is_field_sendable (length cells)) (sent_among cells l.field-iterator) ≡ true → list_all (is_field_sendable (length cells)) all ≡ true;
       fields : AreFieldsOf cells l.field-iterator;
     }

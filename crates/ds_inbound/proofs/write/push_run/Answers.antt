@@ -3,9 +3,8 @@ use Rattle.ds_codec.specs.Geometry.{cells_of}
 use Rattle.ds_screen.specs.Ring.{ring_on}
 use Rattle.ds_screen.proofs.RingLaws.{on-zero, on_more}
 use Rattle.ds_inbound.specs.Answer.{characters_at}
-use Rattle.ds_inbound.specs.Inbound.{is_sendable}
 use Rattle.ds_inbound.specs.Sending.{sent_in, places_on}
-use Rattle.ds_inbound.proofs.Sent.{run_start, run_sendable, run_more, run_bytes, all_more}
+use Rattle.ds_inbound.proofs.Sent.{run_start, run_more, run_bytes}
 use Rattle.ds_inbound.proofs.write.push_run.Goals as goal
 
 pub places-init : goal.places-init
@@ -15,7 +14,6 @@ places-init g c =
       here = sym (on-zero (length cells) c.args.place c.requires.inside);
       inside = c.requires.inside;
       written = run_start cells (length cells) c.args.place c.args.out.now.items;
-      sendable = run_sendable cells (length cells) c.args.place;
     }
 
 pub places-preserved : goal.places-preserved
@@ -30,6 +28,5 @@ places-preserved g c =
     record {
       here = c.next-p.ensures.on ∙ ap (λ m. ring_on m c.places.p 1) n_is ∙ ap (λ q. ring_on n q 1) c.places.invariant.here ∙ on_more n c.args.place c.places.steps c.requires.inside few;
       inside = omega (arith, c.next-p.ensures.inside, n_is);
-      written = run_bytes c.args.out.now.items c.places.out.items c.push_sent.new.out.items so_far (sent_in c.cell.result) all c.places.invariant.written c.in_ok-push_sent.ensures.written more;
-      sendable = all_more is_sendable so_far (sent_in c.cell.result) all c.places.invariant.sendable c.in_ok-push_sent.ensures.sendable more;
+      written = run_bytes c.args.out.now.items c.places.out.items c.push_sent.new.out.items so_far (sent_in c.cell.result) all c.places.invariant.written c.in_ok-push_sent.ensures more;
     }

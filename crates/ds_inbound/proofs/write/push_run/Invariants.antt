@@ -1,8 +1,6 @@
-use Rattle.std.proofs.Common.{◌≡◌, ◌++◌, ◌<◌, true, length}
-use Rattle.std.specs.List.{list_all}
+use Rattle.std.proofs.Common.{◌≡◌, ◌++◌, ◌<◌, length}
 use Rattle.ds_screen.specs.Ring.{ring_on}
 use Rattle.ds_inbound.specs.Answer.{characters_at, written_characters}
-use Rattle.ds_inbound.specs.Inbound.{is_sendable}
 use Rattle.ds_inbound.specs.Sending.{places_on}
 use Rattle.ds_inbound.proofs.write.push_run.Given as goal
 
@@ -14,5 +12,4 @@ invariant-places g l =
       here : l.p ≡ ring_on (length cells) l.place l.steps;
       inside : l.p < length cells;
       written : l.out.items ≡ l.fn.out.items ++ written_characters sent;
-      sendable : list_all is_sendable sent ≡ true;
     }

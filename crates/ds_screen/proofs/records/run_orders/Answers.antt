@@ -43,3 +43,9 @@ returns-clause-done g c =
     let before : Writing = writing (g.C.Cells.content c.orders.cells) c.orders.state in
     let none : c.orders.placed-iterator ≡ [] = c.in-None.ensures.steps.0 in
     sym c.orders.invariant.rest ∙ ap (λ sites. acts sites before) none ∙ acts_end before
+
+pub returns-in-Err-clause-characters : goal.returns-in-Err-clause-characters
+returns-in-Err-clause-characters g c = orders_characters c.args.outbound.now.orders c.orders-placed-items.ensures.spelled
+
+pub returns-clause-characters : goal.returns-clause-characters
+returns-clause-characters g c = orders_characters c.args.outbound.now.orders c.orders-placed-items.ensures.spelled

@@ -1,5 +1,6 @@
 use Rattle.std.proofs.Common.{◌∙◌}
 use Rattle.ds_codec.proofs.Records.{is_spelled, is_refused, read_again, read_refused}
+use Rattle.ds_codec.proofs.Laid.{is_laid}
 use Rattle.ds_codec.proofs.record.Record.read.Goals as goal
 
 pub returns-clause-spelled : goal.returns-clause-spelled
@@ -13,3 +14,6 @@ returns-clause-refused c = is_refused c.args.mode c.args.bytes.now c.read_all.re
 
 pub returns-clause-refused_only : goal.returns-clause-refused_only
 returns-clause-refused_only c = λ at why refused. c.read_all.ensures ∙ read_refused c.args.mode c.args.bytes.now at why refused
+
+pub returns-clause-laid : goal.returns-clause-laid
+returns-clause-laid c = is_laid c.args.mode c.args.bytes.now c.read_all.result c.read_all.ensures

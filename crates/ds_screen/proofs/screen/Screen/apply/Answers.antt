@@ -1,10 +1,11 @@
-use Rattle.std.proofs.Common.{◌∙◌, ap}
+use Rattle.std.proofs.Common.{rules, ◌∙◌, ap, subst}
 use Rattle.std.proofs.lemmas.Result.{err_from_is_err_and}
-use Rattle.ds_screen.specs.Picture.{Picture}
+use Rattle.ds_screen.specs.Picture.{Picture, IsSound}
 use Rattle.ds_screen.specs.Orders.{Writing}
 use Rattle.ds_screen.specs.Kept.{Start, picture}
 use Rattle.ds_screen.specs.State.{writing}
 use Rattle.ds_screen.proofs.ShowLaws.{clear_shows, read_refused, order_refused, write_shows, write_ends, based}
+use Rattle.ds_screen.proofs.SoundLaws.{shown_sound}
 use Rattle.ds_screen.proofs.screen.Screen.apply.Goals as goal
 
 pub returns-in_default-prepare-clause-refused : goal.returns-in_default-prepare-clause-refused
@@ -35,3 +36,12 @@ returns-clause-shows g c =
     c.args.self.now c.args.outbound.now c.command-command.result start w after c.self.view_is c.command-command.ensures c.in-Some.ensures.start c.in_ok-end.ensures.done
     (ap (λ x. picture c.self.inside.geometry c.in-Some.base.size (g.C.Cells.content x) c.in_ok-end.end.cursor c.lock_after-self-inside.result c.aid_after-self-inside.result) c.swap.ensures.x_after
     ∙ write_ends start.wcc (based before start) w c.lock_after-self-inside.result c.aid_after-self-inside.result c.lock_after-self-inside.ensures c.aid_after-self-inside.ensures)
+
+pub invariant_of-self-2 : goal.invariant_of-self-2
+invariant_of-self-2 g c =
+    let after : Picture = picture c.self.inside.geometry c.in-Some.base.size (g.C.Cells.content c.swap.new.x) c.in_ok-end.end.cursor c.lock_after-self-inside.result c.aid_after-self-inside.result in
+    let sound : IsSound c.args.self.now = subst IsSound c.self.view_is c.self.invariant.0 in (
+      shown_sound c.args.self.now after c.args.outbound.now.command c.args.outbound.now.orders c.in_ok-end.ensures.characters sound (returns-clause-shows g c),
+      search rules,
+      search rules,
+    )
