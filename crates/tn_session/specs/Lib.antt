@@ -9,3 +9,6 @@ pub mod Terminal
 pub mod Host
 pub mod Steps
 pub mod Pair
+pub mod Sent
+pub mod Runs
+pub mod TerminalLog

@@ -5,6 +5,7 @@
 #![tactic(auto)]
 
 mod device;
+mod fault;
 mod heard;
 mod host;
 mod laws;
@@ -12,7 +13,9 @@ mod option;
 mod reply;
 mod session;
 mod terminal;
+mod terminal_state;
 
+pub use fault::RunFault;
 pub use device::{Device, DeviceName, ScreenModel};
 pub use host::HostCore;
 pub use laws::{delivery_law, pair_law, reply_law};
