@@ -4,3 +4,4 @@ pub mod PairWords
 pub mod PairStages
 pub mod PairLaws
 pub mod ReplyLaws
+pub mod Walks

@@ -12,3 +12,4 @@ pub mod Pair
 pub mod Sent
 pub mod Runs
 pub mod TerminalLog
+pub mod Wire

@@ -7,17 +7,22 @@
 mod device;
 mod fault;
 mod heard;
+mod history;
 mod host;
 mod laws;
 mod option;
 mod reply;
 mod session;
+mod stop;
 mod terminal;
 mod terminal_state;
+mod wire;
 
 pub use fault::RunFault;
 pub use device::{Device, DeviceName, ScreenModel};
 pub use host::HostCore;
 pub use laws::{delivery_law, pair_law, reply_law};
 pub use session::{Agreed, Out, SessionFault, Told};
+pub use stop::Stop;
 pub use terminal::TermCore;
+pub use wire::Wire;
