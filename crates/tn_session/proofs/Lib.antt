@@ -5,3 +5,4 @@ pub mod PairStages
 pub mod PairLaws
 pub mod ReplyLaws
 pub mod Walks
+pub mod RunLaws

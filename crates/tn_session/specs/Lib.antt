@@ -13,3 +13,4 @@ pub mod Sent
 pub mod Runs
 pub mod TerminalLog
 pub mod Wire
+pub mod Ran

@@ -32,7 +32,7 @@ log_on due (finishes state) later = finished due state
 log_on due (fails why) later = record { due = due; course = fails why }
 
 -- the log of a run in this state, over events
-pub log_of : {State : Type 0} → (State → Told → Log State) → State → List Told → Log State
+abbrev pub log_of : {State : Type 0} → (State → Told → Log State) → State → List Told → Log State
 log_of act state [] = going [] state
 log_of act state (event ∷ events) = log_on (act state event).due (act state event).course (λ next. log_of act next events)
 
@@ -64,8 +64,8 @@ pub record EndsAtFault {State : Type 0} (act : State → Told → Log State) (be
   pub faults : Faults (before ++ used) events fault
   pub log : log_of act state events ≡ going due next
 
--- What was sent is a front of what is due at some front of the bytes.
-pub record IsPartDue {State : Type 0} (act : State → Told → Log State) (before : List ℕ) (state : State) (bytes sent : List ℕ) : Type 0 where
+-- What was sent is a front of what is due at some front of the bytes, after an opening.
+pub record IsPartDue {State : Type 0} (act : State → Told → Log State) (opening before : List ℕ) (state : State) (bytes sent : List ℕ) : Type 0 where
   pub used : List ℕ
   pub more : List ℕ
   pub events : List Told
@@ -73,4 +73,4 @@ pub record IsPartDue {State : Type 0} (act : State → Told → Log State) (befo
   pub lost : List ℕ
   pub front : bytes ≡ used ++ more
   pub tells : Tells (before ++ used) events left
-  pub part : (log_of act state events).due ≡ sent ++ lost
+  pub part : opening ++ (log_of act state events).due ≡ sent ++ lost

@@ -10,12 +10,15 @@ mod heard;
 mod history;
 mod host;
 mod laws;
+mod machine;
 mod option;
 mod reply;
+mod run;
 mod session;
 mod stop;
 mod terminal;
 mod terminal_state;
+mod turn;
 mod wire;
 
 pub use fault::RunFault;
