@@ -6,3 +6,4 @@ pub mod PairLaws
 pub mod ReplyLaws
 pub mod Walks
 pub mod RunLaws
+pub mod RunStates
