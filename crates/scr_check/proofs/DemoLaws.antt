@@ -16,7 +16,7 @@ use Rattle.ds_screen.specs.Fields.{is_attribute, bits_of, governs, span_of, fiel
 use Rattle.ds_keys.specs.declared.key.Key.{Key}
 use Rattle.ds_keys.specs.declared.key.Key.TheVariants.{Typed, Right, Attention}
 use Rattle.ds_keys.specs.KeyRuns as keyed
-use Rattle.ds_keys.specs.Touched.{clears_nothing, IsTouched}
+use Rattle.ds_keys.specs.Touched.{IsTouched}
 use Rattle.ds_keys.specs.Laws.{Keeps}
 use Rattle.ds_keys.proofs.CellLaws.{same_kind, same_governs, keeps_same}
 use Rattle.ds_keys.proofs.TouchLaws.{touched_law}
@@ -53,11 +53,38 @@ sent_there cells q inside there modified =
     (in_filter (is_modified_at cells) q (attributes_from cells 0) modified
     (in_filter (λ p. is_attribute (cell_at cells p)) q (range_with_len 0 (length cells - 0)) there all))
 
+-- where a field is modified after keys of which none sends, a promise of these keys says that it is declared
+declared_after : (layout : Declaration) (v w : Picture) (keys : List Key) (q : ℕ) → keyed.is_quiet v keys ≡ true → keyed.after v keys ≡ w → w.lock ≡ Free
+    → is_attribute (cell_at v.cells q) ≡ true → is_modified (bits_of (cell_at w.cells q)) ≡ true → Promise layout v keys → IsDeclaredField layout.entries v.cells w.cells q
+unfolding is_long_aid
+declared_after layout v w keys q quiet comes free there modified p =
+    let sends = p.sends 0x7D refl (ap (λ (x : Picture). x.lock) comes ∙ free) in
+    let touched : IsTouched v keys q = (touched_law v keys q quiet there).0 (ap (λ (x : Picture). is_modified (bits_of (cell_at x.cells q))) comes ∙ modified) in
+    subst (λ (x : Picture). IsDeclaredField layout.entries v.cells x.cells q) comes (sends.declared q ((sends.touched.exactly q).1 (there, touched)))
+
+not_declared : (entries : List Declared) (before after : List Cell) (q : ℕ) → IsUnfit entries (field_sent after q) → IsDeclaredField entries before after q → ⊥
+not_declared entries before after q (inl none) d = none_some d.index (sym none ∙ d.here)
+not_declared entries before after q (inr (index, entry, found, there, long)) d =
+    let same : d.index ≡ index = some_same d.index index (sym d.here ∙ found) in
+    let one : d.entry ≡ entry = some_same d.entry entry (sym d.declared ∙ ap (slice_get entries) same ∙ there) in
+    let short : length (field_sent after q).characters ≤ entry.length = subst (λ (e : Declared). length (field_sent after q).characters ≤ e.length) one d.short in
+    omega (arith, short, long)
+
+-- so keys that leave an unfit field break it
+unfit_breaks : (layout : Declaration) (v w : Picture) (keys : List Key) (q : ℕ) → keyed.is_quiet v keys ≡ true → keyed.after v keys ≡ w → w.lock ≡ Free
+    → is_attribute (cell_at v.cells q) ≡ true → is_modified (bits_of (cell_at w.cells q)) ≡ true → IsUnfit layout.entries (field_sent w.cells q) → BreaksPromise layout v
+unfit_breaks layout v w keys q quiet comes free there modified unfit =
+    record {
+      keys = keys;
+      quiet = quiet;
+      broken = λ p. not_declared layout.entries v.cells w.cells q unfit (declared_after layout v w keys q quiet comes free there modified p);
+    }
+
 -- where the keys but the last lead to w, and a field of w is unfit, the demo shows it
 shows : (layout : Declaration) (v w : Picture) (demo : Demo) (q : ℕ) → keyed.are_accepted v (demo_keys demo) ≡ keyed.are_accepted w (Attention 0x7D ∷ [])
     → keyed.after v (demo_keys demo) ≡ keyed.after w (Attention 0x7D ∷ []) → w.lock ≡ Free → q < length w.cells → is_attribute (cell_at w.cells q) ≡ true
-    → is_modified (bits_of (cell_at w.cells q)) ≡ true → IsUnfit layout.entries (field_sent w.cells q) → DemoShows layout v demo
-shows layout v w demo q takes comes free inside there modified unfit =
+    → is_modified (bits_of (cell_at w.cells q)) ≡ true → IsUnfit layout.entries (field_sent w.cells q) → BreaksPromise layout v → DemoShows layout v demo
+shows layout v w demo q takes comes free inside there modified unfit breaks =
     let is = sent_there w.cells q inside there modified in
     let fields : (demo_answer v demo).fields ≡ fields_sent w.cells (attributes_from w.cells 0) =
     ap (λ (x : Picture). (inbound.answer_of x false).fields) (comes ∙ enter_after w free) ∙ entered_fields w in
@@ -67,57 +94,78 @@ shows layout v w demo q takes comes free inside there modified unfit =
       field = field_sent w.cells q;
       there = ap (λ fs. slice_get fs is.0) fields ∙ is.1;
       unfit = unfit;
+      breaks = breaks;
     }
 
--- ---- Enter alone
+-- ---- a field that is modified before any key
+pub modified_breaks : (layout : Declaration) (v : Picture) (q : ℕ) → v.lock ≡ Free → is_attribute (cell_at v.cells q) ≡ true
+    → is_modified (bits_of (cell_at v.cells q)) ≡ true → entry_at layout.entries (field_at v.cells q).place ≡ None → BreaksPromise layout v
+unfolding field_sent keyed.after keyed.is_quiet
+modified_breaks layout v q free there modified none = unfit_breaks layout v v [] q refl refl free there modified (inl none)
+
 pub fixed_shown : (layout : Declaration) (v : Picture) (q : ℕ) → v.lock ≡ Free → q < length v.cells → is_attribute (cell_at v.cells q) ≡ true
     → is_modified (bits_of (cell_at v.cells q)) ≡ true → entry_at layout.entries (field_at v.cells q).place ≡ None → DemoShows layout v no_keys
 unfolding field_sent
-fixed_shown layout v q free inside there modified none = shows layout v v no_keys q refl refl free inside there modified (inl none)
+fixed_shown layout v q free inside there modified none =
+    shows layout v v no_keys q refl refl free inside there modified (inl none) (modified_breaks layout v q free there modified none)
 
 -- ---- characters typed into a field
 pub cursor_lt : (v : Picture) → IsSound v → v.cursor < length v.cells
 cursor_lt v s = let P : ℕ → Type 0 = λ n. v.cursor < n in subst P (sym s.whole) s.cursor_inside
 
--- a picture that the keys but the last lead to
-record Filled (v : Picture) (q types : ℕ) : Type 0 where
-  last : Picture
-  takes : keyed.are_accepted v (demo_keys (demo_at v (field_at v.cells q) types)) ≡ keyed.are_accepted last (Attention 0x7D ∷ [])
-  comes : keyed.after v (demo_keys (demo_at v (field_at v.cells q) types)) ≡ keyed.after last (Attention 0x7D ∷ [])
-  is : IsTyped v.cells q 0xC1 types last
+-- Right to the field's first cell, then this character so many times, then other keys
+abbrev filling_keys : Picture → ℕ → ℕ → ℕ → List Key → List Key
+filling_keys v q code types rest = replicate (ring_distance (length v.cells) v.cursor (place_of v.cells q)) Right ++ (replicate types (Typed code) ++ rest)
 
-fills : (v : Picture) (q types : ℕ) → IsSound v → v.lock ≡ Free → IsInput v.cells q → types ≤ length (span_of v.cells q) → Filled v q types
-fills v q types sound free input few =
+-- a picture that these keys lead to
+record Filled (v : Picture) (q code types : ℕ) : Type 0 where
+  last : Picture
+  comes : (rest : List Key) → keyed.after v (filling_keys v q code types rest) ≡ keyed.after last rest
+  takes : (rest : List Key) → keyed.are_accepted v (filling_keys v q code types rest) ≡ keyed.are_accepted last rest
+  quiet : (rest : List Key) → keyed.is_quiet v (filling_keys v q code types rest) ≡ keyed.is_quiet last rest
+  is : IsTyped v.cells q code types last
+
+fills : (v : Picture) (q code types : ℕ) → IsSound v → v.lock ≡ Free → IsInput v.cells q → is_graphic code ≡ true → types ≤ length (span_of v.cells q) → Filled v q code types
+fills v q code types sound free input graphic few =
     let place : ℕ = place_of v.cells q in
     let start : Picture = record v { cursor = place } in
+    let rights : List Key = replicate (ring_distance (length v.cells) v.cursor place) Right in
     let goes = place_run v place free (cursor_lt v sound) (place_lt v.cells q input.inside) in
-    let to : TypesTo v.cells q 0xC1 0 types start = types_run types v.cells q 0xC1 0 start input refl (typed_none v q 0xC1 free input) (omega arith) in
-    let both = runs_on v start to.last (replicate (ring_distance (length v.cells) v.cursor place) Right) (replicate types (Typed 0xC1)) goes to.runs (Attention 0x7D ∷ []) in
+    let to : TypesTo v.cells q code 0 types start = types_run types v.cells q code 0 start input graphic (typed_none v q code free input) (omega arith) in
     let count : 0 + types ≡ types = omega arith in
-    record { last = to.last; takes = both.1.0; comes = both.0; is = subst (λ k. IsTyped v.cells q 0xC1 k to.last) count to.is }
+    record {
+      last = to.last;
+      comes = λ rest. (runs_on v start to.last rights (replicate types (Typed code)) goes to.runs rest).0;
+      takes = λ rest. (runs_on v start to.last rights (replicate types (Typed code)) goes to.runs rest).1.0;
+      quiet = λ rest. (runs_on v start to.last rights (replicate types (Typed code)) goes to.runs rest).1.1;
+      is = subst (λ k. IsTyped v.cells q code k to.last) count to.is;
+    }
 
 sent_place : (before after : List Cell) (q : ℕ) → length after ≡ length before → (field_sent after q).place ≡ (field_at before q).place
 unfolding field_sent
 sent_place before after q len = ap (λ n. ring_on n q 1) len
 
 -- the attribute at q in the filled picture
-filled_inside : (v : Picture) (q types : ℕ) (w : Picture) → IsInput v.cells q → IsTyped v.cells q 0xC1 types w → q < length w.cells
-filled_inside v q types w input is = let P : ℕ → Type 0 = λ n. q < n in subst P (sym is.keeps.whole) input.inside
+filled_inside : (v : Picture) (q code types : ℕ) (w : Picture) → IsInput v.cells q → IsTyped v.cells q code types w → q < length w.cells
+filled_inside v q code types w input is = let P : ℕ → Type 0 = λ n. q < n in subst P (sym is.keeps.whole) input.inside
 
 -- a demo that fills an input shows it, where what is sent then is unfit
-filled_shown : (layout : Declaration) (v : Picture) (q types : ℕ) → 0 < types → IsInput v.cells q → (filled : Filled v q types)
+filled_shown : (layout : Declaration) (v : Picture) (q types : ℕ) → 0 < types → IsInput v.cells q → (filled : Filled v q 0xC1 types)
     → IsUnfit layout.entries (field_sent filled.last.cells q) → DemoShows layout v (demo_at v (field_at v.cells q) types)
+unfolding keyed.after keyed.is_quiet
 filled_shown layout v q types some input filled unfit =
     let w : Picture = filled.last in
     let is : IsTyped v.cells q 0xC1 types w = filled.is in
-    shows layout v w (demo_at v (field_at v.cells q) types) q filled.takes filled.comes is.free (filled_inside v q types w input is)
-    (same_kind v.cells w.cells q is.keeps ∙ input.there) (is.modified some) unfit
+    let modified : is_modified (bits_of (cell_at w.cells q)) ≡ true = is.modified some in
+    shows layout v w (demo_at v (field_at v.cells q) types) q (filled.takes (Attention 0x7D ∷ [])) (filled.comes (Attention 0x7D ∷ [])) is.free
+    (filled_inside v q 0xC1 types w input is) (same_kind v.cells w.cells q is.keeps ∙ input.there) modified unfit
+    (unfit_breaks layout v w (filling_keys v q 0xC1 types []) q (filled.quiet []) (filled.comes []) is.free input.there modified unfit)
 
 -- ---- an input without an entry
 pub undeclared_shown : (layout : Declaration) (v : Picture) (q : ℕ) → IsSound v → v.lock ≡ Free → IsInput v.cells q → 0 < length (span_of v.cells q)
     → entry_at layout.entries (field_at v.cells q).place ≡ None → DemoShows layout v (demo_at v (field_at v.cells q) 1)
 undeclared_shown layout v q sound free input some none =
-    let filled : Filled v q 1 = fills v q 1 sound free input (omega arith) in
+    let filled : Filled v q 0xC1 1 = fills v q 0xC1 1 sound free input refl (omega arith) in
     filled_shown layout v q 1 (omega arith) input filled
     (inl (ap (entry_at layout.entries) (sent_place v.cells filled.last.cells q filled.is.keeps.whole) ∙ none))
 
@@ -146,7 +194,7 @@ pub long_shown : (layout : Declaration) (v : Picture) (q index : ℕ) (entry : D
     → entry_at layout.entries (field_at v.cells q).place ≡ Some index → slice_get layout.entries index ≡ Some entry → entry.length < length (span_of v.cells q)
     → DemoShows layout v (demo_at v (field_at v.cells q) (length (span_of v.cells q)))
 long_shown layout v q index entry sound free input some found declared long =
-    let filled : Filled v q (length (span_of v.cells q)) = fills v q (length (span_of v.cells q)) sound free input (omega arith) in
+    let filled : Filled v q 0xC1 (length (span_of v.cells q)) = fills v q 0xC1 (length (span_of v.cells q)) sound free input refl (omega arith) in
     let full : length (field_sent filled.last.cells q).characters ≡ length (span_of v.cells q) = full_field v.cells q filled.last input filled.is in
     filled_shown layout v q (length (span_of v.cells q)) some input filled
     (inr (
@@ -156,24 +204,6 @@ long_shown layout v q index entry sound free input some found declared long =
       declared,
       let P : ℕ → Type 0 = λ n. entry.length < n in subst P (sym full) long,
     ))
-
--- ---- a field without cells that comes modified
-none_found : (index : ℕ) (o : Option ℕ) → o ≡ None → o ≡ Some index → ⊥
-none_found index o none some = none_some index (sym none ∙ some)
-
-pub empty_breaks : (layout : Declaration) (v : Picture) (q : ℕ) → v.lock ≡ Free → is_attribute (cell_at v.cells q) ≡ true
-    → is_modified (bits_of (cell_at v.cells q)) ≡ true → entry_at layout.entries (field_at v.cells q).place ≡ None → BreaksPromise layout v
-unfolding keyed.after keyed.is_quiet clears_nothing is_long_aid
-empty_breaks layout v q free there modified none =
-    record {
-      keys = [];
-      quiet = refl;
-      broken = λ p.
-          let sends = p.sends 0x7D refl free in
-          let among = (sends.touched.exactly q).1 (there, inl (record { modified = modified; lasts = inr refl })) in
-          let field = sends.declared q among in
-          none_found field.index _ none (ap (entry_at layout.entries) (sym (sent_place v.cells v.cells q refl)) ∙ field.here);
-    }
 
 -- ---- a fixed entry on an unprotected field
 -- a character that the cell doesn't hold
@@ -240,26 +270,6 @@ typed_differs cells q m code w count input is some apart same =
     ∙ ap (λ cs. cond (not (is_null (glyph code false))) (glyph code false ∷ cs) cs) rest in
     first_differs (character_of (cell_at cells (nth_of cells q 0))) (glyph code false) others some apart (sym first ∙ sym now ∙ same ∙ was)
 
--- Right to the field's first cell, and one character
-abbrev breaking_keys : Picture → ℕ → ℕ → List Key
-breaking_keys v q code = replicate (ring_distance (length v.cells) v.cursor (place_of v.cells q)) Right ++ (replicate 1 (Typed code) ++ [])
-
-record Broken (v : Picture) (q code : ℕ) : Type 0 where
-  last : Picture
-  quiet : keyed.is_quiet v (breaking_keys v q code) ≡ true
-  comes : keyed.after v (breaking_keys v q code) ≡ last
-  is : IsTyped v.cells q code 1 last
-
-breaks_field : (v : Picture) (q code : ℕ) → IsSound v → v.lock ≡ Free → IsInput v.cells q → is_graphic code ≡ true → 0 < length (span_of v.cells q) → Broken v q code
-unfolding keyed.after keyed.is_quiet
-breaks_field v q code sound free input graphic some =
-    let place : ℕ = place_of v.cells q in
-    let start : Picture = record v { cursor = place } in
-    let goes = place_run v place free (cursor_lt v sound) (place_lt v.cells q input.inside) in
-    let to : TypesTo v.cells q code 0 1 start = types_run 1 v.cells q code 0 start input graphic (typed_none v q code free input) (omega arith) in
-    let both = runs_on v start to.last (replicate (ring_distance (length v.cells) v.cursor place) Right) (replicate 1 (Typed code)) goes to.runs [] in
-    record { last = to.last; quiet = both.1.1; comes = both.0; is = to.is }
-
 same_characters : (entries : List Declared) (before after : List Cell) (q index : ℕ) (entry : Declared) → length after ≡ length before
     → entry_at entries (field_at before q).place ≡ Some index → slice_get entries index ≡ Some entry → entry.kind ≡ Fixed
     → IsDeclaredField entries before after q → (field_sent after q).characters ≡ (field_sent before q).characters
@@ -268,29 +278,20 @@ same_characters entries before after q index entry len found there fixed d =
     let one : d.entry ≡ entry = some_same d.entry entry (sym d.declared ∙ ap (slice_get entries) same ∙ there) in
     d.fixed (ap (λ (e : Declared). e.kind) one ∙ fixed)
 
-broken_field : (layout : Declaration) (v : Picture) (q code : ℕ) → is_attribute (cell_at v.cells q) ≡ true → (b : Broken v q code)
-    → Promise layout v (breaking_keys v q code) → IsDeclaredField layout.entries v.cells b.last.cells q
-unfolding is_long_aid
-broken_field layout v q code there b p =
-    let keys : List Key = breaking_keys v q code in
-    let sends = p.sends 0x7D refl (ap (λ (x : Picture). x.lock) b.comes ∙ b.is.free) in
-    let modified : is_modified (bits_of (cell_at (keyed.after v keys).cells q)) ≡ true =
-    ap (λ (x : Picture). is_modified (bits_of (cell_at x.cells q))) b.comes ∙ b.is.modified (omega arith) in
-    let touched : IsTouched v keys q = (touched_law v keys q b.quiet there).0 modified in
-    let field : IsDeclaredField layout.entries v.cells (keyed.after v keys).cells q = sends.declared q ((sends.touched.exactly q).1 (there, touched)) in
-    subst (λ (x : Picture). IsDeclaredField layout.entries v.cells x.cells q) b.comes field
-
 fixed_breaks : (layout : Declaration) (v : Picture) (q m code index : ℕ) (entry : Declared) → IsInput v.cells q → length (span_of v.cells q) ≡ suc m
     → is_null (glyph code false) ≡ false → ((character_of (cell_at v.cells (nth_of v.cells q 0))).code ≡ code → ⊥)
     → entry_at layout.entries (field_at v.cells q).place ≡ Some index → slice_get layout.entries index ≡ Some entry → entry.kind ≡ Fixed
-    → Broken v q code → BreaksPromise layout v
+    → Filled v q code 1 → BreaksPromise layout v
+unfolding keyed.after keyed.is_quiet
 fixed_breaks layout v q m code index entry input count some apart found declared fixed b =
+    let keys : List Key = filling_keys v q code 1 [] in
     record {
-      keys = breaking_keys v q code;
-      quiet = b.quiet;
+      keys = keys;
+      quiet = b.quiet [];
       broken = λ p.
           typed_differs v.cells q m code b.last count input b.is some apart
-          (same_characters layout.entries v.cells b.last.cells q index entry b.is.keeps.whole found declared fixed (broken_field layout v q code input.there b p));
+          (same_characters layout.entries v.cells b.last.cells q index entry b.is.keeps.whole found declared fixed
+          (declared_after layout v b.last keys q (b.quiet []) (b.comes []) b.is.free input.there (b.is.modified (omega arith)) p));
     }
 
 pub open_fixed_breaks : (layout : Declaration) (v : Picture) (q index : ℕ) (entry : Declared) → IsSound v → v.lock ≡ Free → IsInput v.cells q → 0 < length (span_of v.cells q)
@@ -299,7 +300,7 @@ open_fixed_breaks layout v q index entry sound free input some found declared fi
     let held : ℕ = (character_of (cell_at v.cells (nth_of v.cells q 0))).code in
     let count : length (span_of v.cells q) ≡ suc (length (span_of v.cells q) - 1) = omega arith in
     fixed_breaks layout v q (length (span_of v.cells q) - 1) (other_code held) index entry input count (other_some held) (other_apart held) found declared fixed
-    (breaks_field v q (other_code held) sound free input (other_graphic held) some)
+    (fills v q (other_code held) 1 sound free input (other_graphic held) some)
 
 -- ---- each finding of a field
 -- what was found is one of two
@@ -334,7 +335,7 @@ some_length (suc n) e = omega arith
 empty_found : (layout : Declaration) (v : Picture) (q : ℕ) (finding : Finding) → IsField v q → empty_finding (field_at v.cells q) ≡ Some finding → IsShown layout v finding
 empty_found layout v q finding f found =
     either (IsShown layout v) (is_modified (bits_of (cell_at v.cells q))) _ _ finding found
-    (λ modified one. this_one (IsShown layout v) (EmptyModified (field_at v.cells q).place) finding one (λ none. empty_breaks layout v q f.free f.there modified none))
+    (λ modified one. this_one (IsShown layout v) (EmptyModified (field_at v.cells q).place) finding one (λ none. modified_breaks layout v q f.free f.there modified none))
     (λ clean one. not_one (IsShown layout v) finding one)
 
 undeclared_found : (layout : Declaration) (v : Picture) (q : ℕ) (finding : Finding) → IsField v q → 0 < length (span_of v.cells q)

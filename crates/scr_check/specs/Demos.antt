@@ -29,13 +29,15 @@ IsUnfit entries field =
     (entry_at entries field.place ≡ None)
     ⊎ ((index : ℕ) × (entry : Declared) × (entry_at entries field.place ≡ Some index) × (slice_get entries index ≡ Some entry) × (entry.length < length field.characters))
 
--- the demo's keys are all accepted, and the answer has an unfit field
+-- The demo's keys are all accepted, and the answer has an unfit field; and some keys before the first attention key break
+-- the promise.
 pub record DemoShows (layout : Declaration) (v : Picture) (demo : Demo) : Type 0 where
   pub accepted : keyed.are_accepted v (demo_keys demo) ≡ true
   pub at : ℕ
   pub field : inbound.Sent
   pub there : slice_get (demo_answer v demo).fields at ≡ Some field
   pub unfit : IsUnfit layout.entries field
+  pub breaks : BreaksPromise layout v
 
 abbrev pub DemoShowsIf : Declaration → Picture → Option Demo → Type 0
 DemoShowsIf layout v None = Unit {0}

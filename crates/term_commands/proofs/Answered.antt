@@ -1,12 +1,11 @@
 -- What is answered to the bytes of a reader, whether they are known or not.
-use Rattle.std.proofs.Common.{◌≡◌, ◌≤◌, ◌<◌, ℕ, true, false, ltb, List, [], length, take, Ok, Err, refl, sym, subst, ap, ◌∙◌, arith, inl, inr, length-take, append-nil}
+use Rattle.std.proofs.Common.{◌≡◌, ℕ, List, [], length, take, Ok, Err, refl, sym, ap, ◌∙◌, arith, inl, inr, length-take, append-nil}
 use Rattle.std.specs.Prelude.{Option, Some, None, IfSome, Result}
 use Rattle.std.specs.Io.KnownBytes.{Appends}
 use Rattle.std.proofs.lemmas.Bool.{cases_lt, lt-ltb}
 use Rattle.std.proofs.lemmas.List.{take_all}
 use Rattle.ds_codec.specs.Reading.{◌>>=◌}
 use Rattle.term_commands.specs.declared.fault.Fault.{Fault}
-use Rattle.term_commands.specs.declared.fault.Fault.TheVariants.{TooLong}
 use Rattle.term_commands.specs.declared.fault.CommandError.{CommandError}
 use Rattle.term_commands.specs.declared.fault.CommandError.TheVariants.{Fault as Told, ReadFailed, OutOfMemory}
 use Rattle.term_commands.specs.declared.output.answer.Answer.{Answer}

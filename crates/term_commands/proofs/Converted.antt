@@ -1,5 +1,5 @@
 -- Records converted to order lines, and back.
-use Rattle.std.proofs.Common.{◌≡◌, ◌<◌, ◌≤◌, ℕ, ◌+◌, ◌-◌, Bool, true, false, not, ltb, leb, List, [], ◌∷◌, ◌++◌, length, map, Option, Some, None, Ok, Err, refl, sym, ap, ◌∙◌, arith, inl, inr, append_assoc, append-nil, length-append}
+use Rattle.std.proofs.Common.{◌≡◌, ◌<◌, ◌≤◌, ℕ, ◌+◌, ◌-◌, false, ltb, List, [], ◌∷◌, ◌++◌, length, map, Option, Some, None, Ok, Err, refl, sym, ap, ◌∙◌, arith, inl, inr, append_assoc, append-nil, length-append}
 use Rattle.std.specs.List.{flat_map}
 use Rattle.std.proofs.lemmas.Bool.{le-ltb}
 use Rattle.std.proofs.lemmas.Bool.Decides.{nat_tests}
@@ -17,7 +17,7 @@ use Rattle.ds_codec.specs.declared.command.Command.TheVariants as commands
 use Rattle.ds_codec.specs.Geometry.{Sizes, cells_of, limit_of}
 use Rattle.ds_codec.specs.Order.{Item, text, start_field, start_field_extended, set_buffer_address, set_attribute, modify_field, insert_cursor, program_tab, repeat_to_address, erase_unprotected_to_address, graphic_escape, Site}
 use Rattle.ds_codec.specs.Record.{Message}
-use Rattle.ds_codec.specs.Reading.{read_of, ◌>>=◌}
+use Rattle.ds_codec.specs.Reading.{read_of}
 use Rattle.order_lines.specs.Print.{command_words, order_words, order_line, record_lines}
 use Rattle.order_lines.specs.Told.{command, order, told_of}
 use Rattle.order_lines.specs.Draft.{Draft}

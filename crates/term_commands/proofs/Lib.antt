@@ -14,3 +14,4 @@ pub mod Opened
 pub mod Firsts
 pub mod NamedKeys
 pub mod ToldRecords
+pub mod ToldDrafts

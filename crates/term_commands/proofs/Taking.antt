@@ -1,5 +1,5 @@
 -- Lines that a program takes in turn.
-use Rattle.std.proofs.Common.{◌≡◌, ℕ, ◌+◌, List, [], ◌∷◌, Ok, Err, refl, inl, inr}
+use Rattle.std.proofs.Common.{ℕ, ◌+◌, List, [], ◌∷◌, Err, refl, inl, inr}
 use Rattle.std.specs.Prelude.{Result}
 use Rattle.term_commands.specs.declared.fault.Fault.{Fault}
 use Rattle.term_commands.specs.declared.fault.CommandError.{CommandError}

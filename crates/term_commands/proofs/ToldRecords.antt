@@ -10,10 +10,10 @@ use Rattle.ds_codec.specs.Reading.{◌>>=◌}
 use Rattle.term_commands.specs.declared.fault.Fault.{Fault}
 use Rattle.term_commands.specs.declared.fault.Fault.TheVariants.{TooLong}
 use Rattle.term_commands.specs.declared.input.sizes.SizeLine.{SizeLine}
-use Rattle.term_commands.specs.declared.input.sizes.SizeLine.TheVariants.{Allowed, Refused}
+use Rattle.term_commands.specs.declared.input.sizes.SizeLine.TheVariants.{Refused}
 use Rattle.term_commands.specs.Lines.{is_ignored}
 use Rattle.term_commands.specs.Records.{Line, ignored, bad, record_told, sizes_or, without_spaces, Records, no_records, after_line, take_record}
-use Rattle.term_commands.specs.Says.{telling, SpellsRecord, SpellRecords, SizesAndRecords, TellRecords, IsTold, RecordsAreTold}
+use Rattle.term_commands.specs.Says.{telling, SpellsRecord, SpellRecords, SizesAndRecords, TellRecords, RecordsAreTold}
 use Rattle.term_commands.specs.Sizes.{usual_sizes, sizes_told}
 use Rattle.term_commands.specs.Taking.{taken}
 

@@ -1,9 +1,9 @@
 -- The lines of records, up to the first that cannot be written.
-use Rattle.std.proofs.Common.{◌≡◌, ◌<◌, ℕ, ◌+◌, List, ◌∷◌, map, drop, length, get_or, Ok, Err, refl, sym, ap, ◌∙◌, add-one, drop-cons}
+use Rattle.std.proofs.Common.{◌≡◌, ◌<◌, ℕ, ◌+◌, List, ◌∷◌, map, drop, length, get_or, Ok, Err, refl, ap, ◌∙◌, add-one, drop-cons}
 use Rattle.std.specs.Prelude.{Result}
 use Rattle.ds_codec.specs.declared.size.Size.{Size}
 use Rattle.ds_codec.specs.Geometry.{Sizes, cells_of}
-use Rattle.order_lines.specs.Draft.{Draft, draft_held, written_of}
+use Rattle.order_lines.specs.Draft.{draft_held, written_of}
 use Rattle.order_lines.specs.declared.draft.Draft as held
 use Rattle.term_commands.specs.declared.fault.Fault.{Fault}
 use Rattle.term_commands.specs.declared.fault.CommandError.{CommandError}

@@ -19,4 +19,5 @@ pub mod Back
 pub mod Held
 pub mod Streams
 pub mod Says
+pub mod SaysDrafts
 pub mod Law

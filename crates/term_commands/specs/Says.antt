@@ -1,6 +1,6 @@
 -- What the lines of an input tell, beside the taking of them in turn: which lines are ignored, which tell a record
 -- or a key, and which is the first at fault.
-use Rattle.std.specs.Prelude.{◌≡◌, ◌⊎◌, ℕ, ◌+◌, ◌≤◌, Bool, true, false, not, ◌&&◌, List, [], ◌∷◌, ◌++◌, length, Option, Some, None, Result, Ok, Err}
+use Rattle.std.specs.Prelude.{◌≡◌, ◌⊎◌, ℕ, ◌+◌, ◌≤◌, Bool, true, false, not, ◌&&◌, List, [], ◌∷◌, ◌++◌, length, Some, None, Result, Ok, Err}
 use Rattle.std.specs.List.{filter, flat_map, list_all}
 use Rattle.std.specs.Str.{is_utf8}
 use Rattle.hex.specs.Hex.{decode_of}
@@ -8,8 +8,7 @@ use Rattle.ds_codec.specs.Geometry.{Sizes}
 use Rattle.ds_keys.specs.declared.key.Key.{Key}
 use Rattle.term_commands.specs.declared.fault.Fault.{Fault}
 use Rattle.term_commands.specs.declared.input.sizes.SizeLine.{SizeLine}
-use Rattle.term_commands.specs.declared.input.sizes.SizeLine.TheVariants.{Allowed, Refused}
-use Rattle.term_commands.specs.Drafts.{Drafts, no_drafts, take_order_line}
+use Rattle.term_commands.specs.Drafts.{no_drafts, take_order_line}
 use Rattle.term_commands.specs.Keys.{KeyLine, named, bad, key_told, take_key}
 use Rattle.term_commands.specs.Keys as keys
 use Rattle.term_commands.specs.Lines.{is_ignored}

@@ -1,6 +1,7 @@
 //! Laws on lines, and on `convert`.
 
 ghost use Rattle.term_commands.specs.Law.{ConvertsBack};
+ghost use Rattle.term_commands.specs.SaysDrafts.{DraftsAreTold};
 ghost use Rattle.term_commands.specs.Says.{KeysAreNamed, RecordsAreTold, TellFirstFaults};
 
 /// Records that are converted to order lines and back are read as the same commands and orders. It does
@@ -9,10 +10,11 @@ pub fn convert_law()
     ensures { ConvertsBack }
 {}
 
-/// Lines tell keys exactly where they name them, and records exactly where they spell them; of records, keys
-/// and order lines a fault is told exactly where it is the first. It does nothing: its contract is the law.
+/// Lines tell keys exactly where they name them, records exactly where they spell them, and records as order
+/// lines exactly where they say them; of records, keys and order lines a fault is told exactly where it is the first. It does nothing: its contract is the law.
 pub fn lines_law()
     ensures keys { KeysAreNamed }
     ensures records { RecordsAreTold }
+    ensures drafts { DraftsAreTold }
     ensures faults { TellFirstFaults }
 {}
