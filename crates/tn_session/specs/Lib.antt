@@ -12,5 +12,8 @@ pub mod Pair
 pub mod Sent
 pub mod Runs
 pub mod TerminalLog
+pub mod HostLog
+pub mod HostView
+pub mod HostRan
 pub mod Wire
 pub mod Ran

@@ -20,6 +20,9 @@ pub enum RunFault {
     /// The terminal's answer can't be read.
     #[error("{0}")]
     Inbound(ds_inbound::Refused),
+    /// The terminal's answer isn't that of the layout's screen.
+    #[error("{0}")]
+    Bind(scr_check::BindFault),
     /// A request for memory was refused.
     #[error("out of memory")]
     OutOfMemory,

@@ -1,0 +1,51 @@
+//! A host's session over a line.
+
+ghost use Rattle.std.specs.Prelude.{◌≡◌, ◌+◌, ◌≤◌, map, None};
+ghost use Rattle.tn_session.specs.HostRan.{HostRan};
+
+use crate::fault::RunFault;
+use crate::host::HostCore;
+use crate::host_machine::HostMachine;
+use crate::outcome::HostOutcome;
+use crate::run::run_over;
+use crate::session::{Out, SessionFault};
+use crate::turn::Finish;
+use crate::wire::Wire;
+use scr_layout::Layout;
+use std::alloc::Global;
+use std::io::{Read, Write};
+
+/// Runs a host's session over a line: says what a host says first, sends the records once the session is ready, takes the
+/// RESPONSES to them, and reads the first answer by the layout. `enhanced` says whether it asks for TN3270E, `responses`
+/// whether it takes RESPONSES there. What is due is written before each read, and nothing is read past the answer.
+///
+/// # Errors
+///
+/// A fault of the bytes, of the session, of the answer or of its fields, in the stream's order; `NoDevice` before
+/// anything where no model has the layout's sizes; `Closed` where the line ends before an answer; `LineFault` where a
+/// read or a write failed; `TooManyReads` after 1,000,000 reads of at most 4,096 bytes.
+pub fn host_run<L: Read + Write>(
+    alloc: Global,
+    wire: &mut Wire<L>,
+    records: &[&[u8]],
+    layout: &Layout,
+    enhanced: bool,
+    responses: bool,
+) -> Result<HostOutcome, RunFault>
+    requires goes { wire.old.stop ≡ None }
+    requires counts { wire.old.reads + 1000000 ≤ u64.MAX }
+    ensures { HostRan layout.now (map (λ bytes. bytes.now) records.now) enhanced responses
+        wire.old result wire.new }
+{
+    let core = match HostCore::new(layout, enhanced, responses) {
+        Ok(core) => core,
+        Err(why) => return Err(RunFault::Session(why)),
+    };
+    let mut out = Out::new();
+    core.begin(&mut out);
+    let mut machine = HostMachine::new(layout, records, core);
+    match run_over(alloc, wire, &mut machine, &out)? {
+        Finish::Finished => machine.into_outcome(),
+        Finish::Closed => Err(RunFault::Session(SessionFault::Closed)),
+    }
+}
