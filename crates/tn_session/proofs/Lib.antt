@@ -6,3 +6,5 @@ pub mod PairLaws
 pub mod ReplyLaws
 pub mod Walks
 pub mod RunLaws
+pub mod RunStates
+pub mod RunSteps

@@ -104,6 +104,11 @@ TakesPiece act before state piece old (Err why) left end new = PieceFails act be
 
 -- ---- the whole run
 
+-- how a run ends whose line gave nothing
+abbrev pub stopped_by : Option Stop → Result Finish RunFault
+stopped_by (Some Ended) = Ok finish.Closed
+stopped_by _ = Err (faults.Session LineFault)
+
 -- so much was read and sent, by at most a million reads, and so the line then stands
 pub record PassedOver (old new : WireState) (stream sent : List ℕ) (stop : Option Stop) : Type 0 where
   pub received : new.received ≡ old.received ++ stream

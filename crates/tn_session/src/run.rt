@@ -4,7 +4,7 @@
 ghost use Rattle.std.specs.Prelude.{◌≡◌, ◌+◌, ◌<◌, ◌≤◌, ◌^◌, [], length, None, Some, OnOk};
 ghost use Rattle.tn_wire.specs.Calls.{told_of};
 ghost use Rattle.tn_wire.specs.Stream.{Tells};
-ghost use Rattle.tn_session.specs.Ran.{Sends, TakesEvent, TakesPiece, Ran};
+ghost use Rattle.tn_session.specs.Ran.{Sends, TakesEvent, TakesPiece, stopped_by, Ran};
 
 use crate::fault::RunFault;
 use crate::machine::Machine;
@@ -55,4 +55,76 @@ fn take_event<L: Read + Write, M: Machine>(
     let turn = machine.take(alloc, event, due)?;
     send(wire, due)?;
     Ok(turn)
+}
+
+/// Takes the events of a piece of the stream, one after the other.
+fn take_piece<L: Read + Write, M: Machine>(
+    alloc: Global,
+    wire: &mut Wire<L>,
+    deframer: &mut Deframer,
+    machine: &mut M,
+    due: &mut Vec<u8>,
+    piece: &[u8],
+) -> Result<Turn, RunFault>
+    requires goes { wire.old.stop ≡ None }
+    requires fresh { deframer.old.fault ≡ None }
+    requires open { Tells deframer.old.content [] deframer.old.content }
+    requires light { M.weight machine.old + length piece.now < 2 ^ 64 }
+    ensures taken { TakesPiece M.act deframer.old.content machine.old piece.now wire.old result
+        deframer.new.content machine.new wire.new }
+    ensures fresh { OnOk result (deframer.new.fault ≡ None) }
+    ensures light { OnOk result
+        (M.weight machine.new ≤ M.weight machine.old + length piece.now) }
+{
+    let mut rest = piece;
+    'events: loop {
+        match deframer.next(&mut rest) {
+            Ok(Step::NeedMore) => return Ok(Turn::Goes),
+            Ok(Step::Event(event)) => match take_event(alloc, wire, machine, due, &event)? {
+                Turn::Goes => {}
+                Turn::Finishes => return Ok(Turn::Finishes),
+            },
+            Err(fault) => return Err(RunFault::Wire(fault)),
+        }
+    }
+}
+
+/// How a run ends whose line gave nothing.
+fn stopped<L: Read + Write>(wire: &Wire<L>) -> Result<Finish, RunFault>
+    ensures { result ≡ stopped_by wire.now.stop }
+{
+    match wire.stop() {
+        Some(Stop::Ended) => Ok(Finish::Closed),
+        _ => Err(RunFault::Session(SessionFault::LineFault)),
+    }
+}
+
+/// Runs a machine over a line: writes an opening, and then reads up to 1,000,000 times, and writes before each read what is
+/// due.
+pub fn run_over<L: Read + Write, M: Machine>(
+    alloc: Global,
+    wire: &mut Wire<L>,
+    machine: &mut M,
+    opening: &[u8],
+) -> Result<Finish, RunFault>
+    requires goes { wire.old.stop ≡ None }
+    requires counts { wire.old.reads + 1000000 ≤ u64.MAX }
+    requires light { M.weight machine.old + 4096000000 < 2 ^ 64 }
+    ensures { Ran M.act opening.now machine.old wire.old result machine.new wire.new }
+{
+    let mut deframer = Deframer::new(alloc)?;
+    let mut due = Vec::new(alloc);
+    let mut buffer = [0; PIECE];
+    send(wire, opening)?;
+    'reads: for _turn in 0..MAX_READS {
+        let Some(count) = wire.read(&mut buffer) else {
+            return stopped(wire);
+        };
+        let piece = &buffer[..count];
+        match take_piece(alloc, wire, &mut deframer, machine, &mut due, piece)? {
+            Turn::Goes => {}
+            Turn::Finishes => return Ok(Finish::Finished),
+        }
+    }
+    Err(RunFault::Session(SessionFault::TooManyReads))
 }

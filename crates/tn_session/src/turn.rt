@@ -2,7 +2,7 @@
 
 /// What an event does to a run.
 #[derive(Clone, Copy)]
-pub(crate) enum Turn {
+pub enum Turn {
     /// It goes on.
     Goes,
     /// It is over.
@@ -11,7 +11,7 @@ pub(crate) enum Turn {
 
 /// How a run ends that doesn't fail.
 #[derive(Clone, Copy)]
-pub(crate) enum Finish {
+pub enum Finish {
     /// An event finished it.
     Finished,
     /// A read gave nothing.
