@@ -7,3 +7,4 @@ pub mod ReplyLaws
 pub mod Walks
 pub mod RunLaws
 pub mod RunStates
+pub mod RunSteps

@@ -38,6 +38,11 @@ cause_of faults.OutOfMemory = of_memory
 cause_of (faults.Session why) = session_cause why
 cause_of _ = of_events
 
+-- a core's refusal of an event
+abbrev pub IsOfEvents : Cause → Type 0
+IsOfEvents of_events = Unit {0}
+IsOfEvents _ = ⊥
+
 -- ---- one event
 
 -- a fault of an event is the log's; or memory was refused

@@ -9,7 +9,7 @@ use Rattle.ds_screen.specs.Records.{new_picture}
 use Rattle.ds_keys.specs.declared.key.Key.{Key}
 use Rattle.ds_terminal.specs.declared.refused.Refused.{Refused}
 use Rattle.ds_terminal.specs.declared.refused.Refused.TheVariants.{Read, Apply}
-use Rattle.ds_terminal.specs.Terminal.{Reply, shown, answered, nothing, refused, KeyReply, done, inhibited, ignored, sent, KeyTurn, received, pressed}
+use Rattle.ds_terminal.specs.Terminal.{Reply, shown, answered, nothing, refused, KeyReply, done, inhibited, ignored, sent, KeyTurn, Turn, received, pressed}
 use Rattle.tn_wire.specs.declared.header.Header.{Header}
 use Rattle.tn_wire.specs.declared.header.HeaderFault.{HeaderFault}
 use Rattle.tn_wire.specs.declared.header.DataType.{DataType}
@@ -48,13 +48,18 @@ new_terminal_state device enhanced responses = record {
 abbrev pub terminal_start : Device → Bool → Bool → List Key → TerminalRunning
 terminal_start device enhanced responses keys = record { state = new_terminal_state device enhanced responses; keys = keys }
 
--- what is sent, and the run's state after it
+-- what is sent, and what the terminal then keeps
 pub record Doing : Type 0 where
   pub due : List ℕ
-  pub running : TerminalRunning
+  pub state : TerminalState
 
-abbrev pub doing : List ℕ → TerminalState → List Key → Doing
-doing due state keys = record { due = due; running = record { state = state; keys = keys } }
+abbrev pub doing : List ℕ → TerminalState → Doing
+doing due state = record { due = due; state = state }
+
+-- the same with the keys that are left
+pub record Typing : Type 0 where
+  pub due : List ℕ
+  pub running : TerminalRunning
 
 -- ---- responses (RFC 2355, section 10.4)
 
@@ -106,61 +111,58 @@ after_answer state = record state { sequence = next_sequence state.sequence; ans
 abbrev pub after_record : TerminalState → Picture → TerminalState
 after_record state picture = record state { terminal = picture; was_free = state.was_free || is_free picture.lock }
 
-abbrev pub replied : Agreed → Header → TerminalState → List Key → Reply → Doing
-replied agreed header state keys (shown effect) = doing (positive agreed header) state keys
-replied agreed header state keys (answered bytes) =
-    doing (positive agreed header ++ answer_due agreed state bytes) (after_answer state) keys
-replied agreed header state keys nothing = doing (positive agreed header) state keys
-replied agreed header state keys (refused why) =
-    doing (negative agreed header why) (record state { refused = state.refused + 1 }) keys
+abbrev pub replied : Agreed → Header → TerminalState → Reply → Doing
+replied agreed header state (shown effect) = doing (positive agreed header) state
+replied agreed header state (answered bytes) = doing (positive agreed header ++ answer_due agreed state bytes) (after_answer state)
+replied agreed header state nothing = doing (positive agreed header) state
+replied agreed header state (refused why) = doing (negative agreed header why) (record state { refused = state.refused + 1 })
 
-abbrev pub received_data : Agreed → Header → TerminalRunning → List ℕ → Doing
-received_data agreed header running bytes =
-    replied agreed header (after_record running.state (received running.state.terminal bytes).after) running.keys
-    (received running.state.terminal bytes).reply
+-- what a turn of the terminal makes of the run
+abbrev pub turned : Agreed → Header → TerminalState → Turn → Doing
+turned agreed header state turn = replied agreed header (after_record state turn.after) turn.reply
+
+abbrev pub received_data : Agreed → Header → TerminalState → List ℕ → Doing
+received_data agreed header state bytes = turned agreed header state (received state.terminal bytes)
 
 -- ---- keys
 
--- what the terminal sends at a key
-abbrev pub key_due : Agreed → TerminalState → KeyReply → List ℕ
-key_due agreed state (sent bytes) = answer_due agreed state bytes
-key_due agreed state done = []
-key_due agreed state inhibited = []
-key_due agreed state ignored = []
+-- a key that sends is answered
+abbrev pub key_replied : Agreed → TerminalState → KeyReply → Doing
+key_replied agreed state (sent bytes) = doing (answer_due agreed state bytes) (after_answer state)
+key_replied agreed state done = doing [] state
+key_replied agreed state inhibited = doing [] state
+key_replied agreed state ignored = doing [] state
 
-abbrev pub after_reply : TerminalState → KeyReply → TerminalState
-after_reply state (sent bytes) = after_answer state
-after_reply state done = state
-after_reply state inhibited = state
-after_reply state ignored = state
+abbrev pub key_turned : Agreed → TerminalState → KeyTurn → Doing
+key_turned agreed state turn = key_replied agreed (record state { terminal = turn.after }) turn.reply
 
-abbrev pub after_press : TerminalState → KeyTurn → TerminalState
-after_press state turn = after_reply (record state { terminal = turn.after }) turn.reply
+abbrev pub typed_key : Agreed → TerminalState → Key → Doing
+typed_key agreed state key = key_turned agreed state (pressed state.terminal key)
 
 -- these bytes first
-abbrev pub before : List ℕ → Doing → Doing
+abbrev pub before : List ℕ → Typing → Typing
 before due later = record { due = due ++ later.due; running = later.running }
 
 -- keys are pressed one after the other, until the keyboard waits for a record
-abbrev pub typing : Agreed → TerminalState → List Key → Doing
-typing agreed state [] = doing [] state []
+abbrev pub typing : Agreed → TerminalState → List Key → Typing
+typing agreed state [] = record { due = []; running = record { state = state; keys = [] } }
 typing agreed state (key ∷ keys) =
-    if is_waiting state.terminal.lock then doing [] state (key ∷ keys)
-    else before (key_due agreed state (pressed state.terminal key).reply)
-    (typing agreed (after_press state (pressed state.terminal key)) keys)
+    if is_waiting state.terminal.lock then record { due = []; running = record { state = state; keys = key ∷ keys } }
+    else before (typed_key agreed state key).due (typing agreed (typed_key agreed state key).state keys)
 
 -- ---- events
 
-abbrev pub then_typed : Agreed → Doing → Doing
-then_typed agreed did = before did.due (typing agreed did.running.state did.running.keys)
+-- keys after a record
+abbrev pub then_typed : Agreed → List Key → Doing → Typing
+then_typed agreed keys did = before did.due (typing agreed did.state keys)
 
 -- the run is over once the keyboard has been free and no key is left
-abbrev pub standing : Doing → Log TerminalRunning
-standing did =
-    if did.running.state.was_free && (length did.running.keys == 0) then finished did.due did.running else going did.due did.running
+abbrev pub standing : Typing → Log TerminalRunning
+standing typed =
+    if typed.running.state.was_free && (length typed.running.keys == 0) then finished typed.due typed.running else going typed.due typed.running
 
 abbrev pub taken_data : Agreed → Header → TerminalRunning → List ℕ → Log TerminalRunning
-taken_data agreed header running bytes = standing (then_typed agreed (received_data agreed header running bytes))
+taken_data agreed header running bytes = standing (then_typed agreed running.keys (received_data agreed header running.state bytes))
 
 -- records of other types are passed over
 abbrev pub passed_over : TerminalRunning → Log TerminalRunning

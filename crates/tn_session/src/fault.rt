@@ -1,6 +1,7 @@
 //! Why a run over a line ends without a report or an outcome.
 
 use crate::session::SessionFault;
+use scr_check::BindFault;
 use std::alloc::{AllocError, AllocFailed};
 use thiserror::Error;
 use tn_wire::{HeaderFault, WireFault};
@@ -20,9 +21,9 @@ pub enum RunFault {
     /// The terminal's answer can't be read.
     #[error("{0}")]
     Inbound(ds_inbound::Refused),
-    /// The terminal's answer isn't that of the layout's screen.
+    /// The terminal's answer is not that of the layout's screen.
     #[error("{0}")]
-    Bind(scr_check::BindFault),
+    Bind(BindFault),
     /// A request for memory was refused.
     #[error("out of memory")]
     OutOfMemory,
