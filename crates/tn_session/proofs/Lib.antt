@@ -8,3 +8,5 @@ pub mod Walks
 pub mod RunLaws
 pub mod RunStates
 pub mod RunSteps
+pub mod HostSteps
+pub mod HostFinish

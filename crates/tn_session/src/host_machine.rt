@@ -48,14 +48,19 @@ impl<'a> Model for HostMachine<'a> {
 }
 
 /// Adds the records, in turn, as the session sends them.
-fn push_records(due: &mut Vec<u8>, agreed: Agreed, records: &[&[u8]]) -> Result<(), AllocError>
+fn push_records(
+    alloc: Global,
+    due: &mut Vec<u8>,
+    agreed: Agreed,
+    records: &[&[u8]],
+) -> Result<(), AllocError>
     ensures { OnOk result (due.new.items
         ≡ due.old.items ++ records_due agreed 0 (map (λ bytes. bytes.now) records.now)) }
 {
     let response = if agreed.responses { 2 } else { 0 };
     let mut sequence = 0;
     for bytes in records {
-        push_data(due, agreed, response, sequence, bytes)?;
+        push_data(alloc, due, agreed, response, sequence, bytes)?;
         sequence = next_sequence(sequence);
     }
     Ok(())
@@ -90,11 +95,13 @@ impl<'a> HostMachine<'a> {
     }
 
     /// What came of the session, once the run is over.
-    pub(crate) fn into_outcome(self) -> Result<HostOutcome, RunFault>
-        ensures { OutcomeTaken self result }
+    pub(crate) fn take_outcome(&mut self) -> Result<HostOutcome, RunFault>
+        ensures { OutcomeTaken self.old result }
     {
-        let HostMachine { outcome, .. } = self;
-        outcome.ok_or(RunFault::Session(SessionFault::Closed))
+        match self.outcome.take() {
+            Some(outcome) => Ok(outcome),
+            None => Err(RunFault::Session(SessionFault::Closed)),
+        }
     }
 
     /// Whether a RESPONSE of this number answers the first record that none came for.
@@ -207,7 +214,7 @@ impl<'a> Machine for HostMachine<'a> {
         }
         due.extend_from_slice(&out)?;
         if let Told::Ready(agreed) = told {
-            push_records(due, agreed, self.records)?;
+            push_records(alloc, due, agreed, self.records)?;
         }
         Ok(Turn::Goes)
     }

@@ -44,8 +44,9 @@ pub fn host_run<L: Read + Write>(
     let mut out = Out::new();
     core.begin(&mut out);
     let mut machine = HostMachine::new(layout, records, core);
-    match run_over(alloc, wire, &mut machine, &out)? {
-        Finish::Finished => machine.into_outcome(),
-        Finish::Closed => Err(RunFault::Session(SessionFault::Closed)),
+    match run_over(alloc, wire, &mut machine, &out) {
+        Ok(Finish::Finished) => machine.take_outcome(),
+        Ok(Finish::Closed) => Err(RunFault::Session(SessionFault::Closed)),
+        Err(why) => Err(why),
     }
 }
