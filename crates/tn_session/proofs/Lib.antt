@@ -8,3 +8,4 @@ pub mod Walks
 pub mod RunLaws
 pub mod RunStates
 pub mod RunSteps
+pub mod TerminalSteps
