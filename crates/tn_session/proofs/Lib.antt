@@ -9,3 +9,6 @@ pub mod RunLaws
 pub mod RunStates
 pub mod RunSteps
 pub mod TerminalSteps
+pub mod RunEnds
+pub mod TerminalEnds
+pub mod TerminalRunning

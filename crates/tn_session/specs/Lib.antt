@@ -14,3 +14,4 @@ pub mod Runs
 pub mod TerminalLog
 pub mod Wire
 pub mod Ran
+pub mod TerminalRuns

@@ -19,7 +19,10 @@ mod sent;
 mod session;
 mod stop;
 mod terminal;
-mod terminal_run;
+mod report;
+mod terminal_events;
+mod terminal_line;
+mod terminal_machine;
 mod terminal_state;
 mod terminal_turns;
 mod turn;
@@ -30,11 +33,12 @@ pub use device::{Device, DeviceName, ScreenModel};
 pub use host::HostCore;
 pub use laws::{delivery_law, pair_law, reply_law};
 pub use session::{Agreed, Out, SessionFault, Told};
-pub use machine::Machine;
-pub use run::run_over;
-pub use turn::{Finish, Turn};
+
+
+
 pub use stop::Stop;
 pub use terminal::TermCore;
-pub use terminal_run::take_event_of;
-pub use terminal_state::TerminalState;
+pub use report::{Report, RunEnd};
+pub use terminal_line::terminal_run;
+
 pub use wire::Wire;

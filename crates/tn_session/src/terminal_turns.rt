@@ -48,7 +48,7 @@ impl TerminalState {
     }
 
     /// Takes a record of 3270 data.
-    pub fn receive(
+    pub(crate) fn receive(
         &mut self,
         alloc: Global,
         due: &mut Vec<u8>,
@@ -142,7 +142,7 @@ impl TerminalState {
     }
 
     /// Presses keys one after the other, until the keyboard waits for a record.
-    pub fn press_all(
+    pub(crate) fn press_all(
         &mut self,
         alloc: Global,
         due: &mut Vec<u8>,

@@ -1,4 +1,4 @@
-//! A terminal's run over a line.
+//! What an event does to a terminal's run.
 
 ghost use Rattle.std.specs.Prelude.{◌≡◌, ◌+◌, ◌<◌, ◌≤◌, ◌^◌, [], length, OnOk};
 ghost use Rattle.tn_wire.specs.Calls.{told_of};
@@ -104,7 +104,7 @@ fn take_record(
 }
 
 /// Takes an event.
-pub fn take_event_of(
+pub(crate) fn take_event_of(
     alloc: Global,
     due: &mut Vec<u8>,
     state: &mut TerminalState,

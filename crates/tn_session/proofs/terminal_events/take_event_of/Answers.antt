@@ -7,7 +7,7 @@ use Rattle.tn_session.specs.Runs.{Log}
 use Rattle.tn_session.specs.Steps.{Takes, terminal_step}
 use Rattle.tn_session.specs.TerminalLog.{TerminalRunning, terminal_act}
 use Rattle.tn_session.proofs.TerminalSteps.{refused_act, record_act}
-use Rattle.tn_session.proofs.terminal_run.take_event_of.Goals as goal
+use Rattle.tn_session.proofs.terminal_events.take_event_of.Goals as goal
 
 pub returns-in-Err-clause-does : goal.returns-in-Err-clause-does
 returns-in-Err-clause-does c =
