@@ -15,3 +15,5 @@ pub mod TerminalLog
 pub mod Wire
 pub mod Ran
 pub mod TerminalRuns
+pub mod HostLog
+pub mod HostView

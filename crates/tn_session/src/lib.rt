@@ -9,9 +9,11 @@ mod fault;
 mod heard;
 mod history;
 mod host;
+mod host_records;
 mod laws;
 mod machine;
 mod option;
+mod outcome;
 mod reply;
 mod responses;
 mod run;
@@ -38,6 +40,8 @@ pub use session::{Agreed, Out, SessionFault, Told};
 
 pub use stop::Stop;
 pub use terminal::TermCore;
+pub use host_records::{fields_of, push_records, response_told};
+pub use outcome::HostOutcome;
 pub use report::{Report, RunEnd};
 pub use terminal_line::terminal_run;
 
