@@ -17,3 +17,6 @@ pub mod HostView
 pub mod HostRan
 pub mod Wire
 pub mod Ran
+pub mod TerminalRuns
+pub mod HostLog
+pub mod HostView

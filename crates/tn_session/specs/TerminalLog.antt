@@ -45,6 +45,13 @@ new_terminal_state device enhanced responses = record {
   refused = 0;
 }
 
+-- all that it counts
+abbrev pub counted : TerminalState → ℕ
+counted state = state.answers + (state.passed + state.refused)
+
+abbrev pub terminal_weight : TerminalRunning → ℕ
+terminal_weight running = counted running.state + length running.keys
+
 abbrev pub terminal_start : Device → Bool → Bool → List Key → TerminalRunning
 terminal_start device enhanced responses keys = record { state = new_terminal_state device enhanced responses; keys = keys }
 

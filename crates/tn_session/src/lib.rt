@@ -22,6 +22,10 @@ mod sent;
 mod session;
 mod stop;
 mod terminal;
+mod report;
+mod terminal_events;
+mod terminal_line;
+mod terminal_machine;
 mod terminal_state;
 mod terminal_turns;
 mod turn;
@@ -34,10 +38,14 @@ pub use laws::{delivery_law, pair_law, reply_law};
 pub use host_session::host_run;
 pub use outcome::HostOutcome;
 pub use session::{Agreed, Out, SessionFault, Told};
-pub use machine::Machine;
-pub use run::run_over;
-pub use turn::{Finish, Turn};
+
+
+
 pub use stop::Stop;
 pub use terminal::TermCore;
-pub use terminal_state::TerminalState;
+pub use host_records::{fields_of, push_records, response_told};
+pub use outcome::HostOutcome;
+pub use report::{Report, RunEnd};
+pub use terminal_line::terminal_run;
+
 pub use wire::Wire;

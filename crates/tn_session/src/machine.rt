@@ -6,7 +6,7 @@ use std::alloc::Global;
 use tn_wire::Event;
 
 /// A machine that takes events and gives bytes.
-pub trait Machine {
+pub(crate) trait Machine {
     ghost use Rattle.std.specs.Prelude.{◌≡◌, ℕ, ◌+◌, ◌≤◌, ◌<◌, ◌^◌, [], OnOk};
     ghost use Rattle.tn_wire.specs.Stream.{Told};
     ghost use Rattle.tn_wire.specs.Calls.{told_of};

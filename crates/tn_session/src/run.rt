@@ -101,7 +101,7 @@ fn stopped<L: Read + Write>(wire: &Wire<L>) -> Result<Finish, RunFault>
 
 /// Runs a machine over a line: writes an opening, and then reads up to 1,000,000 times, and writes before each read what is
 /// due.
-pub fn run_over<L: Read + Write, M: Machine>(
+pub(crate) fn run_over<L: Read + Write, M: Machine>(
     alloc: Global,
     wire: &mut Wire<L>,
     machine: &mut M,

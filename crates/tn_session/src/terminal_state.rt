@@ -6,7 +6,7 @@ use ds_terminal::Terminal;
 
 /// A terminal's run, the keys that are left aside.
 #[derive(Drop)]
-pub struct TerminalState {
+pub(crate) struct TerminalState {
     /// The session.
     pub(crate) core: TermCore,
     /// The screen and keyboard.

@@ -1,7 +1,7 @@
 //! What a record and a key do to a terminal's run.
 
 ghost use Rattle.std.specs.Prelude.{◌≡◌, ◌+◌, ◌<◌, ◌≤◌, ◌^◌, ◌++◌, length, OnOk};
-ghost use Rattle.tn_session.specs.TerminalLog.{is_free, is_waiting, answer_due, after_answer, replied, received_data, key_replied, typed_key, typing};
+ghost use Rattle.tn_session.specs.TerminalLog.{counted, is_free, is_waiting, answer_due, after_answer, replied, received_data, key_replied, typed_key, typing};
 ghost use Rattle.ds_terminal.specs.Seen.{reply_seen, key_reply_seen};
 
 use crate::responses::{push_negative, push_positive};
@@ -35,10 +35,11 @@ impl TerminalState {
         agreed: Agreed,
         bytes: &[u8],
     ) -> Result<(), AllocError>
-        requires { self.old.answers + 1 < 2 ^ 64 }
+        requires { counted self.old + 1 < 2 ^ 64 }
         ensures due { OnOk result
             (due.new.items ≡ due.old.items ++ answer_due agreed self.old bytes.now) }
         ensures after { OnOk result (self.new ≡ after_answer self.old) }
+        ensures light { OnOk result (counted self.new ≤ counted self.old + 1) }
     {
         push_data(alloc, due, agreed, 0, self.sequence, bytes)?;
         self.sequence = next_sequence(self.sequence);
@@ -47,7 +48,7 @@ impl TerminalState {
     }
 
     /// Takes a record of 3270 data.
-    pub fn receive(
+    pub(crate) fn receive(
         &mut self,
         alloc: Global,
         due: &mut Vec<u8>,
@@ -55,12 +56,12 @@ impl TerminalState {
         header: Header,
         bytes: &[u8],
     ) -> Result<(), AllocError>
-        requires answers { self.old.answers + 1 < 2 ^ 64 }
-        requires refused { self.old.refused + 1 < 2 ^ 64 }
+        requires { counted self.old + 1 < 2 ^ 64 }
         ensures due { OnOk result (due.new.items
             ≡ due.old.items ++ (received_data agreed header self.old bytes.now).due) }
         ensures after { OnOk result
             (self.new ≡ (received_data agreed header self.old bytes.now).state) }
+        ensures light { OnOk result (counted self.new ≤ counted self.old + 1) }
     {
         let reply = self.terminal.receive(alloc, bytes)?;
         self.was_free = self.was_free || is_free(self.terminal.screen().lock());
@@ -76,12 +77,12 @@ impl TerminalState {
         header: Header,
         reply: RecordReply,
     ) -> Result<(), AllocError>
-        requires answers { self.old.answers + 1 < 2 ^ 64 }
-        requires refused { self.old.refused + 1 < 2 ^ 64 }
+        requires { counted self.old + 1 < 2 ^ 64 }
         ensures due { OnOk result (due.new.items
             ≡ due.old.items ++ (replied agreed header self.old (reply_seen reply)).due) }
         ensures after { OnOk result
             (self.new ≡ (replied agreed header self.old (reply_seen reply)).state) }
+        ensures light { OnOk result (counted self.new ≤ counted self.old + 1) }
     {
         match reply {
             RecordReply::Shown(_) | RecordReply::Nothing => {
@@ -109,10 +110,11 @@ impl TerminalState {
         agreed: Agreed,
         key: Key,
     ) -> Result<(), AllocError>
-        requires { self.old.answers + 1 < 2 ^ 64 }
+        requires { counted self.old + 1 < 2 ^ 64 }
         ensures due { OnOk result
             (due.new.items ≡ due.old.items ++ (typed_key agreed self.old key).due) }
         ensures after { OnOk result (self.new ≡ (typed_key agreed self.old key).state) }
+        ensures light { OnOk result (counted self.new ≤ counted self.old + 1) }
     {
         let reply = self.terminal.press(alloc, key)?;
         self.key_reply(alloc, due, agreed, reply)
@@ -126,11 +128,12 @@ impl TerminalState {
         agreed: Agreed,
         reply: KeyReply,
     ) -> Result<(), AllocError>
-        requires { self.old.answers + 1 < 2 ^ 64 }
+        requires { counted self.old + 1 < 2 ^ 64 }
         ensures due { OnOk result (due.new.items
             ≡ due.old.items ++ (key_replied agreed self.old (key_reply_seen reply)).due) }
         ensures after { OnOk result
             (self.new ≡ (key_replied agreed self.old (key_reply_seen reply)).state) }
+        ensures light { OnOk result (counted self.new ≤ counted self.old + 1) }
     {
         match reply {
             KeyReply::Sent(bytes) => self.answer(alloc, due, agreed, &bytes),
@@ -139,18 +142,20 @@ impl TerminalState {
     }
 
     /// Presses keys one after the other, until the keyboard waits for a record.
-    pub fn press_all(
+    pub(crate) fn press_all(
         &mut self,
         alloc: Global,
         due: &mut Vec<u8>,
         agreed: Agreed,
         keys: &mut &[Key],
     ) -> Result<(), AllocError>
-        requires { self.old.answers + length keys.old.now < 2 ^ 64 }
+        requires { counted self.old + length keys.old.now < 2 ^ 64 }
         ensures due { OnOk result
             (due.new.items ≡ due.old.items ++ (typing agreed self.old keys.old.now).due) }
         ensures after { OnOk result (record { state = self.new; keys = keys.new.now }
             ≡ (typing agreed self.old keys.old.now).running) }
+        ensures light { OnOk result (counted self.new + length keys.new.now
+            ≤ counted self.old + length keys.old.now) }
     {
         'keys: while let Some((key, rest)) = keys.split_first() {
             if is_waiting(self.terminal.screen().lock()) {

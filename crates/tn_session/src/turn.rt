@@ -2,7 +2,7 @@
 
 /// What an event does to a run.
 #[derive(Clone, Copy)]
-pub enum Turn {
+pub(crate) enum Turn {
     /// It goes on.
     Goes,
     /// It is over.
@@ -11,7 +11,7 @@ pub enum Turn {
 
 /// How a run ends that doesn't fail.
 #[derive(Clone, Copy)]
-pub enum Finish {
+pub(crate) enum Finish {
     /// An event finished it.
     Finished,
     /// A read gave nothing.
