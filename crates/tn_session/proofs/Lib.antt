@@ -10,3 +10,8 @@ pub mod RunStates
 pub mod RunSteps
 pub mod HostSteps
 pub mod HostFinish
+pub mod HostEnds
+pub mod TerminalSteps
+pub mod RunEnds
+pub mod TerminalEnds
+pub mod TerminalRunning

@@ -18,5 +18,3 @@ pub mod HostRan
 pub mod Wire
 pub mod Ran
 pub mod TerminalRuns
-pub mod HostLog
-pub mod HostView

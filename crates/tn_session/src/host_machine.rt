@@ -48,19 +48,14 @@ impl<'a> Model for HostMachine<'a> {
 }
 
 /// Adds the records, in turn, as the session sends them.
-fn push_records(
-    alloc: Global,
-    due: &mut Vec<u8>,
-    agreed: Agreed,
-    records: &[&[u8]],
-) -> Result<(), AllocError>
+fn push_records(due: &mut Vec<u8>, agreed: Agreed, records: &[&[u8]]) -> Result<(), AllocError>
     ensures { OnOk result (due.new.items
         ≡ due.old.items ++ records_due agreed 0 (map (λ bytes. bytes.now) records.now)) }
 {
     let response = if agreed.responses { 2 } else { 0 };
     let mut sequence = 0;
     for bytes in records {
-        push_data(alloc, due, agreed, response, sequence, bytes)?;
+        push_data(due, agreed, response, sequence, bytes)?;
         sequence = next_sequence(sequence);
     }
     Ok(())
@@ -214,7 +209,7 @@ impl<'a> Machine for HostMachine<'a> {
         }
         due.extend_from_slice(&out)?;
         if let Told::Ready(agreed) = told {
-            push_records(alloc, due, agreed, self.records)?;
+            push_records(due, agreed, self.records)?;
         }
         Ok(Turn::Goes)
     }

@@ -1,7 +1,10 @@
 //! A host's session over a line.
 
-ghost use Rattle.std.specs.Prelude.{◌≡◌, ◌+◌, ◌≤◌, map, None};
+ghost use Rattle.std.specs.Prelude.{◌≡◌, ◌+◌, ◌≤◌, ◌↔◌, map, None, Some, Err};
+ghost use Rattle.tn_session.specs.declared.session.SessionFault.TheVariants as session;
+ghost use Rattle.tn_session.specs.declared.stop.Stop.TheVariants.{Ended};
 ghost use Rattle.tn_session.specs.HostRan.{HostRan};
+ghost use Rattle.tn_session.specs.TerminalRuns.{HasFailed};
 
 use crate::fault::RunFault;
 use crate::host::HostCore;
@@ -25,6 +28,31 @@ use std::io::{Read, Write};
 /// anything where no model has the layout's sizes; `Closed` where the line ends before an answer; `LineFault` where a
 /// read or a write failed; `TooManyReads` after 1,000,000 reads of at most 4,096 bytes.
 pub fn host_run<L: Read + Write>(
+    alloc: Global,
+    wire: &mut Wire<L>,
+    records: &[&[u8]],
+    layout: &Layout,
+    enhanced: bool,
+    responses: bool,
+) -> Result<HostOutcome, RunFault>
+    requires goes { wire.old.stop ≡ None }
+    requires counts { wire.old.reads + 1000000 ≤ u64.MAX }
+    // What was sent is what is due by the log of what was read, and the outcome is the log's.
+    ensures ran { HostRan layout.now (map (λ bytes. bytes.now) records.now) enhanced responses
+        wire.old result wire.new }
+    // A line fault is answered exactly where a read or a write failed.
+    ensures line { result ≡ Err (RunFault.Session session.LineFault)
+        ↔ HasFailed wire.new.stop }
+    ensures closed { result ≡ Err (RunFault.Session session.Closed)
+        → wire.new.stop ≡ Some Ended }
+    ensures many { result ≡ Err (RunFault.Session session.TooManyReads)
+        → wire.new.reads ≡ wire.old.reads + 1000000 }
+    ensures few { wire.new.reads ≤ wire.old.reads + 1000000 }
+{
+    run_host(alloc, wire, records, layout, enhanced, responses)
+}
+
+fn run_host<L: Read + Write>(
     alloc: Global,
     wire: &mut Wire<L>,
     records: &[&[u8]],

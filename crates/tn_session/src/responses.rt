@@ -7,7 +7,7 @@ use crate::sent::push_headed;
 use crate::session::Agreed;
 use ds_codec::Why;
 use ds_terminal::Refused;
-use std::alloc::{AllocError, Global};
+use std::alloc::AllocError;
 use tn_wire::{DataType, Header};
 
 /// COMMAND-REJECT where the command is refused, else OPERATION-CHECK.
@@ -32,7 +32,6 @@ fn refusal_code(why: Refused) -> u8
 
 /// Adds a response to the record of a header.
 fn push_response(
-    alloc: Global,
     due: &mut Vec<u8>,
     header: Header,
     flag: u8,
@@ -46,12 +45,11 @@ fn push_response(
         response: flag,
         seq: header.seq,
     };
-    push_headed(alloc, due, response, &[code])
+    push_headed(due, response, &[code])
 }
 
 /// Adds a positive response, where the record wants one always.
 pub(crate) fn push_positive(
-    alloc: Global,
     due: &mut Vec<u8>,
     agreed: Agreed,
     header: Header,
@@ -59,14 +57,13 @@ pub(crate) fn push_positive(
     ensures { OnOk result (due.new.items ≡ due.old.items ++ positive agreed header) }
 {
     if agreed.responses && header.response == 2 {
-        return push_response(alloc, due, header, 0, 0);
+        return push_response(due, header, 0, 0);
     }
     Ok(())
 }
 
 /// Adds a negative response, where the record wants one to errors or always.
 pub(crate) fn push_negative(
-    alloc: Global,
     due: &mut Vec<u8>,
     agreed: Agreed,
     header: Header,
@@ -75,7 +72,7 @@ pub(crate) fn push_negative(
     ensures { OnOk result (due.new.items ≡ due.old.items ++ negative agreed header why) }
 {
     if agreed.responses && (header.response == 1 || header.response == 2) {
-        return push_response(alloc, due, header, 1, refusal_code(why));
+        return push_response(due, header, 1, refusal_code(why));
     }
     Ok(())
 }

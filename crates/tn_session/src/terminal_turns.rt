@@ -30,7 +30,6 @@ impl TerminalState {
     /// Answers, as to Read Modified.
     fn answer(
         &mut self,
-        alloc: Global,
         due: &mut Vec<u8>,
         agreed: Agreed,
         bytes: &[u8],
@@ -41,7 +40,7 @@ impl TerminalState {
         ensures after { OnOk result (self.new ≡ after_answer self.old) }
         ensures light { OnOk result (counted self.new ≤ counted self.old + 1) }
     {
-        push_data(alloc, due, agreed, 0, self.sequence, bytes)?;
+        push_data(due, agreed, 0, self.sequence, bytes)?;
         self.sequence = next_sequence(self.sequence);
         self.answers += 1;
         Ok(())
@@ -65,13 +64,12 @@ impl TerminalState {
     {
         let reply = self.terminal.receive(alloc, bytes)?;
         self.was_free = self.was_free || is_free(self.terminal.screen().lock());
-        self.reply(alloc, due, agreed, header, reply)
+        self.reply(due, agreed, header, reply)
     }
 
     /// Does what a terminal's reply asks for.
     fn reply(
         &mut self,
-        alloc: Global,
         due: &mut Vec<u8>,
         agreed: Agreed,
         header: Header,
@@ -86,16 +84,16 @@ impl TerminalState {
     {
         match reply {
             RecordReply::Shown(_) | RecordReply::Nothing => {
-                push_positive(alloc, due, agreed, header)?;
+                push_positive(due, agreed, header)?;
                 Ok(())
             }
             RecordReply::Sent(answer) => {
-                push_positive(alloc, due, agreed, header)?;
-                self.answer(alloc, due, agreed, &answer)?;
+                push_positive(due, agreed, header)?;
+                self.answer(due, agreed, &answer)?;
                 Ok(())
             }
             RecordReply::Refused(why) => {
-                push_negative(alloc, due, agreed, header, why)?;
+                push_negative(due, agreed, header, why)?;
                 self.refused += 1;
                 Ok(())
             }
@@ -136,7 +134,7 @@ impl TerminalState {
         ensures light { OnOk result (counted self.new ≤ counted self.old + 1) }
     {
         match reply {
-            KeyReply::Sent(bytes) => self.answer(alloc, due, agreed, &bytes),
+            KeyReply::Sent(bytes) => self.answer(due, agreed, &bytes),
             KeyReply::Done | KeyReply::Inhibited | KeyReply::Ignored => Ok(()),
         }
     }
