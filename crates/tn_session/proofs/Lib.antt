@@ -4,3 +4,14 @@ pub mod PairWords
 pub mod PairStages
 pub mod PairLaws
 pub mod ReplyLaws
+pub mod Walks
+pub mod RunLaws
+pub mod RunStates
+pub mod RunSteps
+pub mod HostSteps
+pub mod HostFinish
+pub mod HostEnds
+pub mod TerminalSteps
+pub mod RunEnds
+pub mod TerminalEnds
+pub mod TerminalRunning

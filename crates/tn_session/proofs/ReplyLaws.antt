@@ -28,7 +28,9 @@ use Rattle.tn_session.specs.Replies.{bytes_of, resource_name, function_list, off
 use Rattle.tn_session.specs.Rows.{Row, once, unless_on, is_set, is_within}
 use Rattle.tn_session.specs.Terminal.{terminal_row, terminal_agreed, is_classic, terminal_do, do_type, do_enhanced, terminal_will, terminal_dont, dont_enhanced, is_type_on, terminal_wont, terminal_send_type, terminal_send_device, named_device, joined_device, terminal_device, terminal_reject, terminal_functions, terminal_functions_request}
 use Rattle.tn_session.specs.Host.{host_row, host_agreed, opening, opening_in, is_offered, unless_offered, is_needed, host_will, will_enhanced, will_type, host_do, host_wont, wont_enhanced, wont_type, host_dont, request_joined, request_fitting, host_device_request, host_functions_request, asked_functions, host_functions, is_last, type_fitting, host_type}
-use Rattle.tn_session.specs.Steps.{Stepped, record_step, row_step, heard_step}
+use Rattle.tn_wire.specs.Stream.{Told as Event}
+use Rattle.tn_session.specs.Steps.{Stepped, record_step, row_step, heard_step, terminal_step, host_step}
+use Rattle.tn_session.specs.Ran.{IsOfEvents, session_cause}
 use Rattle.tn_session.specs.Pair.{IsHeard, TerminalIsHeard, HostIsHeard, OpeningIsHeard}
 use Rattle.tn_session.proofs.Names.{device_name-short, IfSome-device_of}
 
@@ -58,10 +60,10 @@ name-short : (d : DeviceValue) → length (name_of d) ≤ 12
 unfolding name_of
 name-short d = device_name-short (name_of d) d (inl refl)
 
--- a row says such tokens, or refuses
+-- a row says such tokens, or refuses the event
 abbrev RowLawful : {Core : Type 0} → Row Core → Type 0
 RowLawful (Ok row) = Lawful row.0
-RowLawful (Err why) = Unit {0}
+RowLawful (Err why) = IsOfEvents (session_cause why)
 
 by_if : {Core : Type 0} (b : Bool) (x y : Row Core) → RowLawful x → RowLawful y → RowLawful (if b then x else y)
 by_if true x y p q = p
@@ -384,7 +386,7 @@ h_row h hears_nothing = (tt, refl)
 
 abbrev StepLawful : {Core : Type 0} → Result (Stepped Core) SessionFault → Type 0
 StepLawful (Ok step) = Lawful step.reply
-StepLawful (Err why) = Unit {0}
+StepLawful (Err why) = IsOfEvents (session_cause why)
 
 by_record : {Core : Type 0} (core : Core) (agreed : Option Agreed) → StepLawful (record_step core agreed)
 by_record core None = tt
@@ -392,7 +394,7 @@ by_record core (Some agreed) = (tt, refl)
 
 by_row : {Core : Type 0} (agreed : Core → Option Agreed) (core : Core) (row : Row Core) → RowLawful row → StepLawful (row_step agreed core row)
 by_row agreed core (Ok row) h = h
-by_row agreed core (Err why) h = tt
+by_row agreed core (Err why) h = h
 
 by_heard : {Core : Type 0} (agreed : Core → Option Agreed) (rows : Core → Heard → Row Core) (core : Core) (h : Heard)
     → RowLawful (rows core h) → StepLawful (heard_step agreed rows core h)
@@ -412,6 +414,13 @@ by_heard agreed rows core hears_nothing r = by_row agreed core _ r
 pub terminal_heard : TerminalIsHeard
 terminal_heard t event s e =
     is_heard s.reply (subst StepLawful e (by_heard terminal_agreed terminal_row t (heard event) (t_row t (heard event))))
+
+-- a core refuses only for what the event says
+pub terminal_refuses : (t : TermCore) (event : Event) (why : SessionFault) → terminal_step t event ≡ Err why → IsOfEvents (session_cause why)
+terminal_refuses t event why e = subst StepLawful e (by_heard terminal_agreed terminal_row t (heard event) (t_row t (heard event)))
+
+pub host_refuses : (h : HostCore) (event : Event) (why : SessionFault) → host_step h event ≡ Err why → IsOfEvents (session_cause why)
+host_refuses h event why e = subst StepLawful e (by_heard host_agreed host_row h (heard event) (h_row h (heard event)))
 
 pub host_heard : HostIsHeard
 host_heard h event s e = is_heard s.reply (subst StepLawful e (by_heard host_agreed host_row h (heard event) (h_row h (heard event))))

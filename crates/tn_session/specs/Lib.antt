@@ -9,3 +9,12 @@ pub mod Terminal
 pub mod Host
 pub mod Steps
 pub mod Pair
+pub mod Sent
+pub mod Runs
+pub mod TerminalLog
+pub mod HostLog
+pub mod HostView
+pub mod HostRan
+pub mod Wire
+pub mod Ran
+pub mod TerminalRuns

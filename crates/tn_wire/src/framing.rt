@@ -1,6 +1,6 @@
 //! Records written.
 
-ghost use Rattle.std.specs.Prelude.{◌≡◌, ◌≤◌, [], ◌∷◌, ◌++◌, length, IfOk};
+ghost use Rattle.std.specs.Prelude.{◌≡◌, ◌≤◌, [], ◌∷◌, ◌++◌, length, IfOk, OnOk};
 ghost use Rattle.tn_wire.specs.Codes.{iac, end_of_record, record_most};
 ghost use Rattle.tn_wire.specs.Telnet.{quoted};
 ghost use Rattle.tn_wire.specs.Stream.{told_record, Tells};
@@ -19,7 +19,18 @@ pub fn frame(alloc: Global, bytes: &[u8]) -> Result<Vec<u8>, AllocError>
         → Tells framed.items (told_record bytes.now ∷ []) []) }
 {
     let mut framed = Vec::with_capacity(alloc, bytes.len() + 2)?;
-    push_quoted(&mut framed, bytes)?;
-    framed.extend_from_slice(&[IAC, EOR])?;
+    push_frame(&mut framed, &[], bytes)?;
     Ok(framed)
+}
+
+/// Adds the bytes of a record in two parts, such as a header and what it heads, as they go over the line: each IAC
+/// twice, and then IAC EOR.
+pub fn push_frame(out: &mut Vec<u8>, header: &[u8], bytes: &[u8]) -> Result<(), AllocError>
+    ensures { OnOk result (out.new.items
+        ≡ out.old.items ++ (quoted (header.now ++ bytes.now) ++ iac ∷ end_of_record ∷ [])) }
+{
+    push_quoted(out, header)?;
+    push_quoted(out, bytes)?;
+    out.extend_from_slice(&[IAC, EOR])?;
+    Ok(())
 }

@@ -2,7 +2,8 @@
 
 ghost use Rattle.std.specs.Prelude.{◌≡◌, ◌<◌, ◌≤◌, ◌↔◌, List, ℕ, ◌++◌, length, slice_index, Err};
 ghost use Rattle.std.specs.Prelude.{IfOk, IsOkAnd, IfSome, IsSome, IsTrue};
-ghost use Rattle.tn_wire.specs.Header.{type_code, is_type, header_bytes, FitsHeader};
+ghost use Rattle.std.specs.Prelude.{Ok, MatchResult};
+ghost use Rattle.tn_wire.specs.Header.{type_code, is_type, type_of, header_bytes, header_of, FitsHeader};
 
 use byteorder::{BigEndian, ByteOrder};
 use thiserror::Error;
@@ -35,6 +36,7 @@ impl DataType {
     pub fn from_byte(byte: u8) -> Option<DataType>
         ensures found { IsSome result ↔ IsTrue (is_type byte) }
         ensures code { IfSome result (λ data_type. type_code data_type ≡ byte) }
+        ensures exact { result ≡ type_of byte }
     {
         match byte {
             0 => Some(DataType::Data3270),
@@ -97,6 +99,7 @@ impl Header {
     /// The header at the front of a record, and the bytes after it.
     ///
     /// A record of fewer than five bytes is refused first, whatever its first byte; then a first byte above 08.
+    #[tactic(auto, unfolding(crate::specs::Header::header_of))]
     pub fn read(bytes: &[u8]) -> Result<(Header, &[u8]), HeaderFault>
         ensures found { IfOk result (λ read. bytes.now ≡ header_bytes read.0 ++ read.1.now) }
         ensures only { (header : Header) (rest : List ℕ) → FitsHeader header
@@ -105,6 +108,9 @@ impl Header {
         ensures short { (result ≡ Err HeaderFault.ShortHeader) ↔ (length bytes.now < 5) }
         ensures unknown { (result ≡ Err HeaderFault.UnknownType)
             ↔ ((5 ≤ length bytes.now) × (8 < slice_index bytes.now 0)) }
+        ensures exact { MatchResult result
+            (λ read. header_of bytes.now ≡ Ok (record { header = read.0; rest = read.1.now }))
+            (λ fault. header_of bytes.now ≡ Err fault) }
     {
         if bytes.len() < 5 {
             return Err(HeaderFault::ShortHeader);

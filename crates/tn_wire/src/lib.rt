@@ -18,6 +18,6 @@ mod run;
 pub use codes::{EOR, IAC, RECORD_LIMIT, SB, SE, SUBNEGOTIATION_LIMIT, Verb};
 pub use deframer::Deframer;
 pub use event::{Event, Step, WireFault};
-pub use framing::frame;
+pub use framing::{frame, push_frame};
 pub use header::{DataType, Header, HeaderFault};
 pub use laws::{one_answer, one_fault, one_reading, parts_law};

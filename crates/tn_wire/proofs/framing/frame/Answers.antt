@@ -6,5 +6,5 @@ use Rattle.tn_wire.proofs.framing.frame.Goals as goal
 
 pub returns-clause-one_record : goal.returns-clause-one_record
 returns-clause-one_record c fits =
-    let bytes : c.extend_from_slice.new.self.items ≡ quoted c.args.bytes.now ++ 255 ∷ 239 ∷ [] = search rules in
+    let bytes : c.push_frame.new.out.items ≡ quoted c.args.bytes.now ++ 255 ∷ 239 ∷ [] = search rules in
     subst (λ z. Tells z (told_record c.args.bytes.now ∷ []) []) (sym bytes) (tells_token c.args.bytes.now record_end fits tt)

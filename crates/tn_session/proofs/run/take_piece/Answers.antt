@@ -1,0 +1,72 @@
+use Rattle.std.proofs.Common.{◌≡◌, ℕ, [], ◌∷◌, List, refl, sym, ◌∙◌, ap, subst}
+use Rattle.std.specs.Prelude.{Result, Ok, Err}
+use Rattle.std.proofs.lemmas.Result.{err_from_is_err_and}
+use Rattle.tn_wire.specs.declared.event.WireFault.{WireFault}
+use Rattle.tn_wire.specs.declared.event.Step.{Step}
+use Rattle.tn_wire.specs.Calls.{told_of, events_in}
+use Rattle.tn_wire.specs.Deframer.{Held, Moves}
+use Rattle.tn_wire.specs.Stream.{Told}
+use Rattle.tn_session.specs.declared.fault.RunFault.{RunFault}
+use Rattle.tn_session.specs.Ran.{TakesEvent, TakesPiece, cause_of}
+use Rattle.tn_session.proofs.RunSteps.{piece_begins, piece_quiet, piece_at_fault, piece_goes, piece_finishes, piece_fails}
+use Rattle.tn_session.proofs.run.take_piece.Goals as goal
+
+pub events-init : goal.events-init
+events-init g c =
+    piece_begins g.M.Machine.act g.M.Machine.weight c.args.deframer.now c.args.machine.now c.args.wire.now c.args.piece.now c.requires.goes c.requires.fresh c.requires.open
+
+tells_of : (result : Result Step WireFault) (told : Result (List Told) WireFault) (old new : Held) (before after : List ℕ) → events_in result ≡ told
+    → Moves old before (events_in result) new after → Moves old before told new after
+tells_of result told old new before after is m = subst (λ z. Moves old before z new after) is m
+
+pub returns-in-Ok-NeedMore-clause-taken : goal.returns-in-Ok-NeedMore-clause-taken
+returns-in-Ok-NeedMore-clause-taken g c =
+    piece_quiet g.M.Machine.act g.M.Machine.weight c.args.deframer.now.content c.args.machine.now c.args.wire.now c.args.piece.now
+    c.events.deframer c.events.machine c.events.wire c.events.rest.now c.events.invariant c.next.follows.lender-at-none c.next.new.input.now
+    (tells_of c.next.result (Ok []) c.events.deframer c.next.follows.lender-at-none c.events.rest.now c.next.new.input.now
+    (ap events_in (c.in-Ok-NeedMore.is ∙ ap Ok c.in-Ok-NeedMore.field-0-is)) c.next.follows.holds-at-none)
+
+pub returns-in_err-take_event-in-Ok-Event-clause-taken :
+    goal.returns-in_err-take_event-in-Ok-Event-clause-taken
+returns-in_err-take_event-in-Ok-Event-clause-taken g c =
+    let p = err_from_is_err_and c.from_residual.result c.from_residual.ensures.1 in
+    let why : RunFault = c.in_err-take_event-in-Ok-Event.field-0.0 in
+    let is : c.from_residual.result ≡ Err why = p.1 ∙ ap Err p.2 in
+    subst (λ z. TakesPiece g.M.Machine.act c.args.deframer.now.content c.args.machine.now c.args.piece.now c.args.wire.now z
+    c.next.follows.lender-at-none.content c.take_event.new.machine c.take_event.new.wire) (sym is)
+    (piece_fails g.M.Machine.act g.M.Machine.weight c.args.deframer.now.content c.args.machine.now c.args.wire.now c.args.piece.now
+    c.events.deframer c.events.machine c.events.wire c.events.rest.now c.events.invariant c.next.follows.lender-at-none c.next.new.input.now
+    (told_of c.in-Ok-Event.event) c.take_event.new.machine c.take_event.new.wire
+    (tells_of c.next.result (Ok (told_of c.in-Ok-Event.event ∷ [])) c.events.deframer c.next.follows.lender-at-none c.events.rest.now c.next.new.input.now
+    (ap events_in (c.in-Ok-Event.is ∙ ap Ok c.in-Ok-Event.field-0-is)) c.next.follows.holds-at-none)
+    why (cause_of why) c.in_err-take_event-in-Ok-Event.ensures.taken)
+
+pub events-preserved : goal.events-preserved
+events-preserved g c =
+    let went = subst (λ t. TakesEvent (g.M.Machine.act c.events.machine (told_of c.in-Ok-Event.event)) c.events.wire (Ok t) c.take_event.new.machine c.take_event.new.wire)
+    c.in-Goes.is c.in_ok-take_event-in-Ok-Event.ensures.taken in
+    piece_goes g.M.Machine.act g.M.Machine.weight c.args.deframer.now.content c.args.machine.now c.args.wire.now c.args.piece.now
+    c.events.deframer c.events.machine c.events.wire c.events.rest.now c.events.invariant c.next.follows.lender-at-none c.next.new.input.now
+    (told_of c.in-Ok-Event.event) c.take_event.new.machine c.take_event.new.wire
+    (tells_of c.next.result (Ok (told_of c.in-Ok-Event.event ∷ [])) c.events.deframer c.next.follows.lender-at-none c.events.rest.now c.next.new.input.now
+    (ap events_in (c.in-Ok-Event.is ∙ ap Ok c.in-Ok-Event.field-0-is)) c.next.follows.holds-at-none)
+    went.0 went.1 went.2 c.in_ok-take_event-in-Ok-Event.ensures.light
+
+pub returns-in-Finishes-clause-taken : goal.returns-in-Finishes-clause-taken
+returns-in-Finishes-clause-taken g c =
+    let went = subst (λ t. TakesEvent (g.M.Machine.act c.events.machine (told_of c.in-Ok-Event.event)) c.events.wire (Ok t) c.take_event.new.machine c.take_event.new.wire)
+    c.in-Finishes.is c.in_ok-take_event-in-Ok-Event.ensures.taken in
+    piece_finishes g.M.Machine.act g.M.Machine.weight c.args.deframer.now.content c.args.machine.now c.args.wire.now c.args.piece.now
+    c.events.deframer c.events.machine c.events.wire c.events.rest.now c.events.invariant c.next.follows.lender-at-none c.next.new.input.now
+    (told_of c.in-Ok-Event.event) c.take_event.new.machine c.take_event.new.wire
+    (tells_of c.next.result (Ok (told_of c.in-Ok-Event.event ∷ [])) c.events.deframer c.next.follows.lender-at-none c.events.rest.now c.next.new.input.now
+    (ap events_in (c.in-Ok-Event.is ∙ ap Ok c.in-Ok-Event.field-0-is)) c.next.follows.holds-at-none)
+    went.0 went.1 went.2
+
+pub returns-in-Err-clause-taken : goal.returns-in-Err-clause-taken
+returns-in-Err-clause-taken g c =
+    piece_at_fault g.M.Machine.act g.M.Machine.weight c.args.deframer.now.content c.args.machine.now c.args.wire.now c.args.piece.now
+    c.events.deframer c.events.machine c.events.wire c.events.rest.now c.events.invariant c.next.follows.lender-at-none c.next.new.input.now
+    c.in-Err.fault
+    (tells_of c.next.result (Err c.in-Err.fault) c.events.deframer c.next.follows.lender-at-none c.events.rest.now c.next.new.input.now
+    (ap events_in c.in-Err.is) c.next.follows.holds-at-none)

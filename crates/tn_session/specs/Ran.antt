@@ -1,0 +1,156 @@
+-- What a run over a line did: what it read, what it sent, and how its log and the line then stand.
+use Rattle.std.specs.Prelude.{ℕ, ◌≡◌, ◌+◌, ◌≤◌, ◌⊎◌, List, [], ◌++◌, Option, Some, None, Result, Ok, Err}
+use Rattle.tn_wire.specs.declared.event.WireFault.{WireFault}
+use Rattle.tn_wire.specs.Stream.{Told}
+use Rattle.tn_session.specs.declared.stop.Stop.{Stop}
+use Rattle.tn_session.specs.declared.stop.Stop.TheVariants.{Ended, ReadFailed, WriteFailed}
+use Rattle.tn_session.specs.declared.session.SessionFault.{SessionFault}
+use Rattle.tn_session.specs.declared.session.SessionFault.TheVariants.{LineFault, TooManyReads, Closed}
+use Rattle.tn_session.specs.declared.fault.RunFault.{RunFault}
+use Rattle.tn_session.specs.declared.fault.RunFault.TheVariants as faults
+use Rattle.tn_session.specs.declared.turn.Turn.{Turn}
+use Rattle.tn_session.specs.declared.turn.Turn.TheVariants as turns
+use Rattle.tn_session.specs.declared.turn.Finish.{Finish}
+use Rattle.tn_session.specs.declared.turn.Finish.TheVariants as finish
+use Rattle.tn_session.specs.Wire.{WireState}
+use Rattle.tn_session.specs.Runs.{Log, goes, finishes, fails, going, finished, failed, GoesOn, EndsBy, EndsAtFault, IsPartDue}
+
+-- ---- faults, by what is at fault
+
+-- the stream; memory; a read or a write; the number of reads; the line's end; an event, or no device that fits
+pub data Cause : Type 0 where
+  of_stream : WireFault → Cause
+  of_memory : Cause
+  of_line : Cause
+  of_reads : Cause
+  of_end : Cause
+  of_events : Cause
+
+abbrev pub session_cause : SessionFault → Cause
+session_cause LineFault = of_line
+session_cause TooManyReads = of_reads
+session_cause Closed = of_end
+session_cause _ = of_events
+
+abbrev pub cause_of : RunFault → Cause
+cause_of (faults.Wire fault) = of_stream fault
+cause_of faults.OutOfMemory = of_memory
+cause_of (faults.Session why) = session_cause why
+cause_of _ = of_events
+
+-- a core's refusal of an event
+abbrev pub IsOfEvents : Cause → Type 0
+IsOfEvents of_events = Unit {0}
+IsOfEvents _ = ⊥
+
+-- ---- one event
+
+-- a fault of an event is the log's; or memory was refused
+abbrev pub FailsAs : {State : Type 0} → Log State → RunFault → Cause → Type 0
+FailsAs log why of_memory = Unit {0}
+FailsAs log why of_events = log ≡ failed why
+FailsAs log why _ = ⊥
+
+-- a call did what the log says of an event: these bytes are due, and this is the state after it
+abbrev pub Does : {State : Type 0} → Log State → Result Turn RunFault → State → List ℕ → Type 0
+Does log (Ok turns.Goes) new due = log ≡ going due new
+Does log (Ok turns.Finishes) new due = log ≡ finished due new
+Does log (Err why) new due = FailsAs log why (cause_of why)
+
+-- ---- what went over the line without a read
+
+pub record SentOn (old new : WireState) (bytes : List ℕ) (stop : Option Stop) : Type 0 where
+  pub sent : new.sent ≡ old.sent ++ bytes
+  pub received : new.received ≡ old.received
+  pub reads : new.reads ≡ old.reads
+  pub stop_is : new.stop ≡ stop
+
+-- a front of the bytes went out, and then a write failed
+pub record SentPart (old new : WireState) (bytes : List ℕ) : Type 0 where
+  pub part : List ℕ
+  pub lost : List ℕ
+  pub whole : bytes ≡ part ++ lost
+  pub went : SentOn old new part (Some WriteFailed)
+
+abbrev pub Sends : WireState → List ℕ → Result (Unit {0}) RunFault → WireState → Type 0
+Sends old bytes (Ok done) new = SentOn old new bytes None
+Sends old bytes (Err why) new = (why ≡ faults.Session LineFault) × SentPart old new bytes
+
+-- an event was taken, and what is due was sent
+abbrev pub EventFails : {State : Type 0} → Log State → WireState → RunFault → WireState → Cause → Type 0
+EventFails log old why new of_memory = SentOn old new [] None
+EventFails log old why new of_line = SentPart old new log.due
+EventFails log old why new of_events = (log ≡ failed why) × SentOn old new [] None
+EventFails log old why new _ = ⊥
+
+abbrev pub TakesEvent : {State : Type 0} → Log State → WireState → Result Turn RunFault → State → WireState → Type 0
+TakesEvent log old (Ok turns.Goes) end new = (due : List ℕ) × (log ≡ going due end) × SentOn old new due None
+TakesEvent log old (Ok turns.Finishes) end new = (due : List ℕ) × (log ≡ finished due end) × SentOn old new due None
+TakesEvent log old (Err why) end new = EventFails log old why new (cause_of why)
+
+-- ---- a piece of the stream, where so much of it was open before
+
+abbrev pub PieceFails : {State : Type 0} → (State → Told → Log State) → List ℕ → State → List ℕ → WireState → RunFault → WireState → Cause → Type 0
+PieceFails act before state piece old why new (of_stream fault) =
+    (due : List ℕ) × EndsAtFault act before state piece due fault × SentOn old new due None
+PieceFails act before state piece old why new of_memory = (sent : List ℕ) × IsPartDue act [] before state piece sent × SentOn old new sent None
+PieceFails act before state piece old why new of_line =
+    (sent : List ℕ) × IsPartDue act [] before state piece sent × SentOn old new sent (Some WriteFailed)
+PieceFails act before state piece old why new of_events =
+    (due : List ℕ) × EndsBy act before state piece due (fails why) × SentOn old new due None
+PieceFails act before state piece old why new _ = ⊥
+
+abbrev pub TakesPiece : {State : Type 0} → (State → Told → Log State) → List ℕ → State → List ℕ → WireState → Result Turn RunFault → List ℕ → State → WireState → Type 0
+TakesPiece act before state piece old (Ok turns.Goes) left end new =
+    (due : List ℕ) × GoesOn act before state piece due end left × SentOn old new due None
+TakesPiece act before state piece old (Ok turns.Finishes) left end new =
+    (due : List ℕ) × EndsBy act before state piece due (finishes end) × SentOn old new due None
+TakesPiece act before state piece old (Err why) left end new = PieceFails act before state piece old why new (cause_of why)
+
+-- ---- the whole run
+
+-- how a run ends whose line gave nothing
+abbrev pub stopped_by : Option Stop → Result Finish RunFault
+stopped_by (Some Ended) = Ok finish.Closed
+stopped_by _ = Err (faults.Session LineFault)
+
+-- so much was read and sent, by at most a million reads, and so the line then stands
+pub record PassedOver (old new : WireState) (stream sent : List ℕ) (stop : Option Stop) : Type 0 where
+  pub received : new.received ≡ old.received ++ stream
+  pub sent_is : new.sent ≡ old.sent ++ sent
+  pub few : new.reads ≤ old.reads + 1000000
+  pub stop_is : new.stop ≡ stop
+
+-- the log goes on at the end of what was read, and all that is due was sent
+pub record IsOpen {State : Type 0} (act : State → Told → Log State) (opening : List ℕ) (state : State) (old : WireState) (end : State) (new : WireState) (stop : Option Stop) : Type 0 where
+  pub stream : List ℕ
+  pub due : List ℕ
+  pub left : List ℕ
+  pub log : GoesOn act [] state stream due end left
+  pub passed : PassedOver old new stream (opening ++ due) stop
+
+-- a front of what is due was sent
+pub record IsCutShort {State : Type 0} (act : State → Told → Log State) (opening : List ℕ) (state : State) (old new : WireState) (stop : Option Stop) : Type 0 where
+  pub stream : List ℕ
+  pub sent : List ℕ
+  pub part : IsPartDue act opening [] state stream sent
+  pub passed : PassedOver old new stream sent stop
+
+abbrev pub RunFails : {State : Type 0} → (State → Told → Log State) → List ℕ → State → WireState → RunFault → WireState → Cause → Type 0
+RunFails act opening state old why new (of_stream fault) =
+    (stream : List ℕ) × (due : List ℕ) × EndsAtFault act [] state stream due fault × PassedOver old new stream (opening ++ due) None
+RunFails act opening state old why new of_memory = IsCutShort act opening state old new None
+RunFails {State = State} act opening state old why new of_line =
+    ((end : State) × IsOpen act opening state old end new (Some ReadFailed)) ⊎ IsCutShort act opening state old new (Some WriteFailed)
+RunFails {State = State} act opening state old why new of_reads =
+    (end : State) × IsOpen act opening state old end new None × (new.reads ≡ old.reads + 1000000)
+RunFails act opening state old why new of_end = ⊥
+RunFails act opening state old why new of_events =
+    (stream : List ℕ) × (due : List ℕ) × EndsBy act [] state stream due (fails why) × PassedOver old new stream (opening ++ due) None
+
+-- A run that sent an opening first. Where it finished or the line ended, this is its state at the end.
+abbrev pub Ran : {State : Type 0} → (State → Told → Log State) → List ℕ → State → WireState → Result Finish RunFault → State → WireState → Type 0
+Ran act opening state old (Ok finish.Finished) end new =
+    (stream : List ℕ) × (due : List ℕ) × EndsBy act [] state stream due (finishes end) × PassedOver old new stream (opening ++ due) None
+Ran act opening state old (Ok finish.Closed) end new = IsOpen act opening state old end new (Some Ended)
+Ran act opening state old (Err why) end new = RunFails act opening state old why new (cause_of why)

@@ -1,0 +1,206 @@
+-- What a terminal does over a line at each event: what it sends, and how its run then stands.
+use Rattle.std.specs.Prelude.{ℕ, ◌+◌, ◌==◌, Bool, true, false, ◌&&◌, ◌||◌, List, [], ◌∷◌, ◌++◌, length, Option, Some, None, Result, Ok, Err, if◌then◌else◌}
+use Rattle.ds_codec.specs.declared.refused.Why as reading
+use Rattle.ds_codec.specs.declared.refused.Why.TheVariants as reading_why
+use Rattle.ds_screen.specs.declared.lock.Lock.{Lock}
+use Rattle.ds_screen.specs.declared.lock.Lock.TheVariants.{Free, Waiting, Error}
+use Rattle.ds_screen.specs.Picture.{Picture}
+use Rattle.ds_screen.specs.Records.{new_picture}
+use Rattle.ds_keys.specs.declared.key.Key.{Key}
+use Rattle.ds_terminal.specs.declared.refused.Refused.{Refused}
+use Rattle.ds_terminal.specs.declared.refused.Refused.TheVariants.{Read, Apply}
+use Rattle.ds_terminal.specs.Terminal.{Reply, shown, answered, nothing, refused, KeyReply, done, inhibited, ignored, sent, KeyTurn, Turn, received, pressed}
+use Rattle.tn_wire.specs.declared.header.Header.{Header}
+use Rattle.tn_wire.specs.declared.header.HeaderFault.{HeaderFault}
+use Rattle.tn_wire.specs.declared.header.DataType.{DataType}
+use Rattle.tn_wire.specs.declared.header.DataType.TheVariants.{Data3270, Response}
+use Rattle.tn_wire.specs.Header.{Headed, header_bytes, header_of}
+use Rattle.tn_wire.specs.Stream.{Told, told_record}
+use Rattle.tn_session.specs.declared.device.Device.{Device}
+use Rattle.tn_session.specs.declared.session.Agreed.{Agreed}
+use Rattle.tn_session.specs.declared.session.SessionFault.{SessionFault}
+use Rattle.tn_session.specs.declared.fault.RunFault.TheVariants as faults
+use Rattle.tn_session.specs.declared.terminal.TermCore.{TermCore}
+use Rattle.tn_session.specs.declared.terminal_state.TerminalState.{TerminalState}
+use Rattle.tn_session.specs.Devices.{sizes_of}
+use Rattle.tn_session.specs.Replies.{bytes_of}
+use Rattle.tn_session.specs.Steps.{Stepped, terminal_step}
+use Rattle.tn_session.specs.Terminal.{new_terminal, terminal_agreed}
+use Rattle.tn_session.specs.Runs.{Log, going, finished, failed}
+use Rattle.tn_session.specs.Sent.{framed, next_sequence, sent_data, data_header}
+
+-- a terminal's run: what it keeps, and the keys that are left
+pub record TerminalRunning : Type 0 where
+  pub state : TerminalState
+  pub keys : List Key
+
+abbrev pub new_terminal_state : Device → Bool → Bool → TerminalState
+new_terminal_state device enhanced responses = record {
+  core = new_terminal device enhanced responses;
+  terminal = new_picture (sizes_of device.model);
+  sequence = 0;
+  was_free = false;
+  answers = 0;
+  passed = 0;
+  refused = 0;
+}
+
+-- all that it counts
+abbrev pub counted : TerminalState → ℕ
+counted state = state.answers + (state.passed + state.refused)
+
+abbrev pub terminal_weight : TerminalRunning → ℕ
+terminal_weight running = counted running.state + length running.keys
+
+abbrev pub terminal_start : Device → Bool → Bool → List Key → TerminalRunning
+terminal_start device enhanced responses keys = record { state = new_terminal_state device enhanced responses; keys = keys }
+
+-- what is sent, and what the terminal then keeps
+pub record Doing : Type 0 where
+  pub due : List ℕ
+  pub state : TerminalState
+
+abbrev pub doing : List ℕ → TerminalState → Doing
+doing due state = record { due = due; state = state }
+
+-- the same with the keys that are left
+pub record Typing : Type 0 where
+  pub due : List ℕ
+  pub running : TerminalRunning
+
+-- ---- responses (RFC 2355, section 10.4)
+
+-- one byte of data
+abbrev pub response_bytes : Header → ℕ → ℕ → List ℕ
+response_bytes header flag code =
+    framed (header_bytes (record { data_type = Response; request = 0; response = flag; seq = header.seq }) ++ code ∷ [])
+
+-- where one is wanted always
+abbrev pub positive : Agreed → Header → List ℕ
+positive agreed header = if agreed.responses && (header.response == 2) then response_bytes header 0 0 else []
+
+-- COMMAND-REJECT where the command is refused, else OPERATION-CHECK
+abbrev pub read_code : reading.Why → ℕ
+read_code reading_why.Empty = 0
+read_code reading_why.UnknownCommand = 0
+read_code reading_why.StructuredField = 0
+read_code _ = 2
+
+abbrev pub refusal_code : Refused → ℕ
+refusal_code (Read why) = read_code why.why
+refusal_code (Apply why) = 2
+
+-- where one is wanted to errors, or always
+abbrev pub negative : Agreed → Header → Refused → List ℕ
+negative agreed header why =
+    if agreed.responses && ((header.response == 1) || (header.response == 2)) then response_bytes header 1 (refusal_code why) else []
+
+-- ---- records of 3270 data
+
+abbrev pub is_free : Lock → Bool
+is_free Free = true
+is_free Waiting = false
+is_free Error = false
+
+abbrev pub is_waiting : Lock → Bool
+is_waiting Free = false
+is_waiting Waiting = true
+is_waiting Error = false
+
+-- an answer goes out
+abbrev pub answer_due : Agreed → TerminalState → List ℕ → List ℕ
+answer_due agreed state bytes = sent_data agreed 0 state.sequence bytes
+
+abbrev pub after_answer : TerminalState → TerminalState
+after_answer state = record state { sequence = next_sequence state.sequence; answers = state.answers + 1 }
+
+-- what a record makes of the screen
+abbrev pub after_record : TerminalState → Picture → TerminalState
+after_record state picture = record state { terminal = picture; was_free = state.was_free || is_free picture.lock }
+
+abbrev pub replied : Agreed → Header → TerminalState → Reply → Doing
+replied agreed header state (shown effect) = doing (positive agreed header) state
+replied agreed header state (answered bytes) = doing (positive agreed header ++ answer_due agreed state bytes) (after_answer state)
+replied agreed header state nothing = doing (positive agreed header) state
+replied agreed header state (refused why) = doing (negative agreed header why) (record state { refused = state.refused + 1 })
+
+-- what a turn of the terminal makes of the run
+abbrev pub turned : Agreed → Header → TerminalState → Turn → Doing
+turned agreed header state turn = replied agreed header (after_record state turn.after) turn.reply
+
+abbrev pub received_data : Agreed → Header → TerminalState → List ℕ → Doing
+received_data agreed header state bytes = turned agreed header state (received state.terminal bytes)
+
+-- ---- keys
+
+-- a key that sends is answered
+abbrev pub key_replied : Agreed → TerminalState → KeyReply → Doing
+key_replied agreed state (sent bytes) = doing (answer_due agreed state bytes) (after_answer state)
+key_replied agreed state done = doing [] state
+key_replied agreed state inhibited = doing [] state
+key_replied agreed state ignored = doing [] state
+
+abbrev pub key_turned : Agreed → TerminalState → KeyTurn → Doing
+key_turned agreed state turn = key_replied agreed (record state { terminal = turn.after }) turn.reply
+
+abbrev pub typed_key : Agreed → TerminalState → Key → Doing
+typed_key agreed state key = key_turned agreed state (pressed state.terminal key)
+
+-- these bytes first
+abbrev pub before : List ℕ → Typing → Typing
+before due later = record { due = due ++ later.due; running = later.running }
+
+-- keys are pressed one after the other, until the keyboard waits for a record
+abbrev pub typing : Agreed → TerminalState → List Key → Typing
+typing agreed state [] = record { due = []; running = record { state = state; keys = [] } }
+typing agreed state (key ∷ keys) =
+    if is_waiting state.terminal.lock then record { due = []; running = record { state = state; keys = key ∷ keys } }
+    else before (typed_key agreed state key).due (typing agreed (typed_key agreed state key).state keys)
+
+-- ---- events
+
+-- keys after a record
+abbrev pub then_typed : Agreed → List Key → Doing → Typing
+then_typed agreed keys did = before did.due (typing agreed did.state keys)
+
+-- the run is over once the keyboard has been free and no key is left
+abbrev pub standing : Typing → Log TerminalRunning
+standing typed =
+    if typed.running.state.was_free && (length typed.running.keys == 0) then finished typed.due typed.running else going typed.due typed.running
+
+abbrev pub taken_data : Agreed → Header → TerminalRunning → List ℕ → Log TerminalRunning
+taken_data agreed header running bytes = standing (then_typed agreed running.keys (received_data agreed header running.state bytes))
+
+-- records of other types are passed over
+abbrev pub passed_over : TerminalRunning → Log TerminalRunning
+passed_over running = going [] (record running { state = record running.state { passed = running.state.passed + 1 } })
+
+abbrev pub taken_typed : Agreed → Header → TerminalRunning → List ℕ → DataType → Log TerminalRunning
+taken_typed agreed header running bytes Data3270 = taken_data agreed header running bytes
+taken_typed agreed header running bytes _ = passed_over running
+
+abbrev pub taken_headed : Agreed → TerminalRunning → Result Headed HeaderFault → Log TerminalRunning
+taken_headed agreed running (Ok headed) = taken_typed agreed headed.header running headed.rest headed.header.data_type
+taken_headed agreed running (Err why) = failed (faults.Header why)
+
+-- a record of a classic session has no header, and wants no response
+abbrev pub taken_record : TerminalRunning → Option Agreed → List ℕ → Log TerminalRunning
+taken_record running None bytes = going [] running
+taken_record running (Some agreed) bytes =
+    if agreed.enhanced then taken_headed agreed running (header_of bytes) else taken_data agreed (data_header 0 0) running bytes
+
+abbrev pub with_core : TerminalRunning → TermCore → TerminalRunning
+with_core running core = record running { state = record running.state { core = core } }
+
+-- what the session's core makes of an event; a record is the terminal's
+abbrev pub stepped : TerminalRunning → Told → Stepped TermCore → Log TerminalRunning
+stepped running (told_record bytes) step = taken_record (with_core running step.core) (terminal_agreed step.core) bytes
+stepped running event step = going (bytes_of step.reply) (with_core running step.core)
+
+abbrev pub by_core : TerminalRunning → Told → Result (Stepped TermCore) SessionFault → Log TerminalRunning
+by_core running event (Ok step) = stepped running event step
+by_core running event (Err why) = failed (faults.Session why)
+
+-- one event
+abbrev pub terminal_act : TerminalRunning → Told → Log TerminalRunning
+terminal_act running event = by_core running event (terminal_step running.state.core event)

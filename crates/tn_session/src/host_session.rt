@@ -1,0 +1,80 @@
+//! A host's session over a line.
+
+ghost use Rattle.std.specs.Prelude.{◌≡◌, ◌+◌, ◌≤◌, ◌↔◌, map, None, Some, Err};
+ghost use Rattle.tn_session.specs.declared.session.SessionFault.TheVariants as session;
+ghost use Rattle.tn_session.specs.declared.stop.Stop.TheVariants.{Ended};
+ghost use Rattle.tn_session.specs.HostRan.{HostRan};
+ghost use Rattle.tn_session.specs.TerminalRuns.{HasFailed};
+
+use crate::fault::RunFault;
+use crate::host::HostCore;
+use crate::host_machine::HostMachine;
+use crate::outcome::HostOutcome;
+use crate::run::run_over;
+use crate::session::{Out, SessionFault};
+use crate::turn::Finish;
+use crate::wire::Wire;
+use scr_layout::Layout;
+use std::alloc::Global;
+use std::io::{Read, Write};
+
+/// Runs a host's session over a line: says what a host says first, sends the records once the session is ready, takes the
+/// RESPONSES to them, and reads the first answer by the layout. `enhanced` says whether it asks for TN3270E, `responses`
+/// whether it takes RESPONSES there. What is due is written before each read, and nothing is read past the answer.
+///
+/// # Errors
+///
+/// A fault of the bytes, of the session, of the answer or of its fields, in the stream's order; `NoDevice` before
+/// anything where no model has the layout's sizes; `Closed` where the line ends before an answer; `LineFault` where a
+/// read or a write failed; `TooManyReads` after 1,000,000 reads of at most 4,096 bytes.
+pub fn host_run<L: Read + Write>(
+    alloc: Global,
+    wire: &mut Wire<L>,
+    records: &[&[u8]],
+    layout: &Layout,
+    enhanced: bool,
+    responses: bool,
+) -> Result<HostOutcome, RunFault>
+    requires goes { wire.old.stop ≡ None }
+    requires counts { wire.old.reads + 1000000 ≤ u64.MAX }
+    // What was sent is what is due by the log of what was read, and the outcome is the log's.
+    ensures ran { HostRan layout.now (map (λ bytes. bytes.now) records.now) enhanced responses
+        wire.old result wire.new }
+    // A line fault is answered exactly where a read or a write failed.
+    ensures line { result ≡ Err (RunFault.Session session.LineFault)
+        ↔ HasFailed wire.new.stop }
+    ensures closed { result ≡ Err (RunFault.Session session.Closed)
+        → wire.new.stop ≡ Some Ended }
+    ensures many { result ≡ Err (RunFault.Session session.TooManyReads)
+        → wire.new.reads ≡ wire.old.reads + 1000000 }
+    ensures few { wire.new.reads ≤ wire.old.reads + 1000000 }
+{
+    run_host(alloc, wire, records, layout, enhanced, responses)
+}
+
+fn run_host<L: Read + Write>(
+    alloc: Global,
+    wire: &mut Wire<L>,
+    records: &[&[u8]],
+    layout: &Layout,
+    enhanced: bool,
+    responses: bool,
+) -> Result<HostOutcome, RunFault>
+    requires goes { wire.old.stop ≡ None }
+    requires counts { wire.old.reads + 1000000 ≤ u64.MAX }
+    ensures { HostRan layout.now (map (λ bytes. bytes.now) records.now) enhanced responses
+        wire.old result wire.new }
+{
+    let core = match HostCore::new(layout, enhanced, responses) {
+        Ok(core) => core,
+        Err(why) => return Err(RunFault::Session(why)),
+    };
+    let mut out = Out::new();
+    core.begin(&mut out);
+    let mut machine = HostMachine::new(layout, records, core);
+    match run_over(alloc, wire, &mut machine, &out) {
+        Ok(Finish::Finished) => machine.take_outcome(),
+        Ok(Finish::Closed) => Err(RunFault::Session(SessionFault::Closed)),
+        Err(why) => Err(why),
+    }
+}

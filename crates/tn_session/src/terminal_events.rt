@@ -1,0 +1,133 @@
+//! What an event does to a terminal's run.
+
+ghost use Rattle.std.specs.Prelude.{◌≡◌, ◌+◌, ◌<◌, ◌≤◌, ◌^◌, [], length, OnOk};
+ghost use Rattle.tn_wire.specs.Calls.{told_of};
+ghost use Rattle.tn_wire.specs.Header.{header_of};
+ghost use Rattle.tn_session.specs.Terminal.{terminal_agreed};
+ghost use Rattle.tn_session.specs.Ran.{Does};
+ghost use Rattle.tn_session.specs.TerminalLog.{counted, taken_data, taken_headed, taken_record, terminal_act};
+
+use crate::fault::RunFault;
+use crate::session::{Agreed, Out};
+use crate::terminal_state::TerminalState;
+use crate::turn::Turn;
+use ds_keys::Key;
+use std::alloc::Global;
+use tn_wire::{DataType, Event, Header};
+
+/// Takes a record of 3270 data, and presses keys.
+fn take_data(
+    alloc: Global,
+    due: &mut Vec<u8>,
+    state: &mut TerminalState,
+    keys: &mut &[Key],
+    agreed: Agreed,
+    header: Header,
+    bytes: &[u8],
+) -> Result<Turn, RunFault>
+    requires empty { due.old.items ≡ [] }
+    requires light { counted state.old + length keys.old.now + 1 < 2 ^ 64 }
+    ensures does { Does (taken_data agreed header
+        (record { state = state.old; keys = keys.old.now }) bytes.now) result
+        (record { state = state.new; keys = keys.new.now }) due.new.items }
+    ensures light { OnOk result (counted state.new + length keys.new.now
+        ≤ counted state.old + length keys.old.now + 1) }
+{
+    state.receive(alloc, due, agreed, header, bytes)?;
+    state.press_all(alloc, due, agreed, keys)?;
+    if state.was_free && keys.is_empty() {
+        Ok(Turn::Finishes)
+    } else {
+        Ok(Turn::Goes)
+    }
+}
+
+/// Takes a record of a TN3270E session: its header says what becomes of it.
+fn take_headed(
+    alloc: Global,
+    due: &mut Vec<u8>,
+    state: &mut TerminalState,
+    keys: &mut &[Key],
+    agreed: Agreed,
+    bytes: &[u8],
+) -> Result<Turn, RunFault>
+    requires empty { due.old.items ≡ [] }
+    requires light { counted state.old + length keys.old.now + 1 < 2 ^ 64 }
+    ensures does { Does (taken_headed agreed
+        (record { state = state.old; keys = keys.old.now }) (header_of bytes.now)) result
+        (record { state = state.new; keys = keys.new.now }) due.new.items }
+    ensures light { OnOk result (counted state.new + length keys.new.now
+        ≤ counted state.old + length keys.old.now + 1) }
+{
+    let (header, data) = match Header::read(bytes) {
+        Ok(read) => read,
+        Err(fault) => return Err(RunFault::Header(fault)),
+    };
+    match header.data_type {
+        DataType::Data3270 => take_data(alloc, due, state, keys, agreed, header, data),
+        _ => {
+            state.passed += 1;
+            Ok(Turn::Goes)
+        }
+    }
+}
+
+/// Takes a record, once the session is ready.
+fn take_record(
+    alloc: Global,
+    due: &mut Vec<u8>,
+    state: &mut TerminalState,
+    keys: &mut &[Key],
+    bytes: &[u8],
+) -> Result<Turn, RunFault>
+    requires empty { due.old.items ≡ [] }
+    requires light { counted state.old + length keys.old.now + 1 < 2 ^ 64 }
+    ensures does { Does (taken_record (record { state = state.old; keys = keys.old.now })
+        (terminal_agreed state.old.core) bytes.now) result
+        (record { state = state.new; keys = keys.new.now }) due.new.items }
+    ensures light { OnOk result (counted state.new + length keys.new.now
+        ≤ counted state.old + length keys.old.now + 1) }
+{
+    let Some(agreed) = state.core.agreed() else {
+        return Ok(Turn::Goes);
+    };
+    if agreed.enhanced {
+        return take_headed(alloc, due, state, keys, agreed, bytes);
+    }
+    let header = Header {
+        data_type: DataType::Data3270,
+        request: 0,
+        response: 0,
+        seq: 0,
+    };
+    take_data(alloc, due, state, keys, agreed, header, bytes)
+}
+
+/// Takes an event.
+pub(crate) fn take_event_of(
+    alloc: Global,
+    due: &mut Vec<u8>,
+    state: &mut TerminalState,
+    keys: &mut &[Key],
+    event: &Event<'_>,
+) -> Result<Turn, RunFault>
+    requires empty { due.old.items ≡ [] }
+    requires light { counted state.old + length keys.old.now + 1 < 2 ^ 64 }
+    ensures does { Does (terminal_act (record { state = state.old; keys = keys.old.now })
+        (told_of event.now)) result
+        (record { state = state.new; keys = keys.new.now }) due.new.items }
+    ensures light { OnOk result (counted state.new + length keys.new.now
+        ≤ counted state.old + length keys.old.now + 1) }
+{
+    let mut reply = Out::new();
+    if let Err(why) = state.core.step(event, &mut reply) {
+        return Err(RunFault::Session(why));
+    }
+    match event {
+        Event::Record(bytes) => take_record(alloc, due, state, keys, bytes),
+        Event::Verb(..) | Event::Sub(..) | Event::Passed(..) => {
+            due.extend_from_slice(&reply)?;
+            Ok(Turn::Goes)
+        }
+    }
+}

@@ -1,0 +1,65 @@
+//! A terminal as a machine that a line runs.
+
+use crate::fault::RunFault;
+use crate::machine::Machine;
+use crate::report::{Report, RunEnd};
+use crate::terminal_events::take_event_of;
+use crate::terminal_state::TerminalState;
+use crate::turn::{Finish, Turn};
+use ds_keys::Key;
+use std::alloc::Global;
+use std::marker::Model;
+use tn_wire::Event;
+
+/// A terminal's run: what it keeps, and the keys that are left.
+#[derive(Drop)]
+pub(crate) struct TerminalRun<'a> {
+    pub(crate) state: TerminalState,
+    pub(crate) keys: &'a [Key],
+}
+
+impl<'a> Model for TerminalRun<'a> {
+    ghost use Rattle.tn_session.specs.TerminalLog.{TerminalRunning};
+
+    ghost Value = { TerminalRunning };
+
+    ghost view = { λ r. record { state = r.state; keys = r.keys.now } };
+}
+
+impl<'a> Machine for TerminalRun<'a> {
+    ghost use Rattle.tn_session.specs.TerminalLog.{terminal_act, terminal_weight};
+
+    ghost act = { terminal_act };
+
+    ghost weight = { terminal_weight };
+
+    fn take(
+        &mut self,
+        alloc: Global,
+        event: &Event<'_>,
+        due: &mut Vec<u8>,
+    ) -> Result<Turn, RunFault> {
+        take_event_of(alloc, due, &mut self.state, &mut self.keys, event)
+    }
+}
+
+impl<'a> TerminalRun<'a> {
+    ghost use Rattle.std.specs.Prelude.{◌≡◌};
+    ghost use Rattle.tn_session.specs.TerminalRuns.{report_of, end_of};
+
+    /// What the run did.
+    pub(crate) fn report(&self, finish: Finish) -> Report
+        ensures { result ≡ report_of self.now (end_of finish) }
+    {
+        let end = match finish {
+            Finish::Finished => RunEnd::KeysUsed,
+            Finish::Closed => RunEnd::Closed,
+        };
+        Report {
+            end,
+            answers: self.state.answers,
+            passed: self.state.passed,
+            refused: self.state.refused,
+        }
+    }
+}

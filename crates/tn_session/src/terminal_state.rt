@@ -1,0 +1,24 @@
+//! What a terminal keeps during a run over a line.
+
+use crate::terminal::TermCore;
+use ds_screen::PlainCells;
+use ds_terminal::Terminal;
+
+/// A terminal's run, the keys that are left aside.
+#[derive(Drop)]
+pub(crate) struct TerminalState {
+    /// The session.
+    pub(crate) core: TermCore,
+    /// The screen and keyboard.
+    pub(crate) terminal: Terminal<PlainCells>,
+    /// The sequence number of the next answer.
+    pub(crate) sequence: u16,
+    /// The keyboard has been free.
+    pub(crate) was_free: bool,
+    /// Answers that were sent.
+    pub(crate) answers: u64,
+    /// Records that were passed over.
+    pub(crate) passed: u64,
+    /// Records that were refused.
+    pub(crate) refused: u64,
+}

@@ -1,0 +1,167 @@
+//! What a record and a key do to a terminal's run.
+
+ghost use Rattle.std.specs.Prelude.{◌≡◌, ◌+◌, ◌<◌, ◌≤◌, ◌^◌, ◌++◌, length, OnOk};
+ghost use Rattle.tn_session.specs.TerminalLog.{counted, is_free, is_waiting, answer_due, after_answer, replied, received_data, key_replied, typed_key, typing};
+ghost use Rattle.ds_terminal.specs.Seen.{reply_seen, key_reply_seen};
+
+use crate::responses::{push_negative, push_positive};
+use crate::sent::{next_sequence, push_data};
+use crate::session::Agreed;
+use crate::terminal_state::TerminalState;
+use ds_keys::Key;
+use ds_screen::Lock;
+use ds_terminal::{KeyReply, RecordReply};
+use std::alloc::{AllocError, Global};
+use tn_wire::Header;
+
+fn is_free(lock: Lock) -> bool
+    ensures { result ≡ is_free lock }
+{
+    matches!(lock, Lock::Free)
+}
+
+fn is_waiting(lock: Lock) -> bool
+    ensures { result ≡ is_waiting lock }
+{
+    matches!(lock, Lock::Waiting)
+}
+
+impl TerminalState {
+    /// Answers, as to Read Modified.
+    fn answer(
+        &mut self,
+        due: &mut Vec<u8>,
+        agreed: Agreed,
+        bytes: &[u8],
+    ) -> Result<(), AllocError>
+        requires { counted self.old + 1 < 2 ^ 64 }
+        ensures due { OnOk result
+            (due.new.items ≡ due.old.items ++ answer_due agreed self.old bytes.now) }
+        ensures after { OnOk result (self.new ≡ after_answer self.old) }
+        ensures light { OnOk result (counted self.new ≤ counted self.old + 1) }
+    {
+        push_data(due, agreed, 0, self.sequence, bytes)?;
+        self.sequence = next_sequence(self.sequence);
+        self.answers += 1;
+        Ok(())
+    }
+
+    /// Takes a record of 3270 data.
+    pub(crate) fn receive(
+        &mut self,
+        alloc: Global,
+        due: &mut Vec<u8>,
+        agreed: Agreed,
+        header: Header,
+        bytes: &[u8],
+    ) -> Result<(), AllocError>
+        requires { counted self.old + 1 < 2 ^ 64 }
+        ensures due { OnOk result (due.new.items
+            ≡ due.old.items ++ (received_data agreed header self.old bytes.now).due) }
+        ensures after { OnOk result
+            (self.new ≡ (received_data agreed header self.old bytes.now).state) }
+        ensures light { OnOk result (counted self.new ≤ counted self.old + 1) }
+    {
+        let reply = self.terminal.receive(alloc, bytes)?;
+        self.was_free = self.was_free || is_free(self.terminal.screen().lock());
+        self.reply(due, agreed, header, reply)
+    }
+
+    /// Does what a terminal's reply asks for.
+    fn reply(
+        &mut self,
+        due: &mut Vec<u8>,
+        agreed: Agreed,
+        header: Header,
+        reply: RecordReply,
+    ) -> Result<(), AllocError>
+        requires { counted self.old + 1 < 2 ^ 64 }
+        ensures due { OnOk result (due.new.items
+            ≡ due.old.items ++ (replied agreed header self.old (reply_seen reply)).due) }
+        ensures after { OnOk result
+            (self.new ≡ (replied agreed header self.old (reply_seen reply)).state) }
+        ensures light { OnOk result (counted self.new ≤ counted self.old + 1) }
+    {
+        match reply {
+            RecordReply::Shown(_) | RecordReply::Nothing => {
+                push_positive(due, agreed, header)?;
+                Ok(())
+            }
+            RecordReply::Sent(answer) => {
+                push_positive(due, agreed, header)?;
+                self.answer(due, agreed, &answer)?;
+                Ok(())
+            }
+            RecordReply::Refused(why) => {
+                push_negative(due, agreed, header, why)?;
+                self.refused += 1;
+                Ok(())
+            }
+        }
+    }
+
+    /// Presses a key.
+    fn press(
+        &mut self,
+        alloc: Global,
+        due: &mut Vec<u8>,
+        agreed: Agreed,
+        key: Key,
+    ) -> Result<(), AllocError>
+        requires { counted self.old + 1 < 2 ^ 64 }
+        ensures due { OnOk result
+            (due.new.items ≡ due.old.items ++ (typed_key agreed self.old key).due) }
+        ensures after { OnOk result (self.new ≡ (typed_key agreed self.old key).state) }
+        ensures light { OnOk result (counted self.new ≤ counted self.old + 1) }
+    {
+        let reply = self.terminal.press(alloc, key)?;
+        self.key_reply(alloc, due, agreed, reply)
+    }
+
+    /// Sends what a key sends.
+    fn key_reply(
+        &mut self,
+        alloc: Global,
+        due: &mut Vec<u8>,
+        agreed: Agreed,
+        reply: KeyReply,
+    ) -> Result<(), AllocError>
+        requires { counted self.old + 1 < 2 ^ 64 }
+        ensures due { OnOk result (due.new.items
+            ≡ due.old.items ++ (key_replied agreed self.old (key_reply_seen reply)).due) }
+        ensures after { OnOk result
+            (self.new ≡ (key_replied agreed self.old (key_reply_seen reply)).state) }
+        ensures light { OnOk result (counted self.new ≤ counted self.old + 1) }
+    {
+        match reply {
+            KeyReply::Sent(bytes) => self.answer(due, agreed, &bytes),
+            KeyReply::Done | KeyReply::Inhibited | KeyReply::Ignored => Ok(()),
+        }
+    }
+
+    /// Presses keys one after the other, until the keyboard waits for a record.
+    pub(crate) fn press_all(
+        &mut self,
+        alloc: Global,
+        due: &mut Vec<u8>,
+        agreed: Agreed,
+        keys: &mut &[Key],
+    ) -> Result<(), AllocError>
+        requires { counted self.old + length keys.old.now < 2 ^ 64 }
+        ensures due { OnOk result
+            (due.new.items ≡ due.old.items ++ (typing agreed self.old keys.old.now).due) }
+        ensures after { OnOk result (record { state = self.new; keys = keys.new.now }
+            ≡ (typing agreed self.old keys.old.now).running) }
+        ensures light { OnOk result (counted self.new + length keys.new.now
+            ≤ counted self.old + length keys.old.now) }
+    {
+        'keys: while let Some((key, rest)) = keys.split_first() {
+            if is_waiting(self.terminal.screen().lock()) {
+                return Ok(());
+            }
+            self.press(alloc, due, agreed, *key)?;
+            *keys = rest;
+        }
+        Ok(())
+    }
+}
