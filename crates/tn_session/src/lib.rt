@@ -15,13 +15,13 @@ mod machine;
 mod option;
 mod outcome;
 mod reply;
+mod report;
 mod responses;
 mod run;
 mod sent;
 mod session;
 mod stop;
 mod terminal;
-mod report;
 mod terminal_events;
 mod terminal_line;
 mod terminal_machine;
@@ -30,19 +30,15 @@ mod terminal_turns;
 mod turn;
 mod wire;
 
-pub use fault::RunFault;
 pub use device::{Device, DeviceName, ScreenModel};
+pub use fault::RunFault;
 pub use host::HostCore;
-pub use laws::{delivery_law, pair_law, reply_law};
-pub use session::{Agreed, Out, SessionFault, Told};
-
-
-
-pub use stop::Stop;
-pub use terminal::TermCore;
 pub use host_records::{fields_of, push_records, response_told};
+pub use laws::{delivery_law, pair_law, reply_law};
 pub use outcome::HostOutcome;
 pub use report::{Report, RunEnd};
+pub use session::{Agreed, Out, SessionFault, Told};
+pub use stop::Stop;
+pub use terminal::TermCore;
 pub use terminal_line::terminal_run;
-
 pub use wire::Wire;
