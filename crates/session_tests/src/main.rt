@@ -10,6 +10,8 @@
 #![tactic(auto)]
 
 mod ends;
+mod line;
+mod runs;
 
 use crate::ends::answers;
 use anyhow::{Context, Result};
@@ -126,6 +128,11 @@ fn line_answer(alloc: Global, setup: &mut Setup, line: &str) -> Result<Option<St
     }
     if line == "faults" {
         return Ok(Some(faults_text(alloc)?));
+    }
+    if let Some(run) = line.strip_prefix("run ") {
+        let (words, pieces) = run.split_once(" > ").context("pieces")?;
+        let asked = runs::asked_by(alloc, words, pieces)?;
+        return Ok(Some(runs::answer(alloc, &asked)?));
     }
     if let Some(name) = line.strip_prefix("name ") {
         return Ok(Some(device_text(alloc, name)?));

@@ -115,13 +115,12 @@ impl TerminalState {
         ensures light { OnOk result (counted self.new ≤ counted self.old + 1) }
     {
         let reply = self.terminal.press(alloc, key)?;
-        self.key_reply(alloc, due, agreed, reply)
+        self.key_reply(due, agreed, reply)
     }
 
     /// Sends what a key sends.
     fn key_reply(
         &mut self,
-        alloc: Global,
         due: &mut Vec<u8>,
         agreed: Agreed,
         reply: KeyReply,

@@ -41,8 +41,14 @@ impl<L: Read + Write> Wire<L> {
 
     /// A line over which nothing has passed.
     pub fn new(line: L) -> Wire<L>
-        ensures { result ≡ record { received = []; sent = []; reads = 0; stop = None;
-            left = L.remaining line; held = L.contents line } }
+        ensures { result ≡ record {
+          received = [];
+          sent = [];
+          reads = 0;
+          stop = None;
+          left = L.remaining line;
+          held = L.contents line;
+        } }
     {
         Wire {
             line,
