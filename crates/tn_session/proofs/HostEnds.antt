@@ -1,6 +1,6 @@
 -- How a line stands after a host's run.
-use Rattle.std.proofs.Common.{◌≡◌, ℕ, ◌+◌, ◌≤◌, Bool, List, None, Some, Ok, Err, refl, sym, ◌∙◌, ap, subst, inl, inr, ⊎_elim, arith}
-use Rattle.std.specs.Prelude.{Result, ◌↔◌, ◌⊎◌}
+use Rattle.std.proofs.Common.{◌≡◌, ℕ, ◌+◌, ◌≤◌, Bool, List, None, Some, Ok, Err, sym, ◌∙◌, ap, subst, inl, inr, ⊎_elim, arith}
+use Rattle.std.specs.Prelude.{Result, ◌↔◌}
 use Rattle.scr_layout.specs.Layout.{Declaration}
 use Rattle.tn_session.specs.declared.fault.RunFault.{RunFault}
 use Rattle.tn_session.specs.declared.fault.RunFault.TheVariants as faults
@@ -11,8 +11,8 @@ use Rattle.tn_session.specs.declared.turn.Finish.{Finish}
 use Rattle.tn_session.specs.declared.turn.Finish.TheVariants as finish
 use Rattle.tn_session.specs.Host.{new_host, opening}
 use Rattle.tn_session.specs.HostLog.{HostRunning, host_start, host_act}
-use Rattle.tn_session.specs.HostRan.{Answers, HostRuns, HasModel, HostRan}
-use Rattle.tn_session.specs.Ran.{Ran, cause_of, of_line}
+use Rattle.tn_session.specs.HostRan.{Answers, HostRan}
+use Rattle.tn_session.specs.Ran.{Ran, cause_of}
 use Rattle.tn_session.specs.Replies.{bytes_of}
 use Rattle.tn_session.specs.TerminalRuns.{HasFailed}
 use Rattle.tn_session.specs.Wire.{WireState}

@@ -1,5 +1,5 @@
 -- A host's run that an answer ended tells what came of it.
-use Rattle.std.proofs.Common.{◌≡◌, ℕ, ◌+◌, ◌&&◌, Bool, true, false, cond, nat_eq, nat_le, nat_lt, List, [], ◌∷◌, ◌++◌, length, Option, Some, None, Ok, Err, refl, sym, ◌∙◌, ap, subst, inl, inr}
+use Rattle.std.proofs.Common.{◌≡◌, ℕ, ◌&&◌, Bool, true, false, cond, nat_eq, nat_le, List, [], ◌∷◌, ◌++◌, length, Option, Some, None, Ok, Err, refl, sym, ◌∙◌, ap, subst}
 use Rattle.std.specs.Prelude.{Result}
 use Rattle.ds_inbound.specs.Answer.{Answer}
 use Rattle.ds_inbound.specs.Reading.{read_of}
@@ -15,7 +15,6 @@ use Rattle.tn_wire.specs.declared.header.DataType.TheVariants.{Data3270, ScsData
 use Rattle.tn_wire.specs.declared.header.Header.{Header}
 use Rattle.tn_wire.specs.declared.header.HeaderFault.{HeaderFault}
 use Rattle.tn_session.specs.declared.fault.RunFault.{RunFault}
-use Rattle.tn_session.specs.declared.fault.RunFault.TheVariants.{Session}
 use Rattle.tn_session.specs.declared.host.HostCore.{HostCore}
 use Rattle.tn_session.specs.declared.outcome.HostOutcome.{HostOutcome}
 use Rattle.tn_session.specs.declared.session.Agreed.{Agreed}
@@ -23,12 +22,12 @@ use Rattle.tn_session.specs.declared.session.SessionFault.{SessionFault}
 use Rattle.tn_session.specs.declared.turn.Finish.{Finish}
 use Rattle.tn_session.specs.declared.turn.Finish.TheVariants as finish
 use Rattle.tn_session.specs.Host.{new_host, opening, host_agreed}
-use Rattle.tn_session.specs.HostLog.{Outcome, HostRunning, host_start, ready_due, responded, is_awaited, taken_response, outcome_of, bound_answer, read_answer, taken_answer, taken_typed, taken_headed, taken_record, host_stepped, host_by_core, host_act}
+use Rattle.tn_session.specs.HostLog.{Outcome, HostRunning, host_start, ready_due, responded, is_awaited, outcome_of, bound_answer, read_answer, taken_answer, taken_typed, taken_headed, taken_record, host_stepped, host_by_core, host_act}
 use Rattle.tn_session.specs.HostRan.{Answers, HostRuns}
-use Rattle.tn_session.specs.HostView.{outcome_view, OutcomeTaken}
+use Rattle.tn_session.specs.HostView.{OutcomeTaken}
 use Rattle.tn_session.specs.Ran.{Ran}
 use Rattle.tn_session.specs.Replies.{bytes_of}
-use Rattle.tn_session.specs.Runs.{Course, goes, finishes, fails, Log, going, finished, failed, log_on, log_of}
+use Rattle.tn_session.specs.Runs.{Course, goes, finishes, fails, Log, going, failed, log_on, log_of}
 use Rattle.tn_session.specs.Steps.{Stepped, host_step}
 use Rattle.tn_session.specs.Wire.{WireState}
 

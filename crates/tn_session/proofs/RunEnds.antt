@@ -1,8 +1,7 @@
 -- How a line stands after a run, by what the run answered.
-use Rattle.std.proofs.Common.{◌≡◌, ℕ, ◌+◌, ◌≤◌, List, Some, None, Ok, Err, refl, sym, ◌∙◌, ap, subst, inl, inr, ⊎_elim}
-use Rattle.std.specs.Prelude.{Result, ◌⊎◌}
+use Rattle.std.proofs.Common.{◌≡◌, ℕ, ◌+◌, ◌≤◌, List, Some, None, Ok, Err, refl, sym, ◌∙◌, inl, inr, ⊎_elim}
+use Rattle.std.specs.Prelude.{Result}
 use Rattle.tn_wire.specs.Stream.{Told}
-use Rattle.tn_wire.specs.declared.event.WireFault.{WireFault}
 use Rattle.tn_session.specs.declared.stop.Stop.TheVariants.{Ended, ReadFailed, WriteFailed}
 use Rattle.tn_session.specs.declared.session.SessionFault.{SessionFault}
 use Rattle.tn_session.specs.declared.session.SessionFault.TheVariants as session

@@ -1,12 +1,11 @@
 -- What each step of a run does to what holds between the steps.
-use Rattle.std.proofs.Common.{◌≡◌, ℕ, ◌+◌, ◌*◌, ◌<◌, ◌≤◌, List, [], ◌∷◌, ◌++◌, length, take, None, Some, Ok, Err, refl, sym, ◌∙◌, ap, subst, inl, inr, ⊎_elim, arith, append_assoc, length-append}
-use Rattle.std.specs.Prelude.{Option, Result, ◌⊎◌, ◌≢◌}
+use Rattle.std.proofs.Common.{◌≡◌, ℕ, ◌+◌, ◌*◌, ◌<◌, ◌≤◌, List, [], ◌∷◌, ◌++◌, length, None, Some, Ok, Err, refl, sym, ◌∙◌, ap, subst, inl, inr, ⊎_elim, arith, append_assoc}
+use Rattle.std.specs.Prelude.{Option, Result}
 use Rattle.std.specs.Io.KnownBytes.{Keeps, IsAtEnd}
 use Rattle.std.proofs.lemmas.List.{append-nil}
 use Rattle.tn_wire.specs.declared.event.WireFault.{WireFault}
 use Rattle.tn_wire.specs.Deframer.{Held, Moves}
-use Rattle.tn_wire.specs.Calls.{Answers}
-use Rattle.tn_wire.specs.Stream.{Told, Tells, Faults}
+use Rattle.tn_wire.specs.Stream.{Told, Tells}
 use Rattle.tn_wire.proofs.Streams.{tells_nothing}
 use Rattle.tn_session.specs.declared.stop.Stop.{Stop}
 use Rattle.tn_session.specs.declared.stop.Stop.TheVariants.{Ended, ReadFailed, WriteFailed}
@@ -16,8 +15,8 @@ use Rattle.tn_session.specs.declared.fault.RunFault.TheVariants as faults
 use Rattle.tn_session.specs.declared.turn.Finish.{Finish}
 use Rattle.tn_session.specs.declared.turn.Finish.TheVariants as finish
 use Rattle.tn_session.specs.Wire.{WireState, Gave, IsRead}
-use Rattle.tn_session.specs.Runs.{Course, goes, finishes, fails, Log, going, finished, failed, log_of, GoesOn, EndsBy, EndsAtFault, IsPartDue}
-use Rattle.tn_session.specs.Ran.{Cause, of_stream, of_memory, of_line, of_reads, of_end, of_events, cause_of, SentOn, SentPart, Sends, EventFails, PieceFails, PassedOver, IsOpen, IsCutShort, RunFails, Ran, stopped_by}
+use Rattle.tn_session.specs.Runs.{finishes, fails, Log, going, finished, GoesOn, EndsBy, EndsAtFault, IsPartDue}
+use Rattle.tn_session.specs.Ran.{Cause, of_stream, of_memory, of_line, of_reads, of_end, of_events, SentOn, SentPart, Sends, EventFails, PieceFails, PassedOver, IsOpen, IsCutShort, RunFails, Ran, stopped_by}
 use Rattle.tn_session.proofs.RunLaws.{open_tells, goes-goes, goes-ends, goes-fault, goes-part, quiet, nothing_yet, one_goes, one_finishes, one_fails, none_sent, one_part, one_fault}
 use Rattle.tn_session.proofs.RunStates.{PieceSoFar, RunSoFar}
 

@@ -1,5 +1,5 @@
 -- How a line stands after a terminal's run.
-use Rattle.std.proofs.Common.{◌≡◌, ℕ, ◌+◌, ◌≤◌, Bool, List, [], Some, Ok, Err, refl, sym, ◌∙◌, ap, subst}
+use Rattle.std.proofs.Common.{◌≡◌, ◌+◌, ◌≤◌, Bool, List, [], Some, Ok, Err, ap, subst}
 use Rattle.std.specs.Prelude.{Result, ◌↔◌, IfOk}
 use Rattle.ds_keys.specs.declared.key.Key.{Key}
 use Rattle.tn_session.specs.declared.device.Device.{Device}
@@ -11,9 +11,9 @@ use Rattle.tn_session.specs.declared.report.Report.{Report}
 use Rattle.tn_session.specs.declared.report.RunEnd.{RunEnd}
 use Rattle.tn_session.specs.declared.report.RunEnd.TheVariants as ends
 use Rattle.tn_session.specs.Wire.{WireState}
-use Rattle.tn_session.specs.Ran.{RunFails, Ran, of_line, cause_of}
+use Rattle.tn_session.specs.Ran.{Ran, cause_of}
 use Rattle.tn_session.specs.TerminalLog.{TerminalRunning, terminal_start, terminal_act}
-use Rattle.tn_session.specs.TerminalRuns.{TerminalRan, HasFailed, finish_of, report_of}
+use Rattle.tn_session.specs.TerminalRuns.{TerminalRan, HasFailed, finish_of}
 use Rattle.tn_session.proofs.RunEnds.{line_cause, failed_line, line_failed, not_by_finish, few_reads}
 
 module _ (device : Device) (enhanced responses : Bool) (keys : List Key) (old new : WireState) where

@@ -1,5 +1,5 @@
 -- A terminal's run, from that of its machine.
-use Rattle.std.proofs.Common.{◌≡◌, ℕ, Bool, false, List, [], None, Ok, Err, refl, sym, ◌∙◌, ap, subst}
+use Rattle.std.proofs.Common.{◌≡◌, Bool, false, List, [], None, Ok, Err, refl, sym, ◌∙◌, ap, subst}
 use Rattle.std.specs.Prelude.{Result}
 use Rattle.ds_codec.specs.Geometry.{Sizes}
 use Rattle.ds_screen.specs.Picture.{Picture}
@@ -11,7 +11,6 @@ use Rattle.tn_session.specs.declared.fault.RunFault.TheVariants as faults
 use Rattle.tn_session.specs.declared.turn.Finish.{Finish}
 use Rattle.tn_session.specs.declared.turn.Finish.TheVariants as finish
 use Rattle.tn_session.specs.declared.report.Report.{Report}
-use Rattle.tn_session.specs.declared.report.RunEnd.{RunEnd}
 use Rattle.tn_session.specs.declared.terminal.TermCore.{TermCore}
 use Rattle.tn_session.specs.Devices.{sizes_of}
 use Rattle.tn_session.specs.Terminal.{new_terminal}

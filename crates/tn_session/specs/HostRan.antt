@@ -1,5 +1,5 @@
 -- What a host's run over a line did, and what it answers.
-use Rattle.std.specs.Prelude.{ℕ, ◌≡◌, ◌⊎◌, Bool, true, List, Option, Some, None, Result, Ok, Err}
+use Rattle.std.specs.Prelude.{ℕ, ◌≡◌, ◌⊎◌, Bool, true, List, Some, Result, Ok, Err}
 use Rattle.scr_layout.specs.Layout.{Declaration}
 use Rattle.tn_session.specs.declared.device.ScreenModel.{ScreenModel}
 use Rattle.tn_session.specs.declared.fault.RunFault.{RunFault}

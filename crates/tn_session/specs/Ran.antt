@@ -13,7 +13,7 @@ use Rattle.tn_session.specs.declared.turn.Turn.TheVariants as turns
 use Rattle.tn_session.specs.declared.turn.Finish.{Finish}
 use Rattle.tn_session.specs.declared.turn.Finish.TheVariants as finish
 use Rattle.tn_session.specs.Wire.{WireState}
-use Rattle.tn_session.specs.Runs.{Log, goes, finishes, fails, going, finished, failed, GoesOn, EndsBy, EndsAtFault, IsPartDue}
+use Rattle.tn_session.specs.Runs.{Log, finishes, fails, going, finished, failed, GoesOn, EndsBy, EndsAtFault, IsPartDue}
 
 -- ---- faults, by what is at fault
 

@@ -1,5 +1,5 @@
 -- Records as they go over a line.
-use Rattle.std.specs.Prelude.{ℕ, ◌+◌, nat_lt, List, [], ◌∷◌, ◌++◌, Bool, if◌then◌else◌}
+use Rattle.std.specs.Prelude.{ℕ, ◌+◌, nat_lt, List, [], ◌∷◌, ◌++◌, if◌then◌else◌}
 use Rattle.tn_wire.specs.Codes.{iac, end_of_record}
 use Rattle.tn_wire.specs.Telnet.{quoted}
 use Rattle.tn_wire.specs.declared.header.Header.{Header}

@@ -1,5 +1,5 @@
 -- What a terminal's run over a line did.
-use Rattle.std.specs.Prelude.{ℕ, ◌≡◌, ◌⊎◌, Bool, List, [], Option, Some, Result, Ok, Err}
+use Rattle.std.specs.Prelude.{◌≡◌, ◌⊎◌, Bool, List, [], Option, Some, Result, Ok, Err}
 use Rattle.ds_keys.specs.declared.key.Key.{Key}
 use Rattle.tn_session.specs.declared.device.Device.{Device}
 use Rattle.tn_session.specs.declared.stop.Stop.{Stop}

@@ -1,4 +1,4 @@
-use Rattle.std.proofs.Common.{◌≡◌, List, ℕ, map, length, Ok, Err, refl, sym, ap, ◌∙◌, inl}
+use Rattle.std.proofs.Common.{map, length, Ok, Err, refl, sym, ap, ◌∙◌, inl}
 use Rattle.std.proofs.lemmas.List.{length-map}
 use Rattle.tn_session.specs.declared.fault.RunFault.TheVariants.{Session}
 use Rattle.tn_session.specs.declared.session.SessionFault.TheVariants.{Closed}

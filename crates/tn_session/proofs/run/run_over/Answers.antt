@@ -1,10 +1,10 @@
-use Rattle.std.proofs.Common.{◌≡◌, ℕ, [], List, length, ◌≤◌, take, refl, sym, ◌∙◌, ap, subst, arith}
-use Rattle.std.specs.Prelude.{Result, Ok, Err, Some, None}
+use Rattle.std.proofs.Common.{◌≡◌, ℕ, length, ◌≤◌, take, sym, ◌∙◌, ap, subst, arith}
+use Rattle.std.specs.Prelude.{Ok, Err}
 use Rattle.std.proofs.lemmas.List.{length-take}
 use Rattle.std.proofs.lemmas.Result.{err_from_is_err_and}
 use Rattle.tn_session.specs.declared.fault.RunFault.{RunFault}
 use Rattle.tn_session.specs.Ran.{Ran, TakesPiece, cause_of}
-use Rattle.tn_session.proofs.RunSteps.{run_begins, opening_failed, no_memory, run_opens, run_stopped, run_goes, run_finishes, run_fails, too_many}
+use Rattle.tn_session.proofs.RunSteps.{run_begins, opening_failed, no_memory, run_opens, run_stopped, run_goes, run_finishes, run_fails}
 use Rattle.tn_session.proofs.run.run_over.Goals as goal
 
 pub returns-in_err-deframer : goal.returns-in_err-deframer

@@ -1,7 +1,6 @@
-use Rattle.std.proofs.Common.{◌≡◌, ℕ, List, sym, ◌∙◌, ap, subst, Ok}
+use Rattle.std.proofs.Common.{sym, ◌∙◌, ap, subst, Ok}
 use Rattle.tn_wire.specs.declared.event.Event.{Event}
 use Rattle.tn_wire.specs.Calls.{told_of}
-use Rattle.tn_wire.specs.Stream.{Told}
 use Rattle.tn_session.specs.Ran.{Does}
 use Rattle.tn_session.specs.Runs.{Log}
 use Rattle.tn_session.specs.Steps.{Takes, terminal_step}
