@@ -120,6 +120,14 @@ fn faults_text(alloc: Global) -> Result<String> {
     Ok(text)
 }
 
+/// A run that a line asks for, of a terminal or a host.
+fn run_asked(alloc: Global, words: &str, pieces: &str) -> Result<runs::Asked> {
+    match words.strip_prefix("serve ") {
+        Some(host) => runs::host_asked_by(alloc, host, pieces),
+        None => runs::asked_by(alloc, words.strip_prefix("run ").context("run")?, pieces),
+    }
+}
+
 /// What is printed after a line of the script, if anything.
 fn line_answer(alloc: Global, setup: &mut Setup, line: &str) -> Result<Option<String>> {
     if line.starts_with("terminal ") || line.starts_with("host ") {
@@ -129,9 +137,19 @@ fn line_answer(alloc: Global, setup: &mut Setup, line: &str) -> Result<Option<St
     if line == "faults" {
         return Ok(Some(faults_text(alloc)?));
     }
-    if let Some(run) = line.strip_prefix("run ") {
-        let (words, pieces) = run.split_once(" > ").context("pieces")?;
-        let asked = runs::asked_by(alloc, words, pieces)?;
+    if let Some(run) = line.strip_prefix("endless ") {
+        let asked = run_asked(alloc, run, "")?;
+        return Ok(Some(runs::endless_answer(alloc, &asked)?));
+    }
+    if let Some(run) = line.strip_prefix("paced ") {
+        let (words, passing) = run.split_once(" > ").context("pieces")?;
+        let (pieces, due) = passing.split_once(" < ").context("what is due")?;
+        let asked = run_asked(alloc, words, pieces)?;
+        return Ok(Some(runs::paced_answer(alloc, &asked, due)?));
+    }
+    if line.starts_with("run ") || line.starts_with("serve ") {
+        let (words, pieces) = line.split_once(" > ").context("pieces")?;
+        let asked = run_asked(alloc, words, pieces)?;
         return Ok(Some(runs::answer(alloc, &asked)?));
     }
     if let Some(name) = line.strip_prefix("name ") {

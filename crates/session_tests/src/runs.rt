@@ -1,10 +1,14 @@
-//! Runs of a terminal over a line in memory: whole, byte by byte, a byte a write, and with each call failing in turn.
+//! Runs of both ends over a line in memory: whole, byte by byte, a byte a write, and with each call failing in turn.
 
-use crate::line::Script;
+use crate::line::{Giving, Script};
 use anyhow::{Context, Result};
 use ds_keys::{Key, key_of_line};
+use scr_layout::Layout;
 use std::alloc::Global;
-use tn_session::{Device, Report, RunEnd, ScreenModel, Stop, Wire, terminal_run};
+use tn_session::{
+    Device, HostOutcome, Report, RunEnd, RunFault, ScreenModel, Stop, Wire, host_run,
+    terminal_run,
+};
 
 /// What a line of the script asks for.
 #[derive(Drop)]
@@ -12,7 +16,42 @@ pub(crate) struct Asked {
     enhanced: bool,
     responses: bool,
     keys: Vec<Key>,
+    host: Option<Hosted>,
     pieces: Vec<Vec<u8>>,
+}
+
+/// A host's layout and its records.
+#[derive(Drop)]
+struct Hosted {
+    layout: Layout,
+    records: Vec<Vec<u8>>,
+}
+
+fn hex_words(alloc: Global, words: &str, between: char) -> Result<Vec<Vec<u8>>> {
+    let mut read = Vec::new(alloc);
+    for word in words.split(between) {
+        read.push(hex::decode(alloc, word)?)?;
+    }
+    Ok(read)
+}
+
+/// `classic none 24x80 HEX,HEX > HEX HEX`: a layout of this size, with the input `code` at row 1, column 4, of length 3.
+pub(crate) fn host_asked_by(alloc: Global, words: &str, pieces: &str) -> Result<Asked> {
+    let (kind, rest) = words.split_once(' ').context("a kind")?;
+    let (responses, rest) = rest.split_once(' ').context("responses")?;
+    let (size, records) = rest.split_once(' ').context("a size")?;
+    let mut text = format!(in alloc; "default = \"{size}\"\n")?;
+    text.push_str("[[field]]\nname = \"code\"\nrow = 1\ncol = 4\nlength = 3\n")?;
+    Ok(Asked {
+        enhanced: kind == "enhanced",
+        responses: responses == "responses",
+        keys: Vec::new(alloc),
+        host: Some(Hosted {
+            layout: Layout::from_text(alloc, text.as_str())?,
+            records: hex_words(alloc, records, ',')?,
+        }),
+        pieces: hex_words(alloc, pieces, ' ')?,
+    })
 }
 
 /// `classic none type C2,enter > HEX HEX`: the keys are parted by commas, and `-` is none.
@@ -25,15 +64,12 @@ pub(crate) fn asked_by(alloc: Global, words: &str, pieces: &str) -> Result<Asked
             keys.push(key)?;
         }
     }
-    let mut read = Vec::new(alloc);
-    for piece in pieces.split(' ') {
-        read.push(hex::decode(alloc, piece)?)?;
-    }
     Ok(Asked {
         enhanced: kind == "enhanced",
         responses: responses == "responses",
         keys,
-        pieces: read,
+        host: None,
+        pieces: hex_words(alloc, pieces, ' ')?,
     })
 }
 
@@ -69,32 +105,86 @@ fn report_text(alloc: Global, report: &Report) -> Result<String> {
     Ok(format!(in alloc; "answers {answers} passed {passed} refused {refused} end {end}")?)
 }
 
-/// One run: the report or the fault, why the line stopped, and the line.
-fn run_text(alloc: Global, asked: &Asked, line: Script) -> Result<(String, Option<Stop>, Script)> {
+/// What was agreed on, the attention identifier, and each field by its entry's number.
+fn outcome_text(alloc: Global, outcome: &HostOutcome) -> Result<String> {
+    let kind = if outcome.agreed.enhanced { "enhanced" } else { "classic" };
+    let responses = if outcome.agreed.responses { "responses" } else { "none" };
+    let aid = outcome.aid.byte();
+    let mut text = format!(in alloc; "{kind} {responses} aid {aid:02X}")?;
+    for (entry, bytes) in outcome.fields.as_slice() {
+        let bytes = hex::encode_upper(alloc, bytes.as_slice())?;
+        write!(text, " {entry}={bytes}")?;
+    }
+    Ok(text)
+}
+
+fn terminal_text(
+    alloc: Global,
+    asked: &Asked,
+    line: Script,
+) -> Result<(String, Option<Stop>, Script)> {
     let device = Device {
         model: ScreenModel::Two,
         extended: false,
     };
-    let keys = asked.keys.as_slice();
     let mut wire = Wire::new(line);
-    let result = terminal_run(
+    let text = match terminal_run(
         alloc,
         &mut wire,
         device,
         asked.enhanced,
         asked.responses,
-        keys,
-    );
-    let stop = wire.stop();
-    let text = match result {
+        asked.keys.as_slice(),
+    ) {
         Ok(report) => report_text(alloc, &report)?,
-        Err(fault) => format!(in alloc; "{fault}")?,
+        Err(fault) => fault_text(alloc, fault)?,
     };
+    let stop = wire.stop();
     Ok((text, stop, wire.into_line()))
+}
+
+fn host_text(
+    alloc: Global,
+    asked: &Asked,
+    host: &Hosted,
+    line: Script,
+) -> Result<(String, Option<Stop>, Script)> {
+    let mut records = Vec::new(alloc);
+    for bytes in host.records.as_slice() {
+        records.push(bytes.as_slice())?;
+    }
+    let mut wire = Wire::new(line);
+    let text = match host_run(
+        alloc,
+        &mut wire,
+        records.as_slice(),
+        &host.layout,
+        asked.enhanced,
+        asked.responses,
+    ) {
+        Ok(outcome) => outcome_text(alloc, &outcome)?,
+        Err(fault) => fault_text(alloc, fault)?,
+    };
+    let stop = wire.stop();
+    Ok((text, stop, wire.into_line()))
+}
+
+fn fault_text(alloc: Global, fault: RunFault) -> Result<String> {
+    Ok(format!(in alloc; "{fault}")?)
+}
+
+/// One run: the report, the outcome or the fault, why the line stopped, and the line.
+fn run_text(alloc: Global, asked: &Asked, line: Script) -> Result<(String, Option<Stop>, Script)> {
+    match &asked.host {
+        Some(host) => host_text(alloc, asked, host, line),
+        None => terminal_text(alloc, asked, line),
+    }
 }
 
 fn line_of(alloc: Global, pieces: Vec<Vec<u8>>, width: usize, fails_at: usize) -> Script {
     Script {
+        giving: Giving::Ends,
+        due: Vec::new(alloc),
         pieces,
         next: 0,
         at: 0,
@@ -102,6 +192,7 @@ fn line_of(alloc: Global, pieces: Vec<Vec<u8>>, width: usize, fails_at: usize) -
         width,
         calls: 0,
         fails_at,
+        read_failed: false,
     }
 }
 
@@ -127,8 +218,11 @@ fn failing_text(alloc: Global, asked: &Asked, whole: &str) -> Result<String> {
             return Ok(text);
         }
         let written = hex::encode_upper(alloc, line.written.as_slice())?;
-        let failed = matches!(stop, Some(Stop::ReadFailed | Stop::WriteFailed));
-        if told.as_str() != "N8 LineFault" || !failed || !whole.starts_with(written.as_str()) {
+        let failed = if line.read_failed { Stop::ReadFailed } else { Stop::WriteFailed };
+        if told.as_str() != "N8 LineFault"
+            || stop != Some(failed)
+            || !whole.starts_with(written.as_str())
+        {
             write!(text, " but at call {fails_at} {written} {told}")?;
         }
     }
@@ -146,9 +240,36 @@ pub(crate) fn answer(alloc: Global, asked: &Asked) -> Result<String> {
     if bytes.as_str() != text.as_str() {
         write!(text, " but byte by byte {bytes}")?;
     }
-    if narrow.as_str().trim() != text.as_str() {
+    if narrow.as_str() != text.as_str() {
         write!(text, " but a byte a write {narrow}")?;
     }
     write!(text, ";{failing}; no byte a write:{none}")?;
     Ok(text)
+}
+
+/// A run whose line gives each piece only once the words due before it were written: `HEX HEX < HEX HEX`.
+pub(crate) fn paced_answer(alloc: Global, asked: &Asked, words: &str) -> Result<String> {
+    let mut line = line_of(
+        alloc,
+        pieces_of(alloc, asked.pieces.as_slice())?,
+        usize::MAX,
+        0,
+    );
+    line.giving = Giving::Paced;
+    let mut due = 0_usize;
+    for word in hex_words(alloc, words, ' ')?.as_slice() {
+        due = due.saturating_add(word.len());
+        line.due.push(due)?;
+    }
+    let (told, _stop, _line) = run_text(alloc, asked, line)?;
+    Ok(told)
+}
+
+/// A run whose line never ends.
+pub(crate) fn endless_answer(alloc: Global, asked: &Asked) -> Result<String> {
+    let mut line = line_of(alloc, Vec::new(alloc), usize::MAX, 0);
+    line.giving = Giving::Endless;
+    let (told, _stop, line) = run_text(alloc, asked, line)?;
+    let written = hex::encode_upper(alloc, line.written.as_slice())?;
+    Ok(format!(in alloc; "{written} {told}")?)
 }
