@@ -1,85 +1,126 @@
 //! Headers and codes, and the words of refusals.
 
-use crate::notation::{bytes_of, push_bytes};
 use anyhow::Result;
-use std::alloc::Global;
+use std::alloc::{AllocError, Global};
+use test_words::{bytes_of, push_bytes, push_hex, push_word_hex, push_word_number};
 use tn_wire::{DataType, Header, HeaderFault, Verb, WireFault};
 
+fn name_of(data_type: DataType) -> &'static str {
+    match data_type {
+        DataType::Data3270 => "Data3270",
+        DataType::ScsData => "ScsData",
+        DataType::Response => "Response",
+        DataType::BindImage => "BindImage",
+        DataType::Unbind => "Unbind",
+        DataType::NvtData => "NvtData",
+        DataType::Request => "Request",
+        DataType::SscpLuData => "SscpLuData",
+        DataType::PrintEoj => "PrintEoj",
+    }
+}
+
+pub(crate) fn push_wire_fault(out: &mut String, fault: WireFault) -> Result<(), AllocError> {
+    write!(out, "{fault}")
+}
+
+fn push_header_fault(out: &mut String, fault: HeaderFault) -> Result<(), AllocError> {
+    write!(out, "{fault}")
+}
+
+fn push_header(out: &mut String, header: Header) -> Result<(), AllocError> {
+    out.push_str(name_of(header.data_type))?;
+    push_word_number(out, " ", u32::from(header.request))?;
+    push_word_number(out, " ", u32::from(header.response))?;
+    push_word_number(out, " ", u32::from(header.seq))
+}
+
 /// A header, the record after it, and the header's bytes again.
-fn told_header(alloc: Global, record: &[u8]) -> Result<String> {
-    let mut out = String::new(alloc);
+fn push_read(out: &mut String, record: &[u8]) -> Result<(), AllocError> {
     match Header::read(record) {
         Ok((header, rest)) => {
-            let (request, response) = (header.request, header.response);
-            let (data_type, seq) = (header.data_type, header.seq);
-            write!(out, "{data_type:?} {request} {response} {seq}, ")?;
-            push_bytes(&mut out, rest)?;
+            push_header(out, header)?;
+            out.push_str(", ")?;
+            push_bytes(out, rest)?;
             out.push_str(", again ")?;
-            push_bytes(&mut out, &header.bytes())?;
+            push_bytes(out, &header.bytes())
         }
-        Err(fault) => write!(out, "{fault}")?,
+        Err(fault) => push_header_fault(out, fault),
     }
-    Ok(out)
+}
+
+fn push_verb_of(out: &mut String, byte: u8) -> Result<(), AllocError> {
+    let Some(verb) = Verb::from_byte(byte) else {
+        return Ok(());
+    };
+    push_hex(out, byte)?;
+    push_word_hex(out, " as ", verb.byte())?;
+    out.push(';')
 }
 
 /// The bytes that are verbs.
-fn told_verbs(alloc: Global) -> Result<String> {
-    let mut out = String::new(alloc);
+fn push_verbs(out: &mut String) -> Result<(), AllocError> {
     for byte in 0..=255u8 {
-        if let Some(verb) = Verb::from_byte(byte) {
-            let written = verb.byte();
-            write!(out, "{byte:02X} as {written:02X};")?;
-        }
+        push_verb_of(out, byte)?;
     }
-    Ok(out)
+    Ok(())
+}
+
+fn push_type_of(out: &mut String, byte: u8) -> Result<(), AllocError> {
+    let Some(data_type) = DataType::from_byte(byte) else {
+        return Ok(());
+    };
+    push_hex(out, byte)?;
+    out.push(' ')?;
+    out.push_str(name_of(data_type))?;
+    push_word_hex(out, " as ", data_type.byte())?;
+    out.push(';')
 }
 
 /// The bytes that are types of data.
-fn told_types(alloc: Global) -> Result<String> {
-    let mut out = String::new(alloc);
+fn push_types(out: &mut String) -> Result<(), AllocError> {
     for byte in 0..=255u8 {
-        if let Some(data_type) = DataType::from_byte(byte) {
-            let written = data_type.byte();
-            write!(out, "{byte:02X} {data_type:?} as {written:02X};")?;
-        }
+        push_type_of(out, byte)?;
     }
-    Ok(out)
+    Ok(())
 }
 
 /// Every refusal's words.
-fn told_words(alloc: Global) -> Result<String> {
-    let mut out = String::new(alloc);
-    for fault in [
-        WireFault::RecordTooLong,
-        WireFault::SubTooLong,
-        WireFault::BadSub,
-    ] {
-        write!(out, "{fault};")?;
-    }
-    for fault in [HeaderFault::ShortHeader, HeaderFault::UnknownType] {
-        write!(out, "{fault};")?;
-    }
-    Ok(out)
+fn push_words(out: &mut String) -> Result<(), AllocError> {
+    push_wire_fault(out, WireFault::RecordTooLong)?;
+    out.push(';')?;
+    push_wire_fault(out, WireFault::SubTooLong)?;
+    out.push(';')?;
+    push_wire_fault(out, WireFault::BadSub)?;
+    out.push(';')?;
+    push_header_fault(out, HeaderFault::ShortHeader)?;
+    out.push(';')?;
+    push_header_fault(out, HeaderFault::UnknownType)?;
+    out.push(';')
 }
 
 /// Each law does nothing.
-fn told_laws(alloc: Global) -> Result<String> {
+fn push_laws(out: &mut String) -> Result<(), AllocError> {
     tn_wire::one_reading();
     tn_wire::parts_law();
     tn_wire::one_fault();
     tn_wire::one_answer();
-    Ok(String::from_str(alloc, "done")?)
+    out.push_str("done")
 }
 
-/// What a verb answers.
-pub(crate) fn answer(alloc: Global, verb: &str, words: &str) -> Result<Option<String>> {
-    let text = match verb {
-        "header" => told_header(alloc, bytes_of(alloc, words)?.as_slice())?,
-        "verbs" => told_verbs(alloc)?,
-        "types" => told_types(alloc)?,
-        "words" => told_words(alloc)?,
-        "laws" => told_laws(alloc)?,
-        _ => return Ok(None),
-    };
-    Ok(Some(text))
+/// Adds what a verb answers; whether it is one of these.
+pub(crate) fn push_answer(
+    alloc: Global,
+    out: &mut String,
+    verb: &str,
+    words: &str,
+) -> Result<bool> {
+    match verb {
+        "header" => push_read(out, bytes_of(alloc, words)?.as_slice())?,
+        "verbs" => push_verbs(out)?,
+        "types" => push_types(out)?,
+        "words" => push_words(out)?,
+        "laws" => push_laws(out)?,
+        _ => return Ok(false),
+    }
+    Ok(true)
 }

@@ -8,35 +8,39 @@
 #![tactic(auto)]
 
 mod codes;
-mod notation;
 mod streams;
 
 use anyhow::Result;
 use std::alloc::Global;
+use test_words::is_row;
 
-/// What is printed after a line of the script, if anything.
-fn line_answer(alloc: Global, line: &str) -> Result<Option<String>> {
-    if line.is_empty() || line.starts_with("#") {
-        return Ok(None);
-    }
+/// Adds what a row answers.
+fn push_answer(alloc: Global, out: &mut String, line: &str) -> Result<()> {
     let (verb, words) = line.split_once(' ').unwrap_or((line, ""));
-    if let Some(text) = streams::answer(alloc, verb, words)? {
-        return Ok(Some(text));
+    if streams::push_answer(alloc, out, verb, words)?
+        || codes::push_answer(alloc, out, verb, words)?
+    {
+        return Ok(());
     }
-    if let Some(text) = codes::answer(alloc, verb, words)? {
-        return Ok(Some(text));
+    Ok(out.push_str("no such verb")?)
+}
+
+/// A line as it is printed: of a row with its answer.
+fn printed(alloc: Global, line: &str) -> Result<String> {
+    let mut out = String::from_str(alloc, line)?;
+    if is_row(line) {
+        out.push_str(" > ")?;
+        push_answer(alloc, &mut out, line)?;
     }
-    Ok(Some(String::from_str(alloc, "no such verb")?))
+    Ok(out)
 }
 
 fn main(rt: HostRuntime) -> Result<()> {
     let alloc = rt.alloc();
     for line in rt.lines(alloc) {
         let line = line?;
-        match line_answer(alloc, line.as_str())? {
-            Some(answer) => println!(rt; "{line} > {answer}")?,
-            None => println!(rt; "{line}")?,
-        }
+        let text = printed(alloc, line.as_str())?;
+        println!(rt; "{text}")?;
     }
     Ok(())
 }
