@@ -1,96 +1,125 @@
 //! Answers written and read.
 
 use crate::Setup;
-use crate::notation::{byte, bytes_of, number, push_bytes, told_bytes};
-use crate::screens::{opened, write_all};
+use crate::refusals::push_answer_refused;
+use crate::screens::screen_after;
 use anyhow::{Context, Result};
-use ds_codec::{Aid, Mode};
+use ds_codec::{Aid, Char, Mode};
 use ds_inbound::{Inbound, chars, write_buffer, write_inbound};
+use ds_screen::{PlainCells, Screen};
 use std::alloc::{AllocError, Global};
+use test_words::{
+    byte, bytes_of, cut_word, number, push_bytes, push_hex, push_length, push_word_hex,
+    push_word_number,
+};
 
 /// Bytes, and how many characters they are.
 fn push_characters(out: &mut String, raw: &[u8]) -> Result<(), AllocError> {
     push_bytes(out, raw)?;
-    let count = chars(raw).count();
-    write!(out, " of {count}")
+    out.push_str(" of ")?;
+    push_length(out, chars(raw).count())
 }
 
-fn push_answer(out: &mut String, answer: &Inbound<'_>) -> Result<(), AllocError> {
-    let aid = answer.aid().byte();
-    write!(out, "{aid:02X}")?;
-    if let Some(cursor) = answer.cursor() {
-        write!(out, " cursor {cursor}")?;
+fn push_cursor(out: &mut String, cursor: Option<u32>) -> Result<(), AllocError> {
+    match cursor {
+        Some(cursor) => push_word_number(out, " cursor ", cursor),
+        None => Ok(()),
     }
-    if !answer.lead().is_empty() {
-        out.push_str(" lead ")?;
-        push_characters(out, answer.lead())?;
+}
+
+fn push_lead(out: &mut String, lead: &[u8]) -> Result<(), AllocError> {
+    if lead.is_empty() {
+        return Ok(());
     }
+    out.push_str(" lead ")?;
+    push_characters(out, lead)
+}
+
+fn push_fields(out: &mut String, answer: &Inbound<'_>) -> Result<(), AllocError> {
     for field in answer.fields() {
-        let place = field.place;
-        write!(out, ", {place} ")?;
+        push_word_number(out, ", ", field.place)?;
+        out.push(' ')?;
         push_characters(out, field.raw)?;
     }
     Ok(())
 }
 
+fn push_inbound(out: &mut String, answer: &Inbound<'_>) -> Result<(), AllocError> {
+    push_hex(out, answer.aid().byte())?;
+    push_cursor(out, answer.cursor())?;
+    push_lead(out, answer.lead())?;
+    push_fields(out, answer)
+}
+
 /// What bytes say of a buffer of so many cells.
-fn told_answer(alloc: Global, words: &str) -> Result<String> {
-    let (cells, bytes) = words.split_once(' ').context("cells and bytes")?;
+fn push_read(alloc: Global, out: &mut String, words: &str) -> Result<()> {
+    let (cells, bytes) = cut_word(words)?;
+    let cells = number(cells)?;
     let bytes = bytes_of(alloc, bytes)?;
-    let mut out = String::new(alloc);
-    match Inbound::read(Mode::Bits14, number(cells)?, bytes.as_slice()) {
-        Ok(answer) => push_answer(&mut out, &answer)?,
-        Err(refused) => write!(out, "{refused}")?,
+    match Inbound::read(Mode::Bits14, cells, bytes.as_slice()) {
+        Ok(answer) => Ok(push_inbound(out, &answer)?),
+        Err(refused) => Ok(push_answer_refused(out, refused)?),
     }
-    Ok(out)
+}
+
+fn push_character(out: &mut String, character: Char) -> Result<(), AllocError> {
+    push_word_hex(
+        out,
+        if character.alt() { " GE " } else { " " },
+        character.code(),
+    )
 }
 
 /// The characters of bytes.
-fn told_characters(alloc: Global, raw: &[u8]) -> Result<String> {
-    let mut out = String::from_str(alloc, "characters")?;
+fn push_codes(out: &mut String, raw: &[u8]) -> Result<(), AllocError> {
+    out.push_str("characters")?;
     for character in chars(raw) {
-        let code = character.code();
-        out.push_str(if character.alt() { " GE" } else { "" })?;
-        write!(out, " {code:02X}")?;
+        push_character(out, character)?;
     }
-    Ok(out)
+    Ok(())
+}
+
+fn push_modified(
+    alloc: Global,
+    out: &mut String,
+    screen: &Screen<PlainCells>,
+    all: bool,
+) -> Result<()> {
+    let bytes = write_inbound(alloc, screen, all)?;
+    Ok(push_bytes(out, bytes.as_slice())?)
 }
 
 /// What a screen answers to Read Modified and to Read Modified All, after a key and more records.
-fn told_sent(alloc: Global, setup: &Setup, words: &str) -> Result<String> {
+fn push_sent(alloc: Global, setup: &Setup, out: &mut String, words: &str) -> Result<()> {
     let (aid, records) = words.split_once(' ').unwrap_or((words, ""));
-    let mut screen = opened(alloc, setup)?;
-    write_all(alloc, &mut screen, records)?;
-    screen.set_aid(Aid::from_byte(byte(aid)?).context("an attention identifier")?);
-    let modified = write_inbound(alloc, &screen, false)?;
-    let all = write_inbound(alloc, &screen, true)?;
-    let mut out = told_bytes(alloc, modified.as_slice())?;
+    let aid = Aid::from_byte(byte(aid)?).context("an attention identifier")?;
+    let mut screen = screen_after(alloc, setup, records)?;
+    screen.set_aid(aid);
+    push_modified(alloc, out, &screen, false)?;
     out.push_str(" all ")?;
-    push_bytes(&mut out, all.as_slice())?;
-    Ok(out)
+    push_modified(alloc, out, &screen, true)
 }
 
-/// What a screen answers to Read Buffer after more records.
-fn told_buffer(alloc: Global, setup: &Setup, records: &str) -> Result<String> {
-    let mut screen = opened(alloc, setup)?;
-    write_all(alloc, &mut screen, records)?;
-    let bytes = write_buffer(alloc, &screen)?;
-    told_bytes(alloc, bytes.as_slice())
+/// What a screen answers to Read Buffer.
+fn push_buffer(alloc: Global, out: &mut String, screen: &Screen<PlainCells>) -> Result<()> {
+    let bytes = write_buffer(alloc, screen)?;
+    Ok(push_bytes(out, bytes.as_slice())?)
 }
 
-/// What a verb answers.
-pub(crate) fn answer(
+/// Adds what a verb answers; whether it is one of these.
+pub(crate) fn push_answer(
     alloc: Global,
     setup: &Setup,
+    out: &mut String,
     verb: &str,
     words: &str,
-) -> Result<Option<String>> {
-    let text = match verb {
-        "answer" => told_answer(alloc, words)?,
-        "characters" => told_characters(alloc, bytes_of(alloc, words)?.as_slice())?,
-        "sent" => told_sent(alloc, setup, words)?,
-        "buffer" => told_buffer(alloc, setup, words)?,
-        _ => return Ok(None),
-    };
-    Ok(Some(text))
+) -> Result<bool> {
+    match verb {
+        "answer" => push_read(alloc, out, words)?,
+        "characters" => push_codes(out, bytes_of(alloc, words)?.as_slice())?,
+        "sent" => push_sent(alloc, setup, out, words)?,
+        "buffer" => push_buffer(alloc, out, &screen_after(alloc, setup, words)?)?,
+        _ => return Ok(false),
+    }
+    Ok(true)
 }

@@ -1,105 +1,113 @@
 //! Keys pressed, one after the other or each by itself.
 
 use crate::Setup;
-use crate::screens::{opened, told_all, told_cells};
+use crate::screens::{opened, push_all, push_cells};
 use anyhow::{Context, Result};
 use ds_keys::{Pressed, key_of_line, press};
 use ds_screen::{PlainCells, Screen};
-use std::alloc::Global;
+use std::alloc::{AllocError, Global};
+use test_words::{between_bars, push_word_hex, push_word_number};
+
+fn push_pressed(out: &mut String, told: Pressed, cursor: u32) -> Result<(), AllocError> {
+    match told {
+        Pressed::Done => push_word_number(out, "done ", cursor),
+        Pressed::Inhibited => push_word_number(out, "inhibited ", cursor),
+        Pressed::Ignored => push_word_number(out, "ignored ", cursor),
+        Pressed::Sent(aid) => push_word_hex(out, "sent ", aid.byte()),
+    }
+}
+
+/// Presses the key of a line.
+fn press_line(screen: &mut Screen<PlainCells>, line: &str) -> Result<Pressed> {
+    let key = key_of_line(line).context("a key")?;
+    Ok(press(screen, key))
+}
 
 /// What is answered to a key line, with the cursor.
-fn push_answer(out: &mut String, screen: &mut Screen<PlainCells>, line: &str) -> Result<()> {
-    let key = key_of_line(line).context("a key")?;
-    let told = press(screen, key);
-    let cursor = screen.cursor();
-    match told {
-        Pressed::Done => write!(out, "done {cursor}, ")?,
-        Pressed::Inhibited => write!(out, "inhibited {cursor}, ")?,
-        Pressed::Ignored => write!(out, "ignored {cursor}, ")?,
-        Pressed::Sent(aid) => write!(out, "sent {:02X}, ", aid.byte())?,
-    }
-    Ok(())
+fn push_key(out: &mut String, screen: &mut Screen<PlainCells>, line: &str) -> Result<()> {
+    let told = press_line(screen, line)?;
+    push_pressed(out, told, screen.cursor())?;
+    Ok(out.push_str(", ")?)
 }
 
 /// Presses keys, and adds what is answered to each.
-fn push_answers(out: &mut String, screen: &mut Screen<PlainCells>, lines: &str) -> Result<()> {
+fn push_keys(out: &mut String, screen: &mut Screen<PlainCells>, lines: &str) -> Result<()> {
     for line in lines.split(", ") {
         if !line.is_empty() {
-            push_answer(out, screen, line)?;
+            push_key(out, screen, line)?;
         }
     }
     Ok(())
 }
 
-/// The answers to keys one after the other.
-fn told_keys(alloc: Global, setup: &Setup, lines: &str) -> Result<String> {
+/// Presses keys.
+fn press_all(screen: &mut Screen<PlainCells>, lines: &str) -> Result<()> {
+    for line in lines.split(", ") {
+        if !line.is_empty() {
+            let _told = press_line(screen, line)?;
+        }
+    }
+    Ok(())
+}
+
+/// A new screen after some keys.
+fn pressed(alloc: Global, setup: &Setup, lines: &str) -> Result<Screen<PlainCells>> {
     let mut screen = opened(alloc, setup)?;
-    let mut out = String::new(alloc);
-    push_answers(&mut out, &mut screen, lines)?;
-    Ok(out)
+    press_all(&mut screen, lines)?;
+    Ok(screen)
 }
 
 /// The answers to keys, each on a screen of its own that took some keys before, which a bar ends.
-fn told_each(alloc: Global, setup: &Setup, words: &str) -> Result<String> {
+fn push_each(alloc: Global, setup: &Setup, out: &mut String, words: &str) -> Result<()> {
     let (before, lines) = words.split_once("|").unwrap_or(("", words));
-    let mut out = String::new(alloc);
     for line in lines.split(", ") {
-        let mut screen = opened(alloc, setup)?;
-        let mut early = String::new(alloc);
-        push_answers(&mut early, &mut screen, before)?;
-        push_answer(&mut out, &mut screen, line)?;
+        let mut screen = pressed(alloc, setup, before)?;
+        push_key(out, &mut screen, line)?;
     }
-    Ok(out)
+    Ok(())
 }
 
-/// The cells after keys, and the bits of the fields.
-fn told_typed(alloc: Global, setup: &Setup, lines: &str) -> Result<String> {
-    let mut screen = opened(alloc, setup)?;
-    let mut early = String::new(alloc);
-    push_answers(&mut early, &mut screen, lines)?;
-    let mut out = told_cells(alloc, &screen)?;
+/// The cells, and the bits of the fields.
+fn push_typed(
+    alloc: Global,
+    out: &mut String,
+    screen: &Screen<PlainCells>,
+) -> Result<(), AllocError> {
+    push_cells(alloc, out, screen)?;
     for field in screen.fields() {
-        write!(out, " {:02X}", field.attr.bits())?;
+        push_word_hex(out, " ", field.attr.bits())?;
     }
-    Ok(out)
+    Ok(())
 }
 
-/// The whole screen after keys.
-fn told_pressed(alloc: Global, setup: &Setup, lines: &str) -> Result<String> {
+/// The answers to keys, and the whole screen after them.
+fn push_screen(alloc: Global, setup: &Setup, out: &mut String, lines: &str) -> Result<()> {
     let mut screen = opened(alloc, setup)?;
-    let mut out = String::new(alloc);
-    push_answers(&mut out, &mut screen, lines)?;
-    let all = told_all(alloc, &screen)?;
-    out.push_str(all.as_str())?;
-    Ok(out)
+    push_keys(out, &mut screen, lines)?;
+    Ok(push_all(alloc, out, &screen)?)
 }
 
 /// Whether a line between bars is a key.
-fn told_word(alloc: Global, words: &str) -> Result<String> {
-    let line = words.strip_prefix("|").context("a bar")?;
-    let line = line.strip_suffix("|").context("a bar")?;
-    let told = if key_of_line(line).is_some() {
-        "a key"
-    } else {
-        "no key"
-    };
-    Ok(String::from_str(alloc, told)?)
+fn push_word(out: &mut String, words: &str) -> Result<()> {
+    let is_key = key_of_line(between_bars(words)?).is_some();
+    Ok(out.push_str(if is_key { "a key" } else { "no key" })?)
 }
 
-/// What a verb answers.
-pub(crate) fn answer(
+/// Adds what a verb answers; whether it is one of these.
+pub(crate) fn push_answer(
     alloc: Global,
     setup: &Setup,
+    out: &mut String,
     verb: &str,
     words: &str,
-) -> Result<Option<String>> {
-    let text = match verb {
-        "keys" => told_keys(alloc, setup, words)?,
-        "each" => told_each(alloc, setup, words)?,
-        "typed" => told_typed(alloc, setup, words)?,
-        "pressed" => told_pressed(alloc, setup, words)?,
-        "word" => told_word(alloc, words)?,
-        _ => return Ok(None),
-    };
-    Ok(Some(text))
+) -> Result<bool> {
+    match verb {
+        "keys" => push_keys(out, &mut opened(alloc, setup)?, words)?,
+        "each" => push_each(alloc, setup, out, words)?,
+        "typed" => push_typed(alloc, out, &pressed(alloc, setup, words)?)?,
+        "pressed" => push_screen(alloc, setup, out, words)?,
+        "word" => push_word(out, words)?,
+        _ => return Ok(false),
+    }
+    Ok(true)
 }

@@ -14,7 +14,7 @@ mod codes;
 mod inbound;
 mod keys;
 mod large;
-mod notation;
+mod refusals;
 mod ring;
 mod screens;
 mod searches;
@@ -24,6 +24,7 @@ mod words;
 use anyhow::{Context, Result};
 use ds_codec::Size;
 use std::alloc::Global;
+use test_words::is_row;
 
 /// What the screens of a script's lines begin with.
 #[derive(Drop)]
@@ -48,62 +49,64 @@ fn set_sizes(setup: &mut Setup, sizes: &str) -> Result<()> {
     Ok(())
 }
 
-/// What a verb answers that begins with a screen.
-fn screen_answer(alloc: Global, setup: &Setup, verb: &str, words: &str) -> Result<Option<String>> {
-    if let Some(text) = screens::answer(alloc, setup, verb, words)? {
-        return Ok(Some(text));
-    }
-    if let Some(text) = searches::answer(alloc, setup, verb, words)? {
-        return Ok(Some(text));
-    }
-    if let Some(text) = keys::answer(alloc, setup, verb, words)? {
-        return Ok(Some(text));
-    }
-    terminal::answer(alloc, setup, verb, words)
-}
-
-/// What any other verb answers.
-fn plain_answer(alloc: Global, verb: &str, words: &str) -> Result<Option<String>> {
-    if let Some(text) = codec::answer(alloc, verb, words)? {
-        return Ok(Some(text));
-    }
-    if let Some(text) = codes::answer(alloc, verb, words)? {
-        return Ok(Some(text));
-    }
-    if let Some(text) = ring::answer(alloc, verb, words)? {
-        return Ok(Some(text));
-    }
-    words::answer(alloc, verb)
-}
-
-fn verb_answer(alloc: Global, setup: &Setup, verb: &str, words: &str) -> Result<String> {
-    if let Some(text) = plain_answer(alloc, verb, words)? {
-        return Ok(text);
-    }
-    if let Some(text) = inbound::answer(alloc, setup, verb, words)? {
-        return Ok(text);
-    }
-    if let Some(text) = large::answer(alloc, setup, verb, words)? {
-        return Ok(text);
-    }
-    if let Some(text) = screen_answer(alloc, setup, verb, words)? {
-        return Ok(text);
-    }
-    Ok(String::from_str(alloc, "no such verb")?)
-}
-
-/// What is printed after a line of the script, if anything.
-fn line_answer(alloc: Global, setup: &mut Setup, line: &str) -> Result<Option<String>> {
-    if line.is_empty() || line.starts_with("#") {
-        return Ok(None);
-    }
+/// Takes a line that says what the screens begin with; whether it is one.
+fn take_line(alloc: Global, setup: &mut Setup, line: &str) -> Result<bool> {
     let (verb, words) = line.split_once(' ').unwrap_or((line, ""));
     match verb {
         "screen" => set_sizes(setup, words)?,
         "after" => setup.after = String::from_str(alloc, words)?,
-        _ => return Ok(Some(verb_answer(alloc, setup, verb, words)?)),
+        _ => return Ok(false),
     }
-    Ok(None)
+    Ok(true)
+}
+
+/// Adds what a verb answers that begins with a screen; whether it is one.
+fn push_screen_answer(
+    alloc: Global,
+    setup: &Setup,
+    out: &mut String,
+    verb: &str,
+    words: &str,
+) -> Result<bool> {
+    Ok(
+        screens::push_answer(alloc, setup, out, verb, words)?
+            || searches::push_answer(alloc, setup, out, verb, words)?
+            || keys::push_answer(alloc, setup, out, verb, words)?
+            || terminal::push_answer(alloc, setup, out, verb, words)?
+            || inbound::push_answer(alloc, setup, out, verb, words)?
+            || large::push_answer(alloc, setup, out, verb, words)?,
+    )
+}
+
+/// Adds what any other verb answers; whether it is one.
+fn push_plain_answer(alloc: Global, out: &mut String, verb: &str, words: &str) -> Result<bool> {
+    Ok(
+        codec::push_answer(alloc, out, verb, words)?
+            || codes::push_answer(alloc, out, verb, words)?
+            || ring::push_answer(out, verb, words)?
+            || words::push_answer(out, verb)?,
+    )
+}
+
+/// Adds what a row answers.
+fn push_answer(alloc: Global, setup: &Setup, out: &mut String, line: &str) -> Result<()> {
+    let (verb, words) = line.split_once(' ').unwrap_or((line, ""));
+    if push_plain_answer(alloc, out, verb, words)?
+        || push_screen_answer(alloc, setup, out, verb, words)?
+    {
+        return Ok(());
+    }
+    Ok(out.push_str("no such verb")?)
+}
+
+/// A line as it is printed: of a row with its answer.
+fn printed(alloc: Global, setup: &mut Setup, line: &str) -> Result<String> {
+    let mut out = String::from_str(alloc, line)?;
+    if is_row(line) && !take_line(alloc, setup, line)? {
+        out.push_str(" > ")?;
+        push_answer(alloc, setup, &mut out, line)?;
+    }
+    Ok(out)
 }
 
 fn main(rt: HostRuntime) -> Result<()> {
@@ -116,10 +119,8 @@ fn main(rt: HostRuntime) -> Result<()> {
     };
     for line in rt.lines(alloc) {
         let line = line?;
-        match line_answer(alloc, &mut setup, line.as_str())? {
-            Some(answer) => println!(rt; "{line} > {answer}")?,
-            None => println!(rt; "{line}")?,
-        }
+        let text = printed(alloc, &mut setup, line.as_str())?;
+        println!(rt; "{text}")?;
     }
     Ok(())
 }

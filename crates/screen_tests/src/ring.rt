@@ -1,47 +1,47 @@
 //! Steps round the ring of positions.
 
-use crate::notation::number;
 use anyhow::{Context, Result};
 use ds_screen::ring::{backward, distance, forward, next, previous};
-use std::alloc::Global;
+use test_words::{number, push_number, push_word_number};
 
 /// The positions after and before one of so many.
-fn told_beside(alloc: Global, n: u32, p: u32) -> Result<String> {
+fn push_beside(out: &mut String, n: u32, p: u32) -> Result<()> {
     if p >= n {
         return None.context("a position inside");
     }
-    Ok(format!(in alloc; "{} {}", next(n, p), previous(n, p))?)
+    push_number(out, next(n, p))?;
+    Ok(push_word_number(out, " ", previous(n, p))?)
 }
 
 /// The positions so many steps on and back.
-fn told_far(alloc: Global, n: u32, p: u32, steps: u32) -> Result<String> {
+fn push_far(out: &mut String, n: u32, p: u32, steps: u32) -> Result<()> {
     if p >= n || steps > n {
         return None.context("a position inside");
     }
-    Ok(format!(in alloc; "{} {}", forward(n, p, steps), backward(n, p, steps))?)
+    push_number(out, forward(n, p, steps))?;
+    Ok(push_word_number(out, " ", backward(n, p, steps))?)
 }
 
 /// The steps from one position on to another.
-fn told_distance(alloc: Global, n: u32, from: u32, to: u32) -> Result<String> {
+fn push_distance(out: &mut String, n: u32, from: u32, to: u32) -> Result<()> {
     if from >= n {
         return None.context("a position inside");
     }
-    Ok(format!(in alloc; "{}", distance(n, from, to))?)
+    Ok(push_number(out, distance(n, from, to))?)
 }
 
-/// What a verb answers.
-pub(crate) fn answer(alloc: Global, verb: &str, words: &str) -> Result<Option<String>> {
+/// Adds what a verb answers of three numbers, the last 0 where there are two; whether it is one of these.
+pub(crate) fn push_answer(out: &mut String, verb: &str, words: &str) -> Result<bool> {
     if verb != "beside" && verb != "far" && verb != "distance" {
-        return Ok(None);
+        return Ok(false);
     }
-    let mut numbers = words.split(' ');
-    let n = number(numbers.next().unwrap_or("0"))?;
-    let first = number(numbers.next().unwrap_or("0"))?;
-    let second = number(numbers.next().unwrap_or("0"))?;
-    let text = match verb {
-        "beside" => told_beside(alloc, n, first)?,
-        "far" => told_far(alloc, n, first, second)?,
-        _ => told_distance(alloc, n, first, second)?,
-    };
-    Ok(Some(text))
+    let (n, rest) = words.split_once(' ').context("a position")?;
+    let (first, second) = rest.split_once(' ').unwrap_or((rest, "0"));
+    let (n, first, second) = (number(n)?, number(first)?, number(second)?);
+    match verb {
+        "beside" => push_beside(out, n, first)?,
+        "far" => push_far(out, n, first, second)?,
+        _ => push_distance(out, n, first, second)?,
+    }
+    Ok(true)
 }

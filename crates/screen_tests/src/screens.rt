@@ -1,17 +1,32 @@
 //! What records do to screens, and what keys change on them.
 
 use crate::Setup;
-use crate::notation::{byte, bytes_of, number, push_letters};
+use crate::refusals::push_apply_refused;
 use anyhow::{Context, Result};
 use ds_codec::{Aid, Attr, Char, Geometry, Mode, Record, Size};
-use ds_screen::{Effect, Lock, PlainCells, Screen};
-use std::alloc::Global;
+use ds_screen::{Effect, FieldAt, Lock, PlainCells, Screen};
+use std::alloc::{AllocError, Global};
+use test_words::{
+    byte, bytes_of, cut_word, number, push_bool, push_letters, push_number, push_word_hex,
+    push_word_number,
+};
 
 /// A new screen of the setup's sizes after its records.
 pub(crate) fn opened(alloc: Global, setup: &Setup) -> Result<Screen<PlainCells>> {
     let geometry = Geometry::new(setup.default, setup.alternate, Mode::Bits14)?;
     let mut screen = Screen::new(alloc, geometry)?;
     write_all(alloc, &mut screen, setup.after.as_str())?;
+    Ok(screen)
+}
+
+/// The same after some more records.
+pub(crate) fn screen_after(
+    alloc: Global,
+    setup: &Setup,
+    records: &str,
+) -> Result<Screen<PlainCells>> {
+    let mut screen = opened(alloc, setup)?;
+    write_all(alloc, &mut screen, records)?;
     Ok(screen)
 }
 
@@ -37,7 +52,7 @@ pub(crate) fn write_all(
 }
 
 /// All rows, one after the other.
-fn rows_of(alloc: Global, screen: &Screen<PlainCells>) -> Result<String> {
+fn rows_of(alloc: Global, screen: &Screen<PlainCells>) -> Result<String, AllocError> {
     let mut text = String::new(alloc);
     let size = screen.size();
     for row in 0..size.rows {
@@ -48,160 +63,206 @@ fn rows_of(alloc: Global, screen: &Screen<PlainCells>) -> Result<String> {
 }
 
 /// All rows, one after the other, and the cursor.
-pub(crate) fn told_cells(alloc: Global, screen: &Screen<PlainCells>) -> Result<String> {
+pub(crate) fn push_cells(
+    alloc: Global,
+    out: &mut String,
+    screen: &Screen<PlainCells>,
+) -> Result<(), AllocError> {
     let rows = rows_of(alloc, screen)?;
-    let mut text = String::new(alloc);
-    push_letters(&mut text, rows.as_str())?;
-    write!(text, " {}", screen.cursor())?;
-    Ok(text)
+    push_letters(out, rows.as_str())?;
+    push_word_number(out, " ", screen.cursor())
+}
+
+fn name_of(lock: Lock) -> &'static str {
+    match lock {
+        Lock::Free => "Free",
+        Lock::Waiting => "Waiting",
+        Lock::Error => "Error",
+    }
+}
+
+fn push_size(out: &mut String, size: Size) -> Result<(), AllocError> {
+    push_number(out, u32::from(size.rows))?;
+    push_word_number(out, "x", u32::from(size.cols))
 }
 
 /// The cells with the size, the keyboard and the attention identifier.
-pub(crate) fn told_all(alloc: Global, screen: &Screen<PlainCells>) -> Result<String> {
-    let mut text = told_cells(alloc, screen)?;
-    let Size { rows, cols } = screen.size();
-    let lock = screen.lock();
-    let aid = screen.aid().byte();
-    write!(text, " {rows}x{cols} {lock:?} {aid:02X}")?;
-    Ok(text)
+pub(crate) fn push_all(
+    alloc: Global,
+    out: &mut String,
+    screen: &Screen<PlainCells>,
+) -> Result<(), AllocError> {
+    push_cells(alloc, out, screen)?;
+    out.push(' ')?;
+    push_size(out, screen.size())?;
+    out.push(' ')?;
+    out.push_str(name_of(screen.lock()))?;
+    push_word_hex(out, " ", screen.aid().byte())
 }
 
-/// Each field: where its attribute stands, its bits, its first place and its length.
-fn told_fields(alloc: Global, screen: &Screen<PlainCells>) -> Result<String> {
-    let mut text = String::from_str(alloc, "fields")?;
+/// Where a field's attribute stands, its bits, its first place and its length.
+fn push_field(out: &mut String, field: FieldAt) -> Result<(), AllocError> {
+    push_word_number(out, ", ", field.at)?;
+    push_word_hex(out, " ", field.attr.bits())?;
+    push_word_number(out, " ", field.place)?;
+    push_word_number(out, " ", field.length)
+}
+
+fn push_fields(out: &mut String, screen: &Screen<PlainCells>) -> Result<(), AllocError> {
+    out.push_str("fields")?;
     for field in screen.fields() {
-        let bits = field.attr.bits();
-        write!(
-            text,
-            ", {} {bits:02X} {} {}",
-            field.at, field.place, field.length
-        )?;
+        push_field(out, field)?;
     }
-    Ok(text)
+    Ok(())
+}
+
+/// Applies a record; why it is refused.
+fn push_applied(
+    out: &mut String,
+    screen: &mut Screen<PlainCells>,
+    record: &Record<'_>,
+) -> Result<(), AllocError> {
+    match screen.apply(record) {
+        Ok(_) => out.push_str("applied"),
+        Err(refused) => push_apply_refused(out, refused),
+    }
 }
 
 /// Why a record is refused, and the cells after it.
-fn told_refused(alloc: Global, mut screen: Screen<PlainCells>, text: &str) -> Result<String> {
+fn push_refused(alloc: Global, setup: &Setup, out: &mut String, text: &str) -> Result<()> {
+    let mut screen = opened(alloc, setup)?;
     let bytes = bytes_of(alloc, text)?;
     let record = Record::read(Mode::Bits14, bytes.as_slice())?;
-    let mut told = match screen.apply(&record) {
-        Ok(_) => String::from_str(alloc, "applied")?,
-        Err(refused) => format!(in alloc; "{refused}")?,
-    };
-    let cells = told_cells(alloc, &screen)?;
-    write!(told, ": {cells}")?;
-    Ok(told)
+    push_applied(out, &mut screen, &record)?;
+    out.push_str(": ")?;
+    Ok(push_cells(alloc, out, &screen)?)
 }
 
-/// What records answer, one after the other, each with the size, the cursor and the keyboard after it.
-fn told_effects(alloc: Global, mut screen: Screen<PlainCells>, records: &str) -> Result<String> {
-    let mut told = String::new(alloc);
+/// What a record does besides, with the size, the cursor and the keyboard after it.
+fn push_effect(
+    out: &mut String,
+    effect: Effect,
+    screen: &Screen<PlainCells>,
+) -> Result<(), AllocError> {
+    out.push_str("alarm ")?;
+    push_bool(out, effect.alarm)?;
+    out.push_str(" restored ")?;
+    push_bool(out, effect.restored)?;
+    out.push(' ')?;
+    push_size(out, screen.size())?;
+    push_word_number(out, " ", screen.cursor())?;
+    out.push(' ')?;
+    out.push_str(name_of(screen.lock()))?;
+    out.push_str("; ")
+}
+
+/// What records do besides, one after the other.
+fn push_effects(alloc: Global, setup: &Setup, out: &mut String, records: &str) -> Result<()> {
+    let mut screen = opened(alloc, setup)?;
     for text in records.split(';') {
-        let Effect { alarm, restored } = write(alloc, &mut screen, text)?;
-        let Size { rows, cols } = screen.size();
-        let cursor = screen.cursor();
-        let lock = screen.lock();
-        write!(
-            told,
-            "alarm {alarm} restored {restored} {rows}x{cols} {cursor} {lock:?}; "
-        )?;
+        let effect = write(alloc, &mut screen, text)?;
+        push_effect(out, effect, &screen)?;
     }
-    Ok(told)
+    Ok(())
 }
 
 /// A copy, once records came to the screen, and once they came to the copy too.
-fn told_copy(alloc: Global, mut screen: Screen<PlainCells>, records: &str) -> Result<String> {
+fn push_copy(alloc: Global, setup: &Setup, out: &mut String, records: &str) -> Result<()> {
+    let mut screen = opened(alloc, setup)?;
     screen.set_aid(Aid::enter());
     let mut copy = screen.copied(alloc)?;
     write_all(alloc, &mut screen, records)?;
-    let mut told = told_all(alloc, &copy)?;
-    if copy.geometry() == screen.geometry() {
-        told.push_str(" of the same sizes")?;
-    }
+    push_all(alloc, out, &copy)?;
+    let is_same = copy.geometry() == screen.geometry();
+    out.push_str(if is_same {
+        " of the same sizes, then "
+    } else {
+        ", then "
+    })?;
     write_all(alloc, &mut copy, records)?;
-    let cells = told_cells(alloc, &copy)?;
-    write!(told, ", then {cells}")?;
-    Ok(told)
+    Ok(push_cells(alloc, out, &copy)?)
 }
 
 /// The screen once a character was put at a place and the cursor moved there.
-fn told_put(alloc: Global, mut screen: Screen<PlainCells>, words: &str) -> Result<String> {
-    let (place, code) = words.split_once(' ').context("a place and a code")?;
+fn push_put(alloc: Global, setup: &Setup, out: &mut String, words: &str) -> Result<()> {
+    let (place, code) = cut_word(words)?;
     let (place, code) = (number(place)?, byte(code)?);
     let character = Char::new(code, false).context("a character")?;
+    let mut screen = opened(alloc, setup)?;
     if place < screen.size().cells() {
         screen.put_char(place, character);
         screen.move_cursor(place);
     }
-    told_all(alloc, &screen)
+    Ok(push_all(alloc, out, &screen)?)
 }
 
 /// The fields once the attribute before a place was set.
-fn told_set(alloc: Global, mut screen: Screen<PlainCells>, words: &str) -> Result<String> {
-    let (place, bits) = words.split_once(' ').context("a place and bits")?;
+fn push_set(alloc: Global, setup: &Setup, out: &mut String, words: &str) -> Result<()> {
+    let (place, bits) = cut_word(words)?;
     let (place, bits) = (number(place)?, byte(bits)?);
+    let mut screen = opened(alloc, setup)?;
     if place < screen.size().cells() {
         if let Some(at) = screen.attr_before(place) {
             screen.set_attr(at, Attr::new(bits));
         }
     }
-    told_fields(alloc, &screen)
+    Ok(push_fields(out, &screen)?)
 }
 
 /// The screen in error and with Enter, then erased.
-fn told_erased(alloc: Global, mut screen: Screen<PlainCells>) -> Result<String> {
+fn push_erased(alloc: Global, setup: &Setup, out: &mut String) -> Result<()> {
+    let mut screen = opened(alloc, setup)?;
     screen.set_lock(Lock::Error);
     screen.set_aid(Aid::enter());
-    let mut told = told_all(alloc, &screen)?;
+    push_all(alloc, out, &screen)?;
     screen.erase_default();
-    let erased = told_cells(alloc, &screen)?;
-    write!(told, ", then {erased}")?;
-    Ok(told)
+    out.push_str(", then ")?;
+    Ok(push_cells(alloc, out, &screen)?)
 }
 
 /// The cells and the fields once all that is unprotected was cleared.
-fn told_cleared(alloc: Global, mut screen: Screen<PlainCells>) -> Result<String> {
+fn push_cleared(alloc: Global, setup: &Setup, out: &mut String, records: &str) -> Result<()> {
+    let mut screen = screen_after(alloc, setup, records)?;
     screen.clear_unprotected();
-    let mut told = told_all(alloc, &screen)?;
-    let fields = told_fields(alloc, &screen)?;
-    write!(told, " {fields}")?;
-    Ok(told)
+    push_all(alloc, out, &screen)?;
+    out.push(' ')?;
+    Ok(push_fields(out, &screen)?)
 }
 
-/// The screen after records.
-fn screen_after(alloc: Global, setup: &Setup, records: &str) -> Result<Screen<PlainCells>> {
-    let mut screen = opened(alloc, setup)?;
-    write_all(alloc, &mut screen, records)?;
-    Ok(screen)
-}
-
-/// What a verb answers that changes its screen.
-fn changed(alloc: Global, setup: &Setup, verb: &str, words: &str) -> Result<Option<String>> {
-    let text = match verb {
-        "put" => told_put(alloc, opened(alloc, setup)?, words)?,
-        "set" => told_set(alloc, opened(alloc, setup)?, words)?,
-        "erase" => told_erased(alloc, opened(alloc, setup)?)?,
-        "clear" => told_cleared(alloc, screen_after(alloc, setup, words)?)?,
-        _ => return Ok(None),
-    };
-    Ok(Some(text))
-}
-
-/// What a verb answers.
-pub(crate) fn answer(
+/// Adds what a verb answers that changes its screen; whether it is one of these.
+fn push_changed(
     alloc: Global,
     setup: &Setup,
+    out: &mut String,
     verb: &str,
     words: &str,
-) -> Result<Option<String>> {
-    let text = match verb {
-        "cells" => told_cells(alloc, &screen_after(alloc, setup, words)?)?,
-        "all" => told_all(alloc, &screen_after(alloc, setup, words)?)?,
-        "fields" => told_fields(alloc, &screen_after(alloc, setup, words)?)?,
-        "refused" => told_refused(alloc, opened(alloc, setup)?, words)?,
-        "effects" => told_effects(alloc, opened(alloc, setup)?, words)?,
-        "copy" => told_copy(alloc, opened(alloc, setup)?, words)?,
-        _ => return changed(alloc, setup, verb, words),
-    };
-    Ok(Some(text))
+) -> Result<bool> {
+    match verb {
+        "put" => push_put(alloc, setup, out, words)?,
+        "set" => push_set(alloc, setup, out, words)?,
+        "erase" => push_erased(alloc, setup, out)?,
+        "clear" => push_cleared(alloc, setup, out, words)?,
+        "effects" => push_effects(alloc, setup, out, words)?,
+        "copy" => push_copy(alloc, setup, out, words)?,
+        _ => return Ok(false),
+    }
+    Ok(true)
+}
+
+/// Adds what a verb answers; whether it is one of these.
+pub(crate) fn push_answer(
+    alloc: Global,
+    setup: &Setup,
+    out: &mut String,
+    verb: &str,
+    words: &str,
+) -> Result<bool> {
+    match verb {
+        "cells" => push_cells(alloc, out, &screen_after(alloc, setup, words)?)?,
+        "all" => push_all(alloc, out, &screen_after(alloc, setup, words)?)?,
+        "fields" => push_fields(out, &screen_after(alloc, setup, words)?)?,
+        "refused" => push_refused(alloc, setup, out, words)?,
+        _ => return push_changed(alloc, setup, out, verb, words),
+    }
+    Ok(true)
 }

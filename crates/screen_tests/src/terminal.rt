@@ -1,73 +1,94 @@
 //! Terminals: records and keys with their replies.
 
 use crate::Setup;
-use crate::notation::{bytes_of, push_bytes};
+use crate::refusals::{push_apply_refused, push_read_refused, push_terminal_refused};
 use anyhow::{Context, Result};
 use ds_codec::{Geometry, Mode};
 use ds_keys::key_of_line;
-use ds_screen::{PlainCells, Screen};
+use ds_screen::{Effect, PlainCells, Screen};
 use ds_terminal::{
     KeyReply, RecordReply, Refused, Terminal, apply_record, read_record, take_record,
 };
-use std::alloc::Global;
+use std::alloc::{AllocError, Global};
+use test_words::{bytes_of, push_bool, push_bytes, push_length, push_number, push_word_number};
+
+/// Shows a record.
+fn show(alloc: Global, terminal: &mut Terminal<PlainCells>, text: &str) -> Result<()> {
+    let bytes = bytes_of(alloc, text)?;
+    let _effect = terminal.show(bytes.as_slice())?;
+    Ok(())
+}
+
+/// Shows records that are parted by semicolons.
+fn show_all(alloc: Global, terminal: &mut Terminal<PlainCells>, records: &str) -> Result<()> {
+    for text in records.split(';') {
+        if !text.is_empty() {
+            show(alloc, terminal, text)?;
+        }
+    }
+    Ok(())
+}
 
 /// A terminal of the setup's sizes after its records.
 fn opened(alloc: Global, setup: &Setup) -> Result<Terminal<PlainCells>> {
     let geometry = Geometry::new(setup.default, setup.alternate, Mode::Bits14)?;
     let mut terminal = Terminal::new(alloc, geometry)?;
-    for text in setup.after.as_str().split(';') {
-        if !text.is_empty() {
-            let bytes = bytes_of(alloc, text)?;
-            let _effect = terminal.show(bytes.as_slice())?;
-        }
-    }
+    show_all(alloc, &mut terminal, setup.after.as_str())?;
     Ok(terminal)
 }
 
-fn push_sent(out: &mut String, bytes: &[u8]) -> Result<()> {
+fn push_shown(out: &mut String, effect: Effect) -> Result<(), AllocError> {
+    out.push_str("shown alarm ")?;
+    push_bool(out, effect.alarm)?;
+    out.push_str(" restored ")?;
+    push_bool(out, effect.restored)
+}
+
+fn push_sent(out: &mut String, bytes: &[u8]) -> Result<(), AllocError> {
     out.push_str("sent ")?;
-    push_bytes(out, bytes)?;
-    Ok(())
+    push_bytes(out, bytes)
 }
 
 /// A reply to a record.
-fn push_record_reply(out: &mut String, reply: &RecordReply) -> Result<()> {
+fn push_record_reply(out: &mut String, reply: &RecordReply) -> Result<(), AllocError> {
     match reply {
-        RecordReply::Shown(effect) => {
-            let alarm = effect.alarm;
-            let restored = effect.restored;
-            write!(out, "shown alarm {alarm} restored {restored}")?;
-        }
-        RecordReply::Sent(bytes) => push_sent(out, bytes.as_slice())?,
-        RecordReply::Nothing => out.push_str("nothing")?,
-        RecordReply::Refused(refused) => write!(out, "{refused}")?,
+        RecordReply::Shown(effect) => push_shown(out, *effect),
+        RecordReply::Sent(bytes) => push_sent(out, bytes.as_slice()),
+        RecordReply::Nothing => out.push_str("nothing"),
+        RecordReply::Refused(refused) => push_terminal_refused(out, *refused),
     }
-    Ok(())
 }
 
 /// A reply to a key.
-fn push_key_reply(out: &mut String, reply: &KeyReply) -> Result<()> {
+fn push_key_reply(out: &mut String, reply: &KeyReply) -> Result<(), AllocError> {
     match reply {
-        KeyReply::Done => out.push_str("done")?,
-        KeyReply::Inhibited => out.push_str("inhibited")?,
-        KeyReply::Ignored => out.push_str("ignored")?,
-        KeyReply::Sent(bytes) => push_sent(out, bytes.as_slice())?,
+        KeyReply::Done => out.push_str("done"),
+        KeyReply::Inhibited => out.push_str("inhibited"),
+        KeyReply::Ignored => out.push_str("ignored"),
+        KeyReply::Sent(bytes) => push_sent(out, bytes.as_slice()),
     }
-    Ok(())
+}
+
+/// Receives a record, and adds the reply.
+fn push_received(
+    alloc: Global,
+    out: &mut String,
+    terminal: &mut Terminal<PlainCells>,
+    text: &str,
+) -> Result<()> {
+    let bytes = bytes_of(alloc, text)?;
+    let reply = terminal.receive(alloc, bytes.as_slice())?;
+    push_record_reply(out, &reply)?;
+    Ok(out.push_str("; ")?)
 }
 
 /// The replies to records, and the cursor at last.
-fn told_received(alloc: Global, setup: &Setup, records: &str) -> Result<String> {
+fn push_replies(alloc: Global, setup: &Setup, out: &mut String, records: &str) -> Result<()> {
     let mut terminal = opened(alloc, setup)?;
-    let mut out = String::new(alloc);
     for text in records.split(';') {
-        let bytes = bytes_of(alloc, text)?;
-        let reply = terminal.receive(alloc, bytes.as_slice())?;
-        push_record_reply(&mut out, &reply)?;
-        out.push_str("; ")?;
+        push_received(alloc, out, &mut terminal, text)?;
     }
-    write!(out, "cursor {}", terminal.screen().cursor())?;
-    Ok(out)
+    Ok(push_word_number(out, "cursor ", terminal.screen().cursor())?)
 }
 
 fn count_fields(screen: &Screen<PlainCells>) -> u32 {
@@ -78,80 +99,153 @@ fn count_fields(screen: &Screen<PlainCells>) -> u32 {
     count
 }
 
+/// Presses the key of a line, and adds the reply.
+fn push_key(
+    alloc: Global,
+    out: &mut String,
+    terminal: &mut Terminal<PlainCells>,
+    line: &str,
+) -> Result<()> {
+    let key = key_of_line(line).context("a key")?;
+    let reply = terminal.press(alloc, key)?;
+    push_key_reply(out, &reply)?;
+    Ok(out.push_str("; ")?)
+}
+
+fn push_keys(
+    alloc: Global,
+    out: &mut String,
+    terminal: &mut Terminal<PlainCells>,
+    keys: &str,
+) -> Result<()> {
+    for line in keys.split(", ") {
+        push_key(alloc, out, terminal, line)?;
+    }
+    Ok(())
+}
+
+/// How many cells, fields and which cursor a screen has, and how many fields another one.
+fn push_counts(
+    out: &mut String,
+    screen: &Screen<PlainCells>,
+    before: &Screen<PlainCells>,
+) -> Result<(), AllocError> {
+    push_word_number(out, "cells ", screen.size().cells())?;
+    push_word_number(out, " fields ", count_fields(screen))?;
+    push_word_number(out, " of ", count_fields(before))?;
+    push_word_number(out, " cursor ", screen.cursor())
+}
+
 /// The replies to keys, then how many cells, fields and which cursor the terminal has, and how many fields a copy from
 /// before has.
-fn told_replies(alloc: Global, setup: &Setup, keys: &str) -> Result<String> {
+fn push_pressed(alloc: Global, setup: &Setup, out: &mut String, keys: &str) -> Result<()> {
     let mut terminal = opened(alloc, setup)?;
     let before = terminal.copied(alloc)?;
-    let mut out = String::new(alloc);
-    for line in keys.split(", ") {
-        let key = key_of_line(line).context("a key")?;
-        let reply = terminal.press(alloc, key)?;
-        push_key_reply(&mut out, &reply)?;
-        out.push_str("; ")?;
-    }
-    let cells = terminal.screen().size().cells();
-    let fields = count_fields(terminal.screen());
-    let kept = count_fields(before.screen());
-    write!(
-        out,
-        "cells {cells} fields {fields} of {kept} cursor {}",
-        terminal.screen().cursor()
-    )?;
-    Ok(out)
+    push_keys(alloc, out, &mut terminal, keys)?;
+    Ok(push_counts(out, terminal.screen(), before.screen())?)
+}
+
+/// A refusal by its parts.
+fn push_parts(out: &mut String, refused: Refused) -> Result<(), AllocError> {
+    push_length(out, refused.at())?;
+    out.push(' ')?;
+    out.push_str(refused.words())?;
+    out.push_str(": ")?;
+    push_terminal_refused(out, refused)
 }
 
 /// Why a terminal does not show a record, by its parts.
-fn told_shown(alloc: Global, setup: &Setup, record: &str) -> Result<String> {
+fn push_unshown(alloc: Global, setup: &Setup, out: &mut String, record: &str) -> Result<()> {
     let mut terminal = opened(alloc, setup)?;
     let bytes = bytes_of(alloc, record)?;
     match terminal.show(bytes.as_slice()) {
-        Ok(_) => Ok(String::from_str(alloc, "shown")?),
-        Err(refused) => {
-            let (at, words) = (refused.at(), refused.words());
-            Ok(format!(in alloc; "{at} {words}: {refused}")?)
+        Ok(_) => Ok(out.push_str("shown")?),
+        Err(refused) => Ok(push_parts(out, refused)?),
+    }
+}
+
+/// A refusal, and whether the record was read.
+fn push_stage(out: &mut String, refused: Refused) -> Result<(), AllocError> {
+    match refused {
+        Refused::Read(refused) => {
+            out.push_str("read ")?;
+            push_read_refused(out, refused)
+        }
+        Refused::Apply(refused) => {
+            out.push_str("apply ")?;
+            push_apply_refused(out, refused)
         }
     }
 }
 
+/// What a record did, and the cursor after it.
+fn push_restored(out: &mut String, effect: Effect, cursor: u32) -> Result<(), AllocError> {
+    out.push_str("restored ")?;
+    push_bool(out, effect.restored)?;
+    push_word_number(out, " ", cursor)
+}
+
+/// A record that a screen takes at once; whether it does.
+fn push_taken(
+    out: &mut String,
+    screen: &mut Screen<PlainCells>,
+    bytes: &[u8],
+) -> Result<bool, AllocError> {
+    match take_record(screen, bytes) {
+        Ok(effect) => push_restored(out, effect, screen.cursor())?,
+        Err(refused) => {
+            out.push_str("not taken, ")?;
+            push_terminal_refused(out, refused)?;
+            return Ok(false);
+        }
+    }
+    out.push_str(", ")?;
+    Ok(true)
+}
+
+/// A record that a screen reads and then applies.
+fn push_read_applied(
+    out: &mut String,
+    screen: &mut Screen<PlainCells>,
+    bytes: &[u8],
+) -> Result<(), AllocError> {
+    let record = match read_record(screen, bytes) {
+        Ok(record) => record,
+        Err(refused) => return push_stage(out, refused),
+    };
+    match apply_record(screen, &record) {
+        Ok(effect) => push_restored(out, effect, screen.cursor()),
+        Err(refused) => push_stage(out, refused),
+    }
+}
+
 /// A record that a screen takes at once, and one that it reads and then applies.
-fn told_taken(alloc: Global, setup: &Setup, records: &str) -> Result<String> {
+fn push_two(alloc: Global, setup: &Setup, out: &mut String, records: &str) -> Result<()> {
     let (first, second) = records.split_once(';').context("two records")?;
     let geometry = Geometry::new(setup.default, setup.alternate, Mode::Bits14)?;
     let mut screen = Screen::<PlainCells>::new(alloc, geometry)?;
     let first = bytes_of(alloc, first)?;
     let second = bytes_of(alloc, second)?;
-    let effect = match take_record(&mut screen, first.as_slice()) {
-        Ok(effect) => effect,
-        Err(refused) => return Ok(format!(in alloc; "not taken, {refused}")?),
-    };
-    let mut out = format!(in alloc; "restored {} {}, ", effect.restored, screen.cursor())?;
-    let record = match read_record(&screen, second.as_slice()) {
-        Ok(record) => record,
-        Err(Refused::Read(refused)) => return Ok(format!(in alloc; "{out}read {refused}")?),
-        Err(Refused::Apply(refused)) => return Ok(format!(in alloc; "{out}apply {refused}")?),
-    };
-    match apply_record(&mut screen, &record) {
-        Ok(effect) => write!(out, "restored {} {}", effect.restored, screen.cursor())?,
-        Err(Refused::Read(refused)) => write!(out, "read {refused}")?,
-        Err(Refused::Apply(refused)) => write!(out, "apply {refused}")?,
+    if push_taken(out, &mut screen, first.as_slice())? {
+        push_read_applied(out, &mut screen, second.as_slice())?;
     }
-    Ok(out)
+    Ok(())
 }
 
-/// What a verb answers.
-pub(crate) fn answer(
+/// Adds what a verb answers; whether it is one of these.
+pub(crate) fn push_answer(
     alloc: Global,
     setup: &Setup,
+    out: &mut String,
     verb: &str,
     words: &str,
-) -> Result<Option<String>> {
-    let text = match verb {
-        "receive" => told_received(alloc, setup, words)?,
-        "reply" => told_replies(alloc, setup, words)?,
-        "show" => told_shown(alloc, setup, words)?,
-        "take" => told_taken(alloc, setup, words)?,
-        _ => return Ok(None),
-    };
-    Ok(Some(text))
+) -> Result<bool> {
+    match verb {
+        "receive" => push_replies(alloc, setup, out, words)?,
+        "reply" => push_pressed(alloc, setup, out, words)?,
+        "show" => push_unshown(alloc, setup, out, words)?,
+        "take" => push_two(alloc, setup, out, words)?,
+        _ => return Ok(false),
+    }
+    Ok(true)
 }

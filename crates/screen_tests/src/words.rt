@@ -1,75 +1,85 @@
 //! The words of every refusal, and the laws.
 
+use crate::refusals::{
+    push_answer_refused, push_answer_why, push_apply_refused, push_apply_why, push_bad_size,
+    push_flaw, push_read_refused, push_read_why, push_terminal_refused,
+};
 use anyhow::Result;
 use ds_codec::{BadSize, Unwritable};
-use std::alloc::Global;
+use std::alloc::AllocError;
 
-fn told_reading(alloc: Global) -> Result<String> {
-    let mut out = String::new(alloc);
-    for why in [
-        ds_codec::Why::Empty,
-        ds_codec::Why::UnknownCommand,
-        ds_codec::Why::StructuredField,
-        ds_codec::Why::NoWcc,
-        ds_codec::Why::UnknownOrder,
-        ds_codec::Why::Truncated,
-        ds_codec::Why::ReservedAddress,
-        ds_codec::Why::BadType,
-        ds_codec::Why::BadCharacter,
-        ds_codec::Why::Trailing,
-    ] {
-        let refused = ds_codec::Refused { at: 7, why };
-        write!(out, "{why}, {refused}, {}; ", why.words())?;
-    }
-    Ok(out)
+/// A comma, words and a semicolon.
+fn push_last(out: &mut String, words: &str) -> Result<(), AllocError> {
+    out.push_str(", ")?;
+    out.push_str(words)?;
+    out.push_str("; ")
 }
 
-fn told_writing(alloc: Global) -> Result<String> {
-    let mut out = String::new(alloc);
-    for flaw in [
-        Unwritable::AddressOutside(3),
-        Unwritable::BadText(3),
-        Unwritable::BadPairs(3),
-        Unwritable::BadCode(3),
-        Unwritable::NotAllowed,
-        Unwritable::OutOfMemory,
-    ] {
-        write!(out, "{flaw}, {}; ", flaw.words())?;
-    }
-    write!(out, "{BadSize}")?;
-    Ok(out)
+fn push_read(out: &mut String, why: ds_codec::Why) -> Result<(), AllocError> {
+    push_read_why(out, why)?;
+    out.push_str(", ")?;
+    push_read_refused(out, ds_codec::Refused { at: 7, why })?;
+    push_last(out, why.words())
 }
 
-fn told_applying(alloc: Global) -> Result<String> {
-    let mut out = String::new(alloc);
-    for why in [
-        ds_screen::Why::AddressOutside,
-        ds_screen::Why::NoFieldHere,
-        ds_screen::Why::NotAWrite,
-    ] {
-        let refused = ds_screen::Refused { at: 7, why };
-        write!(out, "{why}, {refused}, {}; ", why.words())?;
-    }
-    Ok(out)
+fn push_reading(out: &mut String) -> Result<(), AllocError> {
+    push_read(out, ds_codec::Why::Empty)?;
+    push_read(out, ds_codec::Why::UnknownCommand)?;
+    push_read(out, ds_codec::Why::StructuredField)?;
+    push_read(out, ds_codec::Why::NoWcc)?;
+    push_read(out, ds_codec::Why::UnknownOrder)?;
+    push_read(out, ds_codec::Why::Truncated)?;
+    push_read(out, ds_codec::Why::ReservedAddress)?;
+    push_read(out, ds_codec::Why::BadType)?;
+    push_read(out, ds_codec::Why::BadCharacter)?;
+    push_read(out, ds_codec::Why::Trailing)
 }
 
-fn told_answers(alloc: Global) -> Result<String> {
-    let mut out = String::new(alloc);
-    for why in [
-        ds_inbound::Why::Empty,
-        ds_inbound::Why::UnknownAid,
-        ds_inbound::Why::Truncated,
-        ds_inbound::Why::BadAddress,
-        ds_inbound::Why::BadCharacter,
-        ds_inbound::Why::Null,
-    ] {
-        let refused = ds_inbound::Refused { at: 7, why };
-        write!(out, "{why}, {refused}, {}; ", why.words())?;
-    }
-    Ok(out)
+fn push_unwritable(out: &mut String, flaw: Unwritable) -> Result<(), AllocError> {
+    push_flaw(out, flaw)?;
+    push_last(out, flaw.words())
 }
 
-fn told_terminals(alloc: Global) -> Result<String> {
+fn push_writing(out: &mut String) -> Result<(), AllocError> {
+    push_unwritable(out, Unwritable::AddressOutside(3))?;
+    push_unwritable(out, Unwritable::BadText(3))?;
+    push_unwritable(out, Unwritable::BadPairs(3))?;
+    push_unwritable(out, Unwritable::BadCode(3))?;
+    push_unwritable(out, Unwritable::NotAllowed)?;
+    push_unwritable(out, Unwritable::OutOfMemory)?;
+    push_bad_size(out, BadSize)
+}
+
+fn push_apply(out: &mut String, why: ds_screen::Why) -> Result<(), AllocError> {
+    push_apply_why(out, why)?;
+    out.push_str(", ")?;
+    push_apply_refused(out, ds_screen::Refused { at: 7, why })?;
+    push_last(out, why.words())
+}
+
+fn push_applying(out: &mut String) -> Result<(), AllocError> {
+    push_apply(out, ds_screen::Why::AddressOutside)?;
+    push_apply(out, ds_screen::Why::NoFieldHere)?;
+    push_apply(out, ds_screen::Why::NotAWrite)
+}
+
+fn push_unread(out: &mut String, why: ds_inbound::Why) -> Result<(), AllocError> {
+    push_answer_why(out, why)?;
+    out.push_str(", ")?;
+    push_answer_refused(out, ds_inbound::Refused { at: 7, why })?;
+    push_last(out, why.words())
+}
+
+fn push_answers(out: &mut String) -> Result<(), AllocError> {
+    push_unread(out, ds_inbound::Why::Empty)?;
+    push_unread(out, ds_inbound::Why::UnknownAid)?;
+    push_unread(out, ds_inbound::Why::Truncated)?;
+    push_unread(out, ds_inbound::Why::BadAddress)?;
+    push_unread(out, ds_inbound::Why::BadCharacter)?;
+    push_unread(out, ds_inbound::Why::Null)
+}
+
+fn push_terminals(out: &mut String) -> Result<(), AllocError> {
     let read = ds_terminal::Refused::Read(ds_codec::Refused {
         at: 2,
         why: ds_codec::Why::Truncated,
@@ -78,11 +88,13 @@ fn told_terminals(alloc: Global) -> Result<String> {
         at: 6,
         why: ds_screen::Why::NoFieldHere,
     });
-    Ok(format!(in alloc; "{read}; {apply}")?)
+    push_terminal_refused(out, read)?;
+    out.push_str("; ")?;
+    push_terminal_refused(out, apply)
 }
 
 /// Each law does nothing.
-fn told_laws(alloc: Global) -> Result<String> {
+fn push_laws(out: &mut String) -> Result<(), AllocError> {
     ds_codec::one_reading();
     ds_screen::one_effect();
     ds_screen::each_write_has_an_effect();
@@ -96,19 +108,19 @@ fn told_laws(alloc: Global) -> Result<String> {
     ds_keys::sound_law();
     ds_inbound::one_answer();
     ds_inbound::answers_say_themselves();
-    Ok(String::from_str(alloc, "done")?)
+    out.push_str("done")
 }
 
-/// What a verb answers.
-pub(crate) fn answer(alloc: Global, verb: &str) -> Result<Option<String>> {
-    let text = match verb {
-        "reading" => told_reading(alloc)?,
-        "writing" => told_writing(alloc)?,
-        "applying" => told_applying(alloc)?,
-        "answers" => told_answers(alloc)?,
-        "terminals" => told_terminals(alloc)?,
-        "laws" => told_laws(alloc)?,
-        _ => return Ok(None),
-    };
-    Ok(Some(text))
+/// Adds what a verb answers; whether it is one of these.
+pub(crate) fn push_answer(out: &mut String, verb: &str) -> Result<bool> {
+    match verb {
+        "reading" => push_reading(out)?,
+        "writing" => push_writing(out)?,
+        "applying" => push_applying(out)?,
+        "answers" => push_answers(out)?,
+        "terminals" => push_terminals(out)?,
+        "laws" => push_laws(out)?,
+        _ => return Ok(false),
+    }
+    Ok(true)
 }
