@@ -1,0 +1,11 @@
+//! Words of the scripts that the test programs run: numbers, bytes and texts, read and printed.
+#![tactic(auto)]
+
+mod printed;
+mod read;
+
+pub use printed::{
+    push_bool, push_bytes, push_hex, push_length, push_letters, push_number, push_word_hex,
+    push_word_number,
+};
+pub use read::{between_bars, byte, bytes_of, cut_word, is_row, number, two_bytes, two_numbers};
