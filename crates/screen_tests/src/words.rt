@@ -97,6 +97,8 @@ fn push_terminals(out: &mut String) -> Result<(), AllocError> {
 fn push_laws(out: &mut String) -> Result<(), AllocError> {
     ds_codec::one_reading();
     ds_screen::one_effect();
+    ds_screen::records_stay_sound();
+    ds_screen::open_is_unprotected();
     ds_screen::each_write_has_an_effect();
     ds_screen::refused_at_the_least();
     ds_screen::nearest_attribute_governs();
