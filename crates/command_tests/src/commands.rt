@@ -1,172 +1,123 @@
-//! Commands over readers and writers in memory, and over ones that fail.
+//! The commands, each over readers and a writer in memory.
 
+use crate::notation::push_written;
+use anyhow::Result;
+use std::alloc::{AllocError, Global};
 use std::io;
 use std::io::{Read, Write};
-use std::test::Fail;
-use term_commands::{Status, run_convert, run_show};
+use term_commands::{
+    Demos, Status, failure, run_check, run_convert, run_convert_back, run_press, run_show,
+};
+use test_words::push_word_number;
 
-mod back;
-mod streams;
-mod two_inputs;
-
-const INPUT: &str = "size 2x10\nF5C21D60C11D40131140C61DF0\n";
-
-const TEXT: &str = "screen 2x10 cursor 3 keyboard free aid 60
-field 0 attr 20 place 1 length 1
-field 2 attr 00 place 3 length 3
-field 6 attr 30 place 7 length 13
-|@A@...@...|
-|..........|
-";
-
-/// Gives one byte a read, and fails at the read of a number.
-#[derive(Drop)]
-pub struct Slow<'a> {
-    pub rest: &'a [u8],
-    pub reads: usize,
-    pub fails_at: usize,
+/// A command of the program.
+#[derive(Clone, Copy)]
+pub(crate) enum Command {
+    Show,
+    Convert,
+    Back,
+    Press,
+    Check,
+    Demo,
 }
 
-impl Read for Slow<'_> {
-    fn read(&mut self, buf: &mut [u8]) -> io::Result<usize> {
-        self.reads = self.reads.saturating_add(1);
-        if self.reads == self.fails_at {
-            return Err(io::Error::from(io::ErrorKind::ConnectionReset));
-        }
-        match (self.rest, buf.is_empty()) {
-            ([first, rest @ ..], false) => {
-                buf[0] = *first;
-                self.rest = rest;
-                Ok(1)
-            }
-            _ => Ok(0),
-        }
+/// The command of a name.
+pub(crate) fn command_of(name: &str) -> Option<Command> {
+    match name {
+        "show" => Some(Command::Show),
+        "convert" => Some(Command::Convert),
+        "back" => Some(Command::Back),
+        "press" => Some(Command::Press),
+        "check" => Some(Command::Check),
+        "demo" => Some(Command::Demo),
+        _ => None,
     }
 }
 
-/// Takes a few bytes a write, and fails at the write of a number.
-#[derive(Drop)]
-pub struct Narrow {
-    pub taken: Vec<u8>,
-    pub width: usize,
-    pub writes: usize,
-    pub fails_at: usize,
-}
-
-impl Write for Narrow {
-    fn write(&mut self, buf: &[u8]) -> io::Result<usize> {
-        self.writes = self.writes.saturating_add(1);
-        if self.writes == self.fails_at {
-            return Err(io::Error::from(io::ErrorKind::ConnectionReset));
-        }
-        let count = buf.len().min(self.width);
-        self.taken.extend_from_slice(&buf[..count])?;
-        Ok(count)
-    }
-
-    fn flush(&mut self) -> io::Result<()> {
-        Ok(())
+/// Runs a command; `file` is what it reads besides its input.
+pub(crate) fn run<R: Read, F: Read, W: Write>(
+    alloc: Global,
+    command: Command,
+    input: &mut R,
+    file: &mut F,
+    writer: &mut W,
+) -> Status {
+    match command {
+        Command::Show => run_show(alloc, input, writer),
+        Command::Convert => run_convert(alloc, input, writer),
+        Command::Back => run_convert_back(alloc, input, writer),
+        Command::Press => run_press(alloc, input, file, writer),
+        Command::Check => run_check(alloc, file, input, writer, Demos::Omitted),
+        Command::Demo => run_check(alloc, file, input, writer, Demos::Printed),
     }
 }
 
-#[test]
-fn shows_a_record(rt: HostRuntime) -> Result<(), Fail> {
-    let mut reader = INPUT.as_bytes();
-    let mut writer = Vec::new(rt.alloc());
-    assert_eq!(rt;
-        run_show(rt.alloc(), &mut reader, &mut writer),
-        Status::Done
-    );
-    assert_eq!(rt; writer.as_slice(), TEXT.as_bytes());
-    Ok(())
-}
-
-#[test]
-fn small_pieces_change_nothing(rt: HostRuntime) -> Result<(), Fail> {
-    let mut reader = Slow {
-        rest: INPUT.as_bytes(),
-        reads: 0,
-        fails_at: 0,
-    };
-    let mut writer = Narrow {
-        taken: Vec::new(rt.alloc()),
-        width: 1,
-        writes: 0,
-        fails_at: 0,
-    };
-    assert_eq!(rt;
-        run_show(rt.alloc(), &mut reader, &mut writer),
-        Status::Done
-    );
-    assert_eq!(rt; writer.taken.as_slice(), TEXT.as_bytes());
-    Ok(())
-}
-
-#[test]
-fn a_failed_read_prints_nothing(rt: HostRuntime) -> Result<(), Fail> {
-    for fails_at in 1..=INPUT.len() {
-        let mut reader = Slow {
-            rest: INPUT.as_bytes(),
-            reads: 0,
-            fails_at,
-        };
-        let mut writer = Vec::new(rt.alloc());
-        assert_eq!(rt;
-            run_show(rt.alloc(), &mut reader, &mut writer),
-            Status::Failed,
-            "read {fails_at}"
-        );
-        assert!(rt; writer.is_empty(), "read {fails_at}");
+pub(crate) fn name_of(status: Status) -> &'static str {
+    match status {
+        Status::Done => "Done",
+        Status::Findings => "Findings",
+        Status::BadInput => "BadInput",
+        Status::Failed => "Failed",
+        Status::NoMemory => "NoMemory",
     }
-    Ok(())
 }
 
-#[test]
-fn a_failed_write_leaves_a_front(rt: HostRuntime) -> Result<(), Fail> {
-    for fails_at in 1..=10 {
-        let mut reader = INPUT.as_bytes();
-        let mut writer = Narrow {
-            taken: Vec::new(rt.alloc()),
-            width: 7,
-            writes: 0,
-            fails_at,
-        };
-        assert_eq!(rt;
-            run_show(rt.alloc(), &mut reader, &mut writer),
-            Status::Failed,
-            "write {fails_at}"
-        );
-        assert_eq!(rt;
-            writer.taken.as_slice(),
-            &TEXT.as_bytes()[..7 * (fails_at - 1)],
-            "write {fails_at}"
-        );
-    }
-    let mut reader = INPUT.as_bytes();
-    let mut writer = Narrow {
-        taken: Vec::new(rt.alloc()),
-        width: 0,
-        writes: 0,
-        fails_at: 0,
-    };
-    assert_eq!(rt;
-        run_show(rt.alloc(), &mut reader, &mut writer),
-        Status::Failed
-    );
-    Ok(())
+/// The status, and what is written.
+pub(crate) fn push_told(
+    alloc: Global,
+    out: &mut String,
+    status: Status,
+    written: &[u8],
+) -> Result<()> {
+    out.push_str(name_of(status))?;
+    push_word_number(out, " ", u32::from(status.code()))?;
+    out.push(' ')?;
+    push_written(alloc, out, written)
 }
 
-#[test]
-fn converts_a_record(rt: HostRuntime) -> Result<(), Fail> {
-    let mut reader = INPUT.as_bytes();
-    let mut writer = Vec::new(rt.alloc());
-    assert_eq!(rt;
-        run_convert(rt.alloc(), &mut reader, &mut writer),
-        Status::Done
-    );
-    assert_eq!(rt;
-        writer.as_slice(),
-        b"EW C2\nSF 20\nTEXT C1\nSF 00\nIC\nSBA 6\nSF 30\n\n".as_slice()
-    );
-    Ok(())
+/// A command's status, and what it adds to a text.
+pub(crate) fn written(
+    alloc: Global,
+    command: Command,
+    input: &[u8],
+    file: &[u8],
+    text: &mut Vec<u8>,
+) -> Status {
+    let (mut input, mut file) = (input, file);
+    run(alloc, command, &mut input, &mut file, text)
+}
+
+/// A command's status and what it writes.
+pub(crate) fn push_run(
+    alloc: Global,
+    out: &mut String,
+    command: Command,
+    input: &[u8],
+    file: &[u8],
+) -> Result<()> {
+    let mut text = Vec::new(alloc);
+    let status = written(alloc, command, input, file, &mut text);
+    push_told(alloc, out, status, text.as_slice())
+}
+
+/// A command's status alone.
+pub(crate) fn push_status(
+    alloc: Global,
+    out: &mut String,
+    command: Command,
+    input: &[u8],
+    file: &[u8],
+) -> Result<()> {
+    let mut text = Vec::new(alloc);
+    let status = written(alloc, command, input, file, &mut text);
+    Ok(out.push_str(name_of(status))?)
+}
+
+/// The statuses of an error of want of memory and of another one.
+pub(crate) fn push_failures(out: &mut String) -> Result<(), AllocError> {
+    let memory = failure(&io::Error::from(io::ErrorKind::OutOfMemory));
+    out.push_str(name_of(memory))?;
+    out.push(' ')?;
+    let other = failure(&io::Error::from(io::ErrorKind::ConnectionReset));
+    out.push_str(name_of(other))
 }

@@ -1,0 +1,80 @@
+//! Readers and writers that are slow, or that fail.
+
+use std::io;
+use std::io::{Read, Write};
+
+/// Gives one byte a read, and fails at the read of a number.
+#[derive(Drop)]
+pub(crate) struct Slow<'a> {
+    pub rest: &'a [u8],
+    pub reads: usize,
+    pub fails_at: usize,
+}
+
+impl Read for Slow<'_> {
+    fn read(&mut self, buf: &mut [u8]) -> io::Result<usize> {
+        self.reads = self.reads.saturating_add(1);
+        if self.reads == self.fails_at {
+            return Err(io::Error::from(io::ErrorKind::ConnectionReset));
+        }
+        match (self.rest, buf.is_empty()) {
+            ([first, rest @ ..], false) => {
+                buf[0] = *first;
+                self.rest = rest;
+                Ok(1)
+            }
+            _ => Ok(0),
+        }
+    }
+}
+
+/// A reader of these bytes that fails at the read of a number; never at 0.
+pub(crate) fn slow_reader(rest: &[u8], fails_at: usize) -> Slow<'_> {
+    Slow {
+        rest,
+        reads: 0,
+        fails_at,
+    }
+}
+
+/// Takes a few bytes a write, and fails at the write of a number.
+#[derive(Drop)]
+pub(crate) struct Narrow {
+    pub taken: Vec<u8>,
+    pub width: usize,
+    pub writes: usize,
+    pub fails_at: usize,
+}
+
+impl Write for Narrow {
+    fn write(&mut self, buf: &[u8]) -> io::Result<usize> {
+        self.writes = self.writes.saturating_add(1);
+        if self.writes == self.fails_at {
+            return Err(io::Error::from(io::ErrorKind::ConnectionReset));
+        }
+        let count = buf.len().min(self.width);
+        self.taken.extend_from_slice(&buf[..count])?;
+        Ok(count)
+    }
+
+    fn flush(&mut self) -> io::Result<()> {
+        Ok(())
+    }
+}
+
+/// Takes every byte, and fails when it is flushed.
+#[derive(Drop)]
+pub(crate) struct Unflushed {
+    pub taken: Vec<u8>,
+}
+
+impl Write for Unflushed {
+    fn write(&mut self, buf: &[u8]) -> io::Result<usize> {
+        self.taken.extend_from_slice(buf)?;
+        Ok(buf.len())
+    }
+
+    fn flush(&mut self) -> io::Result<()> {
+        Err(io::Error::from(io::ErrorKind::ConnectionReset))
+    }
+}
