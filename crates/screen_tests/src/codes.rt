@@ -1,12 +1,13 @@
 //! Codes as values, and their bytes.
 
+use crate::script::bytes_of;
 use anyhow::{Context, Result};
 use ds_codec::{
     Aid, Attr, Char, CommandCode, OrderCode, byte_of_digits, is_graphic_code, last_attr,
     push_character, to_six_bit_code,
 };
 use std::alloc::{AllocError, Global};
-use test_words::{byte, bytes_of, push_bool, push_bytes, push_hex, push_word_hex, two_bytes};
+use test_words::{byte, push_bool, push_bytes, push_hex, push_word_hex, two_bytes};
 
 fn name_of_command(code: CommandCode) -> &'static str {
     match code {

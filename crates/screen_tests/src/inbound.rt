@@ -1,5 +1,6 @@
 //! Answers written and read.
 
+use crate::script::bytes_of;
 use crate::Setup;
 use crate::refusals::push_answer_refused;
 use crate::screens::screen_after;
@@ -9,8 +10,7 @@ use ds_inbound::{Inbound, chars, write_buffer, write_inbound};
 use ds_screen::{PlainCells, Screen};
 use std::alloc::{AllocError, Global};
 use test_words::{
-    byte, bytes_of, cut_word, number, push_bytes, push_hex, push_length, push_word_hex,
-    push_word_number,
+    byte, cut_word, number, push_bytes, push_hex, push_length, push_word_hex, push_word_number,
 };
 
 /// Bytes, and how many characters they are.

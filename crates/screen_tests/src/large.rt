@@ -1,12 +1,13 @@
 //! Answers that are too long to print: whether they are what is wanted.
 
+use crate::script::bytes_of;
 use crate::Setup;
 use crate::screens::screen_after;
 use anyhow::{Context, Result};
 use ds_codec::{Aid, Mode};
 use ds_inbound::{Inbound, chars, write_buffer, write_inbound};
 use std::alloc::{AllocError, Global};
-use test_words::{bytes_of, cut_word, number, push_length, push_number, push_word_number};
+use test_words::{cut_word, number, push_length, push_number, push_word_number};
 
 /// Whether these are the wanted bytes, and how many they are.
 fn push_same(out: &mut String, bytes: &[u8], wanted: &[u8]) -> Result<(), AllocError> {

@@ -17,6 +17,7 @@ mod large;
 mod refusals;
 mod ring;
 mod screens;
+mod script;
 mod searches;
 mod terminal;
 mod words;

@@ -1,5 +1,6 @@
 //! What records do to screens, and what keys change on them.
 
+use crate::script::bytes_of;
 use crate::Setup;
 use crate::refusals::push_apply_refused;
 use anyhow::{Context, Result};
@@ -7,8 +8,7 @@ use ds_codec::{Aid, Attr, Char, Geometry, Mode, Record, Size};
 use ds_screen::{Effect, FieldAt, Lock, PlainCells, Screen};
 use std::alloc::{AllocError, Global};
 use test_words::{
-    byte, bytes_of, cut_word, number, push_bool, push_letters, push_number, push_word_hex,
-    push_word_number,
+    byte, cut_word, number, push_bool, push_letters, push_number, push_word_hex, push_word_number,
 };
 
 /// A new screen of the setup's sizes after its records.

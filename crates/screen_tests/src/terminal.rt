@@ -1,5 +1,6 @@
 //! Terminals: records and keys with their replies.
 
+use crate::script::bytes_of;
 use crate::Setup;
 use crate::refusals::{push_apply_refused, push_read_refused, push_terminal_refused};
 use anyhow::{Context, Result};
@@ -10,7 +11,7 @@ use ds_terminal::{
     KeyReply, RecordReply, Refused, Terminal, apply_record, read_record, take_record,
 };
 use std::alloc::{AllocError, Global};
-use test_words::{bytes_of, push_bool, push_bytes, push_length, push_number, push_word_number};
+use test_words::{push_bool, push_bytes, push_length, push_number, push_word_number};
 
 /// Shows a record.
 fn show(alloc: Global, terminal: &mut Terminal<PlainCells>, text: &str) -> Result<()> {

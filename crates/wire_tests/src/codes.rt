@@ -1,8 +1,9 @@
 //! Headers and codes, and the words of refusals.
 
+use crate::script::bytes_of;
 use anyhow::Result;
 use std::alloc::{AllocError, Global};
-use test_words::{bytes_of, push_bytes, push_hex, push_word_hex, push_word_number};
+use test_words::{push_bytes, push_hex, push_word_hex, push_word_number};
 use tn_wire::{DataType, Header, HeaderFault, Verb, WireFault};
 
 fn name_of(data_type: DataType) -> &'static str {

@@ -8,6 +8,7 @@
 #![tactic(auto)]
 
 mod codes;
+mod script;
 mod streams;
 
 use anyhow::Result;

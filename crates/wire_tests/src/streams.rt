@@ -1,9 +1,10 @@
 //! Streams in, their events out; records framed.
 
+use crate::script::bytes_of;
 use crate::codes::push_wire_fault;
 use anyhow::Result;
 use std::alloc::{AllocError, Global};
-use test_words::{bytes_of, push_bytes, push_hex, push_length, push_word_hex, push_word_number};
+use test_words::{push_bytes, push_hex, push_length, push_word_hex, push_word_number};
 use tn_wire::{Deframer, Event, Step, Verb, WireFault, frame};
 
 fn push_record(out: &mut String, bytes: &[u8]) -> Result<(), AllocError> {
