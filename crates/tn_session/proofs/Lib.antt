@@ -15,3 +15,4 @@ pub mod TerminalSteps
 pub mod RunEnds
 pub mod TerminalEnds
 pub mod TerminalRunning
+pub mod OneLog

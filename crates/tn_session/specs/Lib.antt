@@ -18,3 +18,4 @@ pub mod HostRan
 pub mod Wire
 pub mod Ran
 pub mod TerminalRuns
+pub mod OneLog

@@ -1,6 +1,7 @@
-//! Laws on the two cores together. These functions do nothing: their contracts are the laws.
+//! Laws on the two cores together, and on runs over a line. These functions do nothing: their contracts are the laws.
 
 ghost use Rattle.tn_session.specs.Pair.{PairsAgree, PairsSettle, PairsEnd, TerminalIsHeard, HostIsHeard, OpeningIsHeard};
+ghost use Rattle.tn_session.specs.OneLog.{HaveOneLog, LogsGoOn};
 
 /// Whatever a terminal's device, a host's layout, and the choices that both are made with, and in whatever order the
 /// events between them arrive: if both are ready, they hold the same. Where nothing is on its way, both are ready, or the
@@ -21,4 +22,12 @@ pub fn reply_law()
     ensures terminal { TerminalIsHeard }
     ensures host { HostIsHeard }
     ensures opening { OpeningIsHeard }
+{}
+
+/// The bytes that a stream makes due, and how a run then stands, hang on the stream alone and on no cut of it. Whatever an
+/// event does to a state, bytes have one log at most; and the log of a front of them is followed by the log of the whole:
+/// one that goes on by the log of the other bytes, and one that ended by nothing.
+pub fn one_log<S>()
+    ensures one { HaveOneLog S }
+    ensures front { LogsGoOn S }
 {}
