@@ -16,3 +16,6 @@ pub mod RunEnds
 pub mod TerminalEnds
 pub mod TerminalRunning
 pub mod OneLog
+pub mod TouchedPairs
+pub mod LayoutKept
+pub mod OutcomeLaws

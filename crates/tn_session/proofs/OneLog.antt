@@ -15,7 +15,7 @@ HasEnded (goes state) = ⊥
 HasEnded (finishes state) = Unit {0}
 HasEnded (fails why) = Unit {0}
 
-finishes_same : {State : Type 0} {s t : State} → finishes s ≡ finishes t → s ≡ t
+pub finishes_same : {State : Type 0} {s t : State} → finishes s ≡ finishes t → s ≡ t
 finishes_same e = cc
 
 fails_same : {State : Type 0} {v w : RunFault} → ◌≡◌ {A = Course State} (fails v) (fails w) → v ≡ w

@@ -19,3 +19,4 @@ pub mod Wire
 pub mod Ran
 pub mod TerminalRuns
 pub mod OneLog
+pub mod Outcomes

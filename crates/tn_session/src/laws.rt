@@ -2,6 +2,7 @@
 
 ghost use Rattle.tn_session.specs.Pair.{PairsAgree, PairsSettle, PairsEnd, TerminalIsHeard, HostIsHeard, OpeningIsHeard};
 ghost use Rattle.tn_session.specs.OneLog.{HaveOneLog, LogsGoOn};
+ghost use Rattle.tn_session.specs.Outcomes.{AnswersFinish, AnswersEndLogs, OutcomesAreTouched};
 
 /// Whatever a terminal's device, a host's layout, and the choices that both are made with, and in whatever order the
 /// events between them arrive: if both are ready, they hold the same. Where nothing is on its way, both are ready, or the
@@ -30,4 +31,13 @@ pub fn reply_law()
 pub fn one_log<S>()
     ensures one { HaveOneLog S }
     ensures front { LogsGoOn S }
+{}
+
+/// What comes of a host's run at a checked screen. Where `check` says yes, and the operator's keys, of which none sends, are
+/// followed by Enter or a PF key on a free keyboard, the host that reads what the terminal sends is done: its outcome has
+/// that key, and for each field that the keys touched, in rising position, and for no other, its entry and its characters.
+pub fn outcome_law()
+    ensures finishes { AnswersFinish }
+    ensures log { AnswersEndLogs }
+    ensures outcome { OutcomesAreTouched }
 {}
