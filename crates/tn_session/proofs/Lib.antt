@@ -15,3 +15,7 @@ pub mod TerminalSteps
 pub mod RunEnds
 pub mod TerminalEnds
 pub mod TerminalRunning
+pub mod OneLog
+pub mod TouchedPairs
+pub mod LayoutKept
+pub mod OutcomeLaws

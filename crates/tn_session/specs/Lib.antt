@@ -18,3 +18,5 @@ pub mod HostRan
 pub mod Wire
 pub mod Ran
 pub mod TerminalRuns
+pub mod OneLog
+pub mod Outcomes

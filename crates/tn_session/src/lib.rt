@@ -36,7 +36,7 @@ pub use device::{Device, DeviceName, ScreenModel};
 pub use fault::RunFault;
 pub use host::HostCore;
 pub use host_session::host_run;
-pub use laws::{delivery_law, pair_law, reply_law};
+pub use laws::{delivery_law, one_log, outcome_law, pair_law, reply_law};
 pub use outcome::HostOutcome;
 pub use report::{Report, RunEnd};
 pub use session::{Agreed, Out, SessionFault, Told};
