@@ -1,7 +1,7 @@
 //! Records read and written, addresses and sizes.
 
-use crate::script::bytes_of;
 use crate::refusals::{push_bad_size, push_read_refused};
+use crate::script::bytes_of;
 use crate::size_of;
 use anyhow::{Context, Result};
 use ds_codec::{
@@ -11,7 +11,8 @@ use ds_codec::{
 use order_lines::{OwnedOrder, Told, read_line};
 use std::alloc::{AllocError, Global};
 use test_words::{
-    cut_word, number, push_bytes, push_length, push_number, push_word_hex, push_word_number, two_bytes, two_numbers,
+    cut_word, number, push_bytes, push_length, push_number, push_word_hex, push_word_number,
+    two_bytes, two_numbers,
 };
 
 /// The most cells of a terminal with addresses of 14 bits.

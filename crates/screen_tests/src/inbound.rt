@@ -1,9 +1,9 @@
 //! Answers written and read.
 
-use crate::script::bytes_of;
 use crate::Setup;
 use crate::refusals::push_answer_refused;
 use crate::screens::screen_after;
+use crate::script::bytes_of;
 use anyhow::{Context, Result};
 use ds_codec::{Aid, Char, Mode};
 use ds_inbound::{Inbound, chars, write_buffer, write_inbound};

@@ -1,8 +1,8 @@
 //! Answers that are too long to print: whether they are what is wanted.
 
-use crate::script::bytes_of;
 use crate::Setup;
 use crate::screens::screen_after;
+use crate::script::bytes_of;
 use anyhow::{Context, Result};
 use ds_codec::{Aid, Mode};
 use ds_inbound::{Inbound, chars, write_buffer, write_inbound};

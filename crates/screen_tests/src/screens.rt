@@ -1,8 +1,8 @@
 //! What records do to screens, and what keys change on them.
 
-use crate::script::bytes_of;
 use crate::Setup;
 use crate::refusals::push_apply_refused;
+use crate::script::bytes_of;
 use anyhow::{Context, Result};
 use ds_codec::{Aid, Attr, Char, Geometry, Mode, Record, Size};
 use ds_screen::{Effect, FieldAt, Lock, PlainCells, Screen};

@@ -1,8 +1,8 @@
 //! Terminals: records and keys with their replies.
 
-use crate::script::bytes_of;
 use crate::Setup;
 use crate::refusals::{push_apply_refused, push_read_refused, push_terminal_refused};
+use crate::script::bytes_of;
 use anyhow::{Context, Result};
 use ds_codec::{Geometry, Mode};
 use ds_keys::key_of_line;

@@ -41,7 +41,10 @@ impl Script {
     /// Whether the next piece isn't due yet.
     fn is_early(&self) -> bool {
         self.giving == Giving::Paced
-            && self.due.get(self.next).is_none_or(|due| self.written.len() < *due)
+            && self
+                .due
+                .get(self.next)
+                .is_none_or(|due| self.written.len() < *due)
     }
 
     /// What comes after the last piece.

@@ -6,8 +6,7 @@ use ds_keys::{Key, key_of_line};
 use scr_layout::Layout;
 use std::alloc::Global;
 use tn_session::{
-    Device, HostOutcome, Report, RunEnd, RunFault, ScreenModel, Stop, Wire, host_run,
-    terminal_run,
+    Device, HostOutcome, Report, RunEnd, RunFault, ScreenModel, Stop, Wire, host_run, terminal_run,
 };
 
 /// What a line of the script asks for.
@@ -107,8 +106,16 @@ fn report_text(alloc: Global, report: &Report) -> Result<String> {
 
 /// What was agreed on, the attention identifier, and each field by its entry's number.
 fn outcome_text(alloc: Global, outcome: &HostOutcome) -> Result<String> {
-    let kind = if outcome.agreed.enhanced { "enhanced" } else { "classic" };
-    let responses = if outcome.agreed.responses { "responses" } else { "none" };
+    let kind = if outcome.agreed.enhanced {
+        "enhanced"
+    } else {
+        "classic"
+    };
+    let responses = if outcome.agreed.responses {
+        "responses"
+    } else {
+        "none"
+    };
     let aid = outcome.aid.byte();
     let mut text = format!(in alloc; "{kind} {responses} aid {aid:02X}")?;
     for (entry, bytes) in outcome.fields.as_slice() {
@@ -218,7 +225,11 @@ fn failing_text(alloc: Global, asked: &Asked, whole: &str) -> Result<String> {
             return Ok(text);
         }
         let written = hex::encode_upper(alloc, line.written.as_slice())?;
-        let failed = if line.read_failed { Stop::ReadFailed } else { Stop::WriteFailed };
+        let failed = if line.read_failed {
+            Stop::ReadFailed
+        } else {
+            Stop::WriteFailed
+        };
         if told.as_str() != "N8 LineFault"
             || stop != Some(failed)
             || !whole.starts_with(written.as_str())

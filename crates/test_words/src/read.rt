@@ -74,12 +74,7 @@ fn push_times(bytes: &mut Vec<u8>, part: &[u8], times: u32) -> Result<(), AllocE
 }
 
 /// Adds some bytes and a number of two bytes so many times, the number going on by one each time.
-fn push_counted(
-    bytes: &mut Vec<u8>,
-    part: &[u8],
-    first: u16,
-    times: u32,
-) -> Result<(), AllocError>
+fn push_counted(bytes: &mut Vec<u8>, part: &[u8], first: u16, times: u32) -> Result<(), AllocError>
     ensures { OnOk result (GoesOn bytes.old.items bytes.new.items) }
 {
     let mut number = first;

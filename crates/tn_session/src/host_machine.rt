@@ -69,14 +69,18 @@ impl<'a> HostMachine<'a> {
     ghost use Rattle.tn_session.specs.HostView.{OutcomeTaken};
 
     /// A run at its beginning.
-    pub(crate) fn new(layout: &'a Layout, records: &'a [&'a [u8]], core: HostCore) -> HostMachine<'a>
+    pub(crate) fn new(
+        layout: &'a Layout,
+        records: &'a [&'a [u8]],
+        core: HostCore,
+    ) -> HostMachine<'a>
         ensures { result ≡ record {
-            layout = layout.now;
-            records = map (λ bytes. bytes.now) records.now;
-            core = core;
-            unanswered = length records.now;
-            sequence = 0;
-            outcome = None;
+          layout = layout.now;
+          records = map (λ bytes. bytes.now) records.now;
+          core = core;
+          unanswered = length records.now;
+          sequence = 0;
+          outcome = None;
         } }
     {
         HostMachine {
@@ -107,7 +111,12 @@ impl<'a> HostMachine<'a> {
     }
 
     /// Takes a RESPONSE.
-    fn take_response(&mut self, agreed: Agreed, header: Header, bytes: &[u8]) -> Result<Turn, RunFault>
+    fn take_response(
+        &mut self,
+        agreed: Agreed,
+        header: Header,
+        bytes: &[u8],
+    ) -> Result<Turn, RunFault>
         ensures { Does (taken_response agreed self.old header bytes.now) result self.new [] }
     {
         if !self.is_awaited(agreed, header.seq) {

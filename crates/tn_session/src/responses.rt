@@ -31,12 +31,7 @@ fn refusal_code(why: Refused) -> u8
 }
 
 /// Adds a response to the record of a header.
-fn push_response(
-    due: &mut Vec<u8>,
-    header: Header,
-    flag: u8,
-    code: u8,
-) -> Result<(), AllocError>
+fn push_response(due: &mut Vec<u8>, header: Header, flag: u8, code: u8) -> Result<(), AllocError>
     ensures { OnOk result (due.new.items ≡ due.old.items ++ response_bytes header flag code) }
 {
     let response = Header {

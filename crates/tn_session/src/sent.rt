@@ -16,11 +16,7 @@ pub(crate) fn next_sequence(sequence: u16) -> u16
 }
 
 /// Adds a record with its header.
-pub(crate) fn push_headed(
-    due: &mut Vec<u8>,
-    header: Header,
-    bytes: &[u8],
-) -> Result<(), AllocError>
+pub(crate) fn push_headed(due: &mut Vec<u8>, header: Header, bytes: &[u8]) -> Result<(), AllocError>
     ensures { OnOk result
         (due.new.items ≡ due.old.items ++ framed (header_bytes header ++ bytes.now)) }
 {

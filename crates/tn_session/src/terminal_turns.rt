@@ -28,12 +28,7 @@ fn is_waiting(lock: Lock) -> bool
 
 impl TerminalState {
     /// Answers, as to Read Modified.
-    fn answer(
-        &mut self,
-        due: &mut Vec<u8>,
-        agreed: Agreed,
-        bytes: &[u8],
-    ) -> Result<(), AllocError>
+    fn answer(&mut self, due: &mut Vec<u8>, agreed: Agreed, bytes: &[u8]) -> Result<(), AllocError>
         requires { counted self.old + 1 < 2 ^ 64 }
         ensures due { OnOk result
             (due.new.items ≡ due.old.items ++ answer_due agreed self.old bytes.now) }
