@@ -8,7 +8,7 @@ use Rattle.term_commands.specs.Printed.{Printed}
 use Rattle.term_commands.specs.Check.{printed_verdict}
 use Rattle.term_commands.specs.Held.{answer_seen}
 use Rattle.term_commands.proofs.Opened.{from_shown}
-use Rattle.term_commands.proofs.commands.check.answer_to.Goals as goal
+use Rattle.term_commands.proofs.commands.check.check_answer.Goals as goal
 
 pub returns : goal.returns
 returns c =
