@@ -1,7 +1,7 @@
 use Rattle.std.proofs.Common.{◌∙◌, ap, sym, List, ℕ, Bor, Option, [], option_map, unwrap_or}
 use Rattle.clap.specs.Words.{found_of}
 use Rattle.clap.proofs.WalkLemmas.{first_value-rows}
-use Rattle.term3270.proofs.asked.path_in.Goals as goal
+use Rattle.term3270.proofs.asked.text_in.Goals as goal
 
 pub returns-in-Some : goal.returns-in-Some
 returns-in-Some c = λ text e. ap (λ (o : Option (List ℕ)). unwrap_or o [])
