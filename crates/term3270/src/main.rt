@@ -7,6 +7,8 @@ mod file;
 mod sessions;
 mod stream;
 mod tcp;
+#[cfg(test)]
+mod tests;
 
 use crate::asked::Asked;
 use crate::command_line::parsed;
