@@ -6,6 +6,7 @@
 #   bytes HEX HEX     the same byte by byte
 #   close HEX HEX     sends these bytes, or none for a dash, and closes the line once it has got so many as the second HEX
 #   large N           sends N megabytes of the letter A
+#   second            a second `serve` at the same port, which can't have it; then our own `attach` comes with the file `keys`
 # What `serve` prints of a terminal must be there before the next one comes. All that it prints is compared with `stdout`, and
 # its status with `status` (0 where there is none). bash is the terminal of bytes. The last line is 'N passed, M failed'.
 program=$(cd "$(dirname "$1")" && pwd)/$(basename "$1")
@@ -67,9 +68,23 @@ attach() { # KEYS, further words
   return "$ended"
 }
 
+# A second serve at a port that is listened to prints nothing, and says why.
+try_second_serve() {
+  "$program" serve "$work/in/layout.toml" --port "$port" --count 1 < "$work/in/stdin" > "$work/second" 2> "$work/second.err"
+  ended=$?
+  [ "$ended" = 3 ] || say "the second serve ended with $ended"
+  [ ! -s "$work/second" ] || say "the second serve printed '$(cat "$work/second")'"
+  wanted="term3270: 127.0.0.1 port $port: Address already in use (os error 98)"
+  [ "$(cat "$work/second.err")" = "$wanted" ] || say "the second serve said '$(cat "$work/second.err")'"
+}
+
 come() { # NUMBER WORD FURTHER..: the terminal of this number
   number=$1
   shift
+  if [ "$1" = second ]; then
+    try_second_serve
+    set -- attach keys 0 answers 1 passed 0 refused 0 end keys
+  fi
   if [ "$1" = attach ]; then
     keys=$2 wanted=$3 text=${*#* * *}
     shift 3

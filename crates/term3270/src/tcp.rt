@@ -27,7 +27,7 @@ impl TcpLine {
     }
 
     /// The line to a host.
-    pub fn to(rt: &HostRuntime, place: Place<'_>) -> io::Result<TcpLine> {
+    pub(crate) fn to(rt: &HostRuntime, place: Place<'_>) -> io::Result<TcpLine> {
         let stream = TcpStream::connect(rt, (place.host, place.port))?;
         TcpLine::over(rt.alloc(), stream)
     }
@@ -58,8 +58,15 @@ pub struct Place<'a> {
 }
 
 impl Place<'_> {
+    ghost use Rattle.std.specs.Prelude.{◌≡◌};
+    ghost use Rattle.std.specs.IoError.{error_kind};
+    ghost use Rattle.term_commands.specs.Streams.{failure_of, IsWantOrFailure};
+
     /// Says on standard error what failed there and why, and gives the status.
-    pub fn report(self, rt: &HostRuntime, error: &io::Error) -> Status {
+    pub fn report(self, rt: &HostRuntime, error: &io::Error) -> Status
+        ensures exact { result ≡ failure_of (error_kind error.now) }
+        ensures failed { IsWantOrFailure result }
+    {
         let Place { host, port } = self;
         let _ = eprintln!(rt; "term3270: {host} port {port}: {error}");
         failure(error)
@@ -76,7 +83,7 @@ pub struct Listening<'a> {
 
 impl<'a> Listening<'a> {
     /// Listens at a place. Port 0 is one that is free.
-    pub fn at(rt: &'a HostRuntime, place: Place<'a>) -> io::Result<Listening<'a>> {
+    pub(crate) fn at(rt: &'a HostRuntime, place: Place<'a>) -> io::Result<Listening<'a>> {
         let listener = TcpListener::bind(rt, (place.host, place.port))?;
         Ok(Listening {
             rt,
