@@ -53,6 +53,24 @@ struct Deframer {
 }
 
 impl Deframer {
+    /// The next event of these bytes, which it takes from the front. Runs of data are copied at once.
+    fn next(&mut self, bytes: &mut &[u8]) -> Option<Event> {
+        while let Some(first) = bytes.first() {
+            if !self.escaped && !self.in_verb && self.sub.is_none() && *first != 0xFF {
+                let length = bytes.iter().position(|byte| *byte == 0xFF).unwrap_or(bytes.len());
+                self.record.extend_from_slice(&bytes[..length]);
+                *bytes = &bytes[length..];
+            } else {
+                let event = self.take(*first);
+                *bytes = &bytes[1..];
+                if event.is_some() {
+                    return event;
+                }
+            }
+        }
+        None
+    }
+
     fn take(&mut self, byte: u8) -> Option<Event> {
         if std::mem::take(&mut self.in_verb) {
             return Some(Event::Verb(byte));
@@ -142,18 +160,18 @@ fn attach(port: u16) {
         if count == 0 {
             break;
         }
-        for byte in &buffer[..count] {
-            match deframer.take(*byte) {
-                None => {}
-                Some(Event::Verb(option)) => due.extend([0xFF, 0xFB, option]),
-                Some(Event::Sub(sub)) if sub[1] == 8 => {
+        let mut piece = &buffer[..count];
+        while let Some(event) = deframer.next(&mut piece) {
+            match event {
+                Event::Verb(option) => due.extend([0xFF, 0xFB, option]),
+                Event::Sub(sub) if sub[1] == 8 => {
                     due.extend(b"\xFF\xFA\x28\x02\x07");
                     due.extend(NAME);
                     due.extend(b"\xFF\xF0");
                 }
-                Some(Event::Sub(sub)) if sub[1] == 2 => due.extend(b"\xFF\xFA\x28\x03\x07\x02\xFF\xF0"),
-                Some(Event::Sub(_)) => {}
-                Some(Event::Record(record)) => {
+                Event::Sub(sub) if sub[1] == 2 => due.extend(b"\xFF\xFA\x28\x03\x07\x02\xFF\xF0"),
+                Event::Sub(_) => {}
+                Event::Record(record) => {
                     show(&mut cells, &record[5..]);
                     shown += 1;
                     push_frame(&mut due, &[2, 0, 0, record[3], record[4]], &[0]);
@@ -195,24 +213,24 @@ fn session(stream: &mut TcpStream) -> (u8, Vec<u8>) {
         due.clear();
         let count = stream.read(&mut buffer).unwrap();
         assert!(count > 0);
-        for byte in &buffer[..count] {
-            match deframer.take(*byte) {
-                None => {}
-                Some(Event::Verb(_)) => due.extend(b"\xFF\xFA\x28\x08\x02\xFF\xF0"),
-                Some(Event::Sub(sub)) if sub[1] == 2 => {
+        let mut piece = &buffer[..count];
+        while let Some(event) = deframer.next(&mut piece) {
+            match event {
+                Event::Verb(_) => due.extend(b"\xFF\xFA\x28\x08\x02\xFF\xF0"),
+                Event::Sub(sub) if sub[1] == 2 => {
                     due.extend(b"\xFF\xFA\x28\x02\x04");
                     due.extend(&sub[3..]);
                     due.extend(b"\x01TERM3270\xFF\xF0");
                 }
-                Some(Event::Sub(_)) => {
+                Event::Sub(_) => {
                     due.extend(b"\xFF\xFA\x28\x03\x04\x02\xFF\xF0");
                     push_frame(&mut due, &[0, 0, 2, 0, 0], SCREEN);
                 }
-                Some(Event::Record(record)) if record[0] == 0 => {
+                Event::Record(record) if record[0] == 0 => {
                     stream.write_all(&due).unwrap();
                     return (record[5], record[11..].to_vec());
                 }
-                Some(Event::Record(_)) => {}
+                Event::Record(_) => {}
             }
         }
     }
