@@ -2,7 +2,8 @@
 #             each crate as it is proved
 # make build  leaves the program at bin/term3270
 # make test   proves everything from nothing, then runs the golden cases of the built program
-# make cases  runs the golden cases and the manners of the program alone
+# make cases  runs the golden cases, the sessions and the manners of the program alone
+# make peers  runs other makers' terminals and hosts against the program, those that are installed
 # make edits  tries every edit that the prover must refuse, of all crates or, with CRATE=ds_codec, of one
 # make bench  times the program beside plain Rust
 RT := $(shell command -v rt 2>/dev/null)
@@ -11,7 +12,7 @@ WIRE := crates/wire_bench/out/wire_bench
 SOURCES := $(shell find crates -path '*/out' -prune -o -name '*.rt' -print -o -name '*.antt' -print)
 need_toolchain = $(if $(RT),,$(error missing: the Rattle toolchain's command 'rt' on the PATH))
 
-.PHONY: run build test cases edits bench clean
+.PHONY: run build test cases peers edits bench clean
 
 run: bin/term3270
 	@bin/term3270 < examples/first.hex
@@ -31,7 +32,10 @@ test:
 	@sh tests/run
 
 cases: bin/term3270
-	@sh tests/cases.sh bin/term3270 && sh tests/manners.sh bin/term3270
+	@sh tests/cases.sh bin/term3270 && sh tests/sessions.sh bin/term3270 && sh tests/manners.sh bin/term3270
+
+peers: bin/term3270
+	@sh tests/peers bin/term3270
 
 edits:
 	$(need_toolchain)

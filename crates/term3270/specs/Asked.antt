@@ -1,11 +1,12 @@
 -- What the parsed words of a command line ask for.
-use Rattle.std.specs.Prelude.{◌≡◌, Bool, true, false, List, Option, Some, None, codes}
+use Rattle.std.specs.Prelude.{◌≡◌, ◌<◌, ℕ, Bool, true, false, List, Option, Some, None, codes}
 use Rattle.std.specs.Borrow.{Bor}
+use Rattle.std.specs.Fmt.{decimal}
 use Rattle.clap.specs.Words.{Row, Text, first_of, one_of}
 use Rattle.term_commands.specs.declared.output.demo.Demos.{Demos}
 use Rattle.term_commands.specs.declared.output.demo.Demos.TheVariants.{Printed, Omitted}
 use Rattle.term3270.specs.declared.asked.Asked.{Asked}
-use Rattle.term3270.specs.declared.asked.Asked.TheVariants.{Show, Check, Press, Convert, ConvertBack}
+use Rattle.term3270.specs.declared.asked.Asked.TheVariants.{Show, Check, Press, Convert, ConvertBack, Serve, Attach}
 
 -- an option was given, or wasn't
 abbrev pub IsOption : Text → List Row → Bool → Type 0
@@ -13,20 +14,24 @@ IsOption option rows given = (one_of option rows ≡ Some (codes "true") → giv
     × (one_of option rows ≡ Some (codes "false") → given ≡ false)
     × (one_of option rows ≡ None → given ≡ false)
 
--- the path that was given
-abbrev pub IsPath : Text → List Row → Bor Text → Type 0
-IsPath word rows path = (text : Text) → first_of word rows ≡ Some text → path.now ≡ text
+-- the text that was given for a word: a path, or a name
+abbrev pub IsText : Text → List Row → Bor Text → Type 0
+IsText word rows given = (text : Text) → first_of word rows ≡ Some text → given.now ≡ text
+
+-- the number below 65,536 that was given for a word, in decimal
+abbrev pub IsNumber : Text → List Row → ℕ → Type 0
+IsNumber word rows given = (number : ℕ) → number < 65536 → one_of word rows ≡ Some (decimal number) → given ≡ number
 
 abbrev pub AreDemos : List Row → Demos → Type 0
 AreDemos rows Printed = IsOption (codes "demo") rows true
 AreDemos rows Omitted = IsOption (codes "demo") rows false
 
 abbrev pub IsCheck : List Row → Asked → Type 0
-IsCheck rows (Check layout demos) = IsPath (codes "LAYOUT") rows layout × AreDemos rows demos
+IsCheck rows (Check layout demos) = IsText (codes "LAYOUT") rows layout × AreDemos rows demos
 IsCheck rows _ = ⊥
 
 abbrev pub IsPress : List Row → Asked → Type 0
-IsPress rows (Press keys) = IsPath (codes "KEYS") rows keys
+IsPress rows (Press keys) = IsText (codes "KEYS") rows keys
 IsPress rows _ = ⊥
 
 abbrev pub IsConvert : List Row → Asked → Type 0
@@ -34,12 +39,24 @@ IsConvert rows Convert = IsOption (codes "back") rows false
 IsConvert rows ConvertBack = IsOption (codes "back") rows true
 IsConvert rows _ = ⊥
 
--- the command that is named, with its path and its option; the default command is show
+abbrev pub IsServe : List Row → Asked → Type 0
+IsServe rows (Serve layout address port count) =
+    IsText (codes "LAYOUT") rows layout × IsText (codes "listen") rows address × IsNumber (codes "port") rows port × IsNumber (codes "count") rows count
+IsServe rows _ = ⊥
+
+abbrev pub IsAttach : List Row → Asked → Type 0
+IsAttach rows (Attach host keys port device) =
+    IsText (codes "HOST") rows host × IsText (codes "KEYS") rows keys × IsNumber (codes "port") rows port × IsText (codes "device") rows device
+IsAttach rows _ = ⊥
+
+-- the command that is named, with its paths, places and options; the default command is show
 pub record AsksFor (name : Text) (rows : List Row) (asked : Asked) : Type 0 where
   pub show : name ≡ codes "show" → asked ≡ Show
   pub check : name ≡ codes "check" → IsCheck rows asked
   pub press : name ≡ codes "press" → IsPress rows asked
   pub convert : name ≡ codes "convert" → IsConvert rows asked
+  pub serve : name ≡ codes "serve" → IsServe rows asked
+  pub attach : name ≡ codes "attach" → IsAttach rows asked
 
 abbrev pub Asks : Option (Text × List Row) → Asked → Type 0
 Asks None asked = asked ≡ Show

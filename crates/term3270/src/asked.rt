@@ -2,19 +2,36 @@
 
 ghost use Rattle.std.specs.Prelude.{◌≡◌, option_map};
 ghost use Rattle.clap.specs.Words.{found_of, rows_of, subcommand_rows_of};
-ghost use Rattle.term3270.specs.Asked.{AreDemos, AsksFor, IsConvert, IsOption, IsPath};
+ghost use Rattle.term3270.specs.Asked.{AreDemos, AsksFor, IsConvert, IsNumber, IsOption, IsText};
 
 use clap::ArgMatches;
 use term_commands::Demos;
 
-/// A command, with the file and the option that it was given.
+/// A command, with the files, the options and the place on the net that it was given.
 #[derive(Clone, Copy, Debug, PartialEq, Eq)]
 pub enum Asked<'a> {
     Show,
-    Check { layout: &'a str, demos: Demos },
-    Press { keys: &'a str },
+    Check {
+        layout: &'a str,
+        demos: Demos,
+    },
+    Press {
+        keys: &'a str,
+    },
     Convert,
     ConvertBack,
+    Serve {
+        layout: &'a str,
+        address: &'a str,
+        port: u16,
+        count: u16,
+    },
+    Attach {
+        host: &'a str,
+        keys: &'a str,
+        port: u16,
+        device: &'a str,
+    },
 }
 
 impl<'a> Asked<'a> {
@@ -45,13 +62,25 @@ fn command_of<'a>(name: &str, words: &ArgMatches<'a>) -> Asked<'a>
 {
     match name {
         "check" => Asked::Check {
-            layout: path_in(words, "LAYOUT"),
+            layout: text_in(words, "LAYOUT"),
             demos: demos_in(words),
         },
         "press" => Asked::Press {
-            keys: path_in(words, "KEYS"),
+            keys: text_in(words, "KEYS"),
         },
         "convert" => convert_of(words),
+        "serve" => Asked::Serve {
+            layout: text_in(words, "LAYOUT"),
+            address: text_in(words, "listen"),
+            port: number_in(words, "port"),
+            count: number_in(words, "count"),
+        },
+        "attach" => Asked::Attach {
+            host: text_in(words, "HOST"),
+            keys: text_in(words, "KEYS"),
+            port: number_in(words, "port"),
+            device: text_in(words, "device"),
+        },
         _ => Asked::Show,
     }
 }
@@ -76,13 +105,23 @@ fn convert_of<'a>(words: &ArgMatches<'a>) -> Asked<'a>
     }
 }
 
-/// The path that was given; `clap` refuses words without it.
-fn path_in<'a>(words: &ArgMatches<'a>, word: &str) -> &'a str
-    ensures { IsPath word.now (rows_of (found_of words.now)) result }
+/// The text that was given for a word; `clap` refuses words without it, or has a default for it.
+fn text_in<'a>(words: &ArgMatches<'a>, word: &str) -> &'a str
+    ensures { IsText word.now (rows_of (found_of words.now)) result }
 {
     match words.get_str(word) {
-        Some(path) => path,
+        Some(text) => text,
         None => "",
+    }
+}
+
+/// The number that was given for a word; `clap` refuses words without it, or out of its range.
+fn number_in(words: &ArgMatches<'_>, word: &str) -> u16
+    ensures { IsNumber word.now (rows_of (found_of words.now)) result }
+{
+    match words.get_one::<u16>(word) {
+        Some(number) => number,
+        None => 0,
     }
 }
 

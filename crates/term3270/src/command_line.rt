@@ -9,7 +9,7 @@ const STATUSES: &str = "Statuses:
   0  done, or yes
   1  check has findings
   2  bad input, or a fault of the command line
-  3  a file can't be opened or read, or a read or a write failed
+  3  a file, a read, a write, a connection or a session failed
   4  out of memory";
 
 const SHOW: &str = "Input:
@@ -70,6 +70,34 @@ Example:
 Statuses:
   0 done, 2 bad input, 3 a read or a write failed, 4 out of memory";
 
+const SERVE: &str = "Input:
+  A layout and records as for check. They are checked first, and a model must have the layout's sizes.
+
+Output:
+  'terminal K aid XX' for each terminal, counted from 1, and 'NAME HEX' for each field that it sent; or
+  'terminal K fault' and the fault's number (docs/SESSIONS.md).
+
+Example:
+  $ term3270 serve examples/signon.toml --port 3270 --count 1 < examples/signon.hex
+
+Statuses:
+  0 done, 1 findings, 2 bad input, 3 the layout can't be read, the port can't be bound, or a session, a read
+  or a write failed, 4 out of memory";
+
+const ATTACH: &str = "Input:
+  Keys are a file, one a line, as for press. They are pressed as soon as the keyboard is free.
+
+Output:
+  'answers A passed B refused C end E': what the terminal sent, the records that it ignored and refused, and
+  keys or closed; or 'fault' and the fault's number (docs/SESSIONS.md).
+
+Example:
+  $ term3270 attach localhost keys --port 3270
+
+Statuses:
+  0 done, 2 bad input, 3 the keys can't be read, the host can't be reached, or the session, a read or a write
+  failed, 4 out of memory";
+
 fn show<'a>(alloc: Global) -> Command<'a> {
     Command::new(alloc, "show")
         .about("Print the screen that the records leave (the default command)")
@@ -112,17 +140,74 @@ fn convert<'a>(alloc: Global) -> Result<Command<'a>, AllocError> {
         .arg(back)
 }
 
+/// A port of TCP, which must be given.
+fn port<'a>(alloc: Global, help: &'a str) -> Arg<'a> {
+    Arg::new(alloc, "port")
+        .long("port")
+        .required(true)
+        .value_name("P")
+        .value_parser(clap::value_parser!(u16).range(1..))
+        .help(help)
+}
+
+fn serve<'a>(alloc: Global) -> Result<Command<'a>, AllocError> {
+    let layout = Arg::new(alloc, "LAYOUT")
+        .required(true)
+        .help("The file of the layout, in TOML");
+    let count = Arg::new(alloc, "count")
+        .long("count")
+        .required(true)
+        .value_name("N")
+        .value_parser(clap::value_parser!(u16).range(1..=1000))
+        .help("How many terminals are served, one after the other: 1 to 1000");
+    let listen = Arg::new(alloc, "listen")
+        .long("listen")
+        .value_name("ADDRESS")
+        .default_value("127.0.0.1")
+        .help("The address that is listened at");
+    Command::new(alloc, "serve")
+        .about("Serve the screen to terminals over TCP, and print what they send")
+        .after_help(SERVE)
+        .arg(layout)?
+        .arg(port(alloc, "The port that is listened at: 1 to 65535"))?
+        .arg(count)?
+        .arg(listen)
+}
+
+fn attach<'a>(alloc: Global) -> Result<Command<'a>, AllocError> {
+    let host = Arg::new(alloc, "HOST")
+        .required(true)
+        .help("The host's name or address");
+    let keys = Arg::new(alloc, "KEYS")
+        .required(true)
+        .help("The file of the keys, one a line");
+    let device = Arg::new(alloc, "device")
+        .long("device")
+        .value_name("NAME")
+        .default_value("IBM-3278-2")
+        .help("The terminal: IBM-3278-M or IBM-3279-M, M from 2 to 5, and -E where it is extended");
+    Command::new(alloc, "attach")
+        .about("Attach a terminal to a host over TCP, press keys, and print a report")
+        .after_help(ATTACH)
+        .arg(host)?
+        .arg(keys)?
+        .arg(port(alloc, "The host's port: 1 to 65535"))?
+        .arg(device)
+}
+
 /// The words of the command line, parsed.
 pub(crate) fn parsed<'a>(alloc: Global, words: &'a [String]) -> Result<ArgMatches<'a>, Error> {
     Command::new(alloc, "term3270")
         .version(VERSION)
         .about(
-            "Shows, checks and converts 3270 screens: records in hexadecimal, one a line, from standard input",
+            "Shows, checks, converts and serves 3270 screens: records in hexadecimal, one a line, from standard input",
         )
         .after_help(STATUSES)
         .subcommand(show(alloc))?
         .subcommand(check(alloc)?)?
         .subcommand(press(alloc)?)?
         .subcommand(convert(alloc)?)?
+        .subcommand(serve(alloc)?)?
+        .subcommand(attach(alloc)?)?
         .try_get_matches_from(words)
 }

@@ -1,15 +1,21 @@
-//! The program `term3270`: shows, checks and converts the screens of outbound 3270 records.
+//! The program `term3270`: shows, checks, converts and serves the screens of outbound 3270 records, and attaches to hosts.
 #![tactic(auto)]
 
 mod asked;
 mod command_line;
 mod file;
+mod sessions;
 mod stream;
+mod tcp;
+#[cfg(test)]
+mod tests;
 
 use crate::asked::Asked;
 use crate::command_line::parsed;
 use crate::file::FileAt;
+use crate::sessions::{run_attach, run_serve};
 use crate::stream::Named;
+use crate::tcp::Place;
 use clap::error::ErrorKind;
 use std::process::ExitCode;
 use std::{env, io};
@@ -41,6 +47,28 @@ fn run(rt: &HostRuntime, asked: Asked<'_>) -> Status {
         }
         Asked::Convert => run_convert(alloc, &mut records, &mut output),
         Asked::ConvertBack => run_convert_back(alloc, &mut records, &mut output),
+        Asked::Serve {
+            layout,
+            address,
+            port,
+            count,
+        } => {
+            let mut layout = file_at(rt, layout);
+            let place = Place {
+                host: address,
+                port,
+            };
+            run_serve(rt, &mut layout, &mut records, place, count, &mut output)
+        }
+        Asked::Attach {
+            host,
+            keys,
+            port,
+            device,
+        } => {
+            let mut keys = file_at(rt, keys);
+            run_attach(rt, Place { host, port }, &mut keys, device, &mut output)
+        }
     }
 }
 

@@ -7,7 +7,7 @@ mod press;
 mod show;
 
 pub use back::run_convert_back;
-pub use check::run_check;
+pub use check::{check_answer, run_check};
 pub use convert::run_convert;
 pub use press::run_press;
 pub use show::run_show;

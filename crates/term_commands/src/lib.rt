@@ -10,8 +10,13 @@ mod output;
 mod shown;
 mod status;
 
-pub use commands::{run_check, run_convert, run_convert_back, run_press, run_show};
-pub use fault::failure;
+pub use commands::{check_answer, run_check, run_convert, run_convert_back, run_press, run_show};
+pub use fault::{CommandError, Fault, failure};
+pub use input::keys::{Keys, read_keys};
+pub use input::layout::read_layout;
+pub use input::records::{Records, read_records};
+pub use input::sizes::SizeLine;
 pub use law::{convert_law, lines_law};
+pub use output::answer::{Answer, finish};
 pub use output::demo::Demos;
 pub use status::Status;

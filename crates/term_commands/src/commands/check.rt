@@ -77,8 +77,13 @@ fn verdict_text(
     }
 }
 
-/// What is answered to the records.
-fn answer_to(
+/// What `check` answers to a layout and records: `yes` and the status `Done`, or the findings, where demos are printed with
+/// what their keys send, and the status `Findings`.
+///
+/// # Errors
+///
+/// Where a request for memory was refused.
+pub fn check_answer(
     alloc: Global,
     layout: &Layout,
     records: &[Vec<u8>],
@@ -105,7 +110,7 @@ fn check_records<L: Read, R: Read>(
 {
     let layout = read_layout(alloc, layout)?;
     let told = read_records(alloc, reader, SizeLine::Refused)?;
-    Ok(answer_to(alloc, &layout, told.records.as_slice(), demos)?)
+    Ok(check_answer(alloc, &layout, told.records.as_slice(), demos)?)
 }
 
 /// Reads a layout and then records in hexadecimal, one a line, and prints `yes` or what stands against

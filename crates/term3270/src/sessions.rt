@@ -1,0 +1,96 @@
+//! The commands `serve` and `attach`, from their inputs to the net.
+
+ghost use Rattle.std.specs.Prelude.{◌≡◌, ◌⊎◌, IfSome, None, Some};
+ghost use Rattle.tn_session.specs.declared.device.Device.{Device};
+ghost use Rattle.term_commands.specs.declared.status.Status.TheVariants.{BadInput};
+ghost use Rattle.term_commands.specs.Held.{records_held};
+ghost use Rattle.term_commands.specs.Keys.{keys_in};
+ghost use Rattle.tn_session.specs.Devices.{device_of};
+ghost use Rattle.term_sessions.specs.Attach.{Attaches};
+ghost use Rattle.term_sessions.specs.Prepare.{prepare};
+ghost use Rattle.term_sessions.specs.Serve.{Serves};
+ghost use Rattle.term3270.specs.Sessions.{AttachesNamed, HasFailed, ServesPrepared};
+
+use crate::tcp::{Listening, Place, TcpLine};
+use ds_keys::Key;
+use std::io::{Read, Write};
+use term_commands::{Status, finish, read_keys};
+use term_sessions::{Prepared, Screen, attach_on, prepare_serve, serve_on};
+use tn_session::Device;
+
+/// Serves a layout's screen at a place to so many terminals. The port is bound once the screen is found fit.
+pub fn run_serve<L: Read, R: Read, W: Write>(
+    rt: &HostRuntime,
+    layout: &mut L,
+    records: &mut R,
+    place: Place<'_>,
+    count: u16,
+    output: &mut W,
+) -> Status
+    ensures { IfSome (L.remaining layout.old) (λ text. IfSome (R.remaining records.old) (λ input.
+        ServesPrepared count (W.contents output.old) (W.contents output.new) result (prepare text input))) }
+{
+    match prepare_serve(rt.alloc(), layout, records) {
+        Ok(Prepared::Ready(screen)) => serve_at(rt, place, &screen, count, output),
+        Ok(Prepared::Stops(answer)) => finish(rt.alloc(), output, Ok(answer)),
+        Err(error) => finish(rt.alloc(), output, Err(error)),
+    }
+}
+
+fn serve_at<W: Write>(
+    rt: &HostRuntime,
+    place: Place<'_>,
+    screen: &Screen,
+    count: u16,
+    output: &mut W,
+) -> Status
+    ensures { Serves screen.now.layout (records_held screen.now.records.items) count
+        (W.contents output.old) (W.contents output.new) result
+        ⊎ HasFailed (W.contents output.old) (W.contents output.new) result }
+{
+    match Listening::at(rt, place) {
+        Ok(mut terminals) => serve_on(rt.alloc(), &mut terminals, screen, count, output),
+        Err(error) => place.report(rt, &error),
+    }
+}
+
+/// Attaches a terminal of the device of this name to the host at a place, and presses keys. The keys are read once the device
+/// is known, and the host is called once the keys are good.
+pub fn run_attach<K: Read, W: Write>(
+    rt: &HostRuntime,
+    place: Place<'_>,
+    keys: &mut K,
+    device: &str,
+    output: &mut W,
+) -> Status
+    ensures unknown { device_of device.now ≡ None
+        → (result ≡ BadInput) × (keys.new ≡ keys.old) × (output.new ≡ output.old) }
+    ensures attaches { (known : Device) → device_of device.now ≡ Some known
+        → IfSome (K.remaining keys.old) (λ lines. AttachesNamed known (W.contents output.old)
+        (W.contents output.new) result (keys_in lines)) }
+{
+    let Some(device) = Device::from_name(device.as_bytes()) else {
+        let _ = eprintln!(rt; "unknown device");
+        return Status::BadInput;
+    };
+    match read_keys(rt.alloc(), keys) {
+        Ok(named) => attach_at(rt, place, device, named.keys.as_slice(), output),
+        Err(error) => finish(rt.alloc(), output, Err(error)),
+    }
+}
+
+fn attach_at<W: Write>(
+    rt: &HostRuntime,
+    place: Place<'_>,
+    device: Device,
+    keys: &[Key],
+    output: &mut W,
+) -> Status
+    ensures { Attaches device keys.now (W.contents output.old) (W.contents output.new) result
+        ⊎ HasFailed (W.contents output.old) (W.contents output.new) result }
+{
+    match TcpLine::to(rt, place) {
+        Ok(line) => attach_on(rt.alloc(), line, device, keys, output),
+        Err(error) => place.report(rt, &error),
+    }
+}

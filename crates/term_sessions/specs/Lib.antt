@@ -1,0 +1,6 @@
+pub mod FaultNumber
+pub mod Session
+pub mod Serve
+pub mod Attach
+pub mod Prepare
+pub mod Held

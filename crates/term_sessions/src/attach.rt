@@ -1,0 +1,115 @@
+//! The command `attach`, once it is connected.
+
+ghost use Rattle.std.specs.Prelude.{◌≡◌, ◌++◌, Ok, OnOk};
+ghost use Rattle.std.specs.String.{string_bytes};
+ghost use Rattle.term_commands.specs.Fault.{Gives};
+ghost use Rattle.term_commands.specs.Held.{answer_seen};
+ghost use Rattle.term_commands.specs.Streams.{Prints};
+ghost use Rattle.term_sessions.specs.Attach.{end_word, report_line, fault_line, printed_attach, IsAttached, Attaches};
+
+use crate::fault::fault_number;
+use crate::session::flushed;
+use ds_keys::Key;
+use std::alloc::{AllocError, Global};
+use std::io::{Read, Write};
+use term_commands::{Answer, CommandError, Status, finish};
+use tn_session::{Device, Report, RunEnd, RunFault, Wire, terminal_run};
+
+/// A terminal's session over a line: TN3270E with RESPONSES where the host asks for it, else classic TN3270.
+fn terminal_session<L: Read + Write + Drop>(
+    alloc: Global,
+    line: L,
+    device: Device,
+    keys: &[Key],
+) -> Result<Report, RunFault>
+    ensures { IsAttached device keys.now result }
+{
+    let mut wire = Wire::new(line);
+    let ran = terminal_run(alloc, &mut wire, device, true, true, keys);
+    flushed(&mut wire.into_line(), ran)
+}
+
+fn end_word(end: RunEnd) -> &'static str
+    ensures { result.now ≡ end_word end }
+{
+    match end {
+        RunEnd::KeysUsed => "keys",
+        RunEnd::Closed => "closed",
+    }
+}
+
+fn push_report(out: &mut String, report: Report) -> Result<(), AllocError>
+    ensures { OnOk result
+        (string_bytes out.new ≡ string_bytes out.old ++ report_line report) }
+{
+    let Report {
+        end,
+        answers,
+        passed,
+        refused,
+    } = report;
+    let end = end_word(end);
+    write!(
+        out,
+        "answers {answers} passed {passed} refused {refused} end {end}\n"
+    )
+}
+
+fn push_fault(out: &mut String, why: RunFault) -> Result<(), AllocError>
+    ensures { OnOk result (string_bytes out.new ≡ string_bytes out.old ++ fault_line why) }
+{
+    let fault = fault_number(why);
+    write!(out, "fault {fault}\n")
+}
+
+/// What is printed of a session.
+fn session_answer(alloc: Global, session: Result<Report, RunFault>) -> Result<Answer, CommandError>
+    ensures { Gives answer_seen result (Ok (printed_attach session)) }
+{
+    let mut text = String::new(alloc);
+    match session {
+        Ok(report) => {
+            push_report(&mut text, report)?;
+            Ok(Answer {
+                text,
+                status: Status::Done,
+            })
+        }
+        Err(RunFault::OutOfMemory) => Err(CommandError::OutOfMemory),
+        Err(why) => {
+            push_fault(&mut text, why)?;
+            Ok(Answer {
+                text,
+                status: Status::Failed,
+            })
+        }
+    }
+}
+
+fn print_session<W: Write>(
+    alloc: Global,
+    session: Result<Report, RunFault>,
+    writer: &mut W,
+) -> Status
+    ensures { Prints (W.contents writer.old) (W.contents writer.new) result
+        (printed_attach session) }
+{
+    let answer = session_answer(alloc, session);
+    finish(alloc, writer, answer)
+}
+
+/// Runs a terminal of this device over a line to a host, with TN3270E and RESPONSES where the host asks for them, and presses
+/// the keys; prints `answers A passed B refused C end E`, where E is `keys` or `closed`, or `fault` and the fault's number.
+/// The status is `Done`, or `Failed` where the session or a write failed, or `NoMemory` where memory was refused.
+pub fn attach_on<L: Read + Write + Drop, W: Write>(
+    alloc: Global,
+    line: L,
+    device: Device,
+    keys: &[Key],
+    writer: &mut W,
+) -> Status
+    ensures { Attaches device keys.now (W.contents writer.old) (W.contents writer.new) result }
+{
+    let session = terminal_session(alloc, line, device, keys);
+    print_session(alloc, session, writer)
+}

@@ -1,0 +1,16 @@
+//! The commands `serve` and `attach` of the program `term3270`, over lines that are connected: which inputs they take, what
+//! they print of each session, and the status with which they end.
+#![tactic(auto)]
+
+mod attach;
+mod fault;
+mod screen;
+mod serve;
+mod session;
+mod terminals;
+
+pub use attach::attach_on;
+pub use fault::fault_number;
+pub use screen::{Prepared, Screen, prepare_serve};
+pub use serve::serve_on;
+pub use terminals::Terminals;
