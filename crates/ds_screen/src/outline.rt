@@ -38,7 +38,8 @@ impl Model for Outline {
 }
 
 impl Outline {
-    ghost use Rattle.std.specs.Prelude.{◌≡◌, true, false, IfOk, IfErr, OnOk, OnErr};
+    ghost use Rattle.std.specs.Prelude.{◌≡◌, ◌<◌, true, false, IfOk, IfErr, OnOk, OnErr};
+    ghost use Rattle.ds_codec.specs.Geometry.{cells_of};
     ghost use Rattle.ds_screen.specs.Picture.{Picture};
     ghost use Rattle.ds_screen.specs.Fields.{fields_of};
     ghost use Rattle.ds_screen.specs.Records.{new_picture, told_of};
@@ -80,7 +81,8 @@ impl Outline {
 
     /// The cursor's position.
     pub fn cursor(&self) -> u32
-        ensures { result ≡ self.now.cursor }
+        ensures value { result ≡ self.now.cursor }
+        ensures inside { result < cells_of self.now.size }
     {
         self.cursor
     }
