@@ -1,15 +1,13 @@
 //! The records in turn, on a new terminal.
 
 ghost use Rattle.std.specs.Prelude.{◌≡◌, map, IfOk};
-ghost use Rattle.ds_codec.specs.Reading.{read_of};
 ghost use Rattle.scr_check.specs.Opening.{erases, writes, command_fault, is_size};
-ghost use Rattle.ds_terminal.specs.Taking.{reading};
 ghost use Rattle.scr_check.specs.Seen.{TakesOn, TakesAllOn, IsReadyOn, IsOpening};
 
 use crate::finding::Finding;
-use ds_codec::{Command, Record, Size};
+use ds_codec::{Command, Size};
 use ds_screen::{Lock, Outline};
-use ds_terminal::Refused;
+use ds_terminal::{apply_record, read_record};
 use scr_layout::Layout;
 use std::alloc::{AllocError, Global};
 
@@ -54,30 +52,20 @@ fn command_fault(index: usize, command: Command) -> Option<Finding>
     }
 }
 
-/// The record that bytes spell for an outline, or why they spell none.
-fn read<'a>(outline: &Outline, bytes: &'a [u8]) -> Result<Record<'a>, Refused>
-    ensures { result ≡ reading (read_of outline.now.geometry.mode bytes.now) }
-{
-    match Record::read(outline.geometry().mode(), bytes) {
-        Ok(record) => Ok(record),
-        Err(refused) => Err(Refused::Read(refused)),
-    }
-}
-
 /// Reads and applies the record of this number.
 fn take(outline: &mut Outline, index: usize, bytes: &[u8]) -> Result<(), Finding>
     ensures { TakesOn outline.old outline.new index bytes.now result }
 {
-    let record = match read(outline, bytes) {
+    let record = match read_record(outline, bytes) {
         Ok(record) => record,
         Err(refused) => return Err(Finding::RecordRefused(index, refused)),
     };
     if let Some(finding) = command_fault(index, record.command()) {
         return Err(finding);
     }
-    match outline.apply(&record) {
+    match apply_record(outline, &record) {
         Ok(_) => Ok(()),
-        Err(refused) => Err(Finding::RecordRefused(index, Refused::Apply(refused))),
+        Err(refused) => Err(Finding::RecordRefused(index, refused)),
     }
 }
 
