@@ -1,12 +1,22 @@
 -- Orders in turn.
-use Rattle.std.proofs.Common.{◌≡◌, ℕ, ◌+◌, List, [], ◌∷◌, length, Some, Ok, Err, refl, sym, ◌∙◌, ap}
+use Rattle.std.proofs.Common.{◌≡◌, ℕ, ◌+◌, List, [], ◌∷◌, length, Option, Some, None, MatchOption, Result, Ok, Err, IfOk, refl, sym, ◌∙◌, ap}
 use Rattle.ds_codec.specs.declared.size.Mode.{Mode}
+use Rattle.ds_codec.specs.declared.size.Size.{Size}
+use Rattle.ds_codec.specs.declared.command.Command.{Command}
+use Rattle.ds_codec.specs.Geometry.{Sizes}
 use Rattle.ds_codec.specs.Order.{Item, Site, text, start_field, start_field_extended, set_buffer_address, set_attribute, modify_field, insert_cursor, program_tab, repeat_to_address, erase_unprotected_to_address, graphic_escape, SpellsOrder}
 use Rattle.ds_codec.specs.Record.{AreSpelled, HaveSpelling}
+use Rattle.ds_codec.specs.declared.cell.Cell.{Cell}
 use Rattle.ds_screen.specs.declared.refused.Why.{Why}
+use Rattle.ds_screen.specs.declared.refused.Refused.{Refused}
+use Rattle.ds_screen.specs.declared.state.State.{State}
 use Rattle.ds_screen.specs.Orders.{Writing, effect_of, fault_of, OrderActs}
-use Rattle.ds_screen.specs.Records.{acts, unless}
-use Rattle.ds_screen.specs.State.{HasCharacters, HaveCharacters}
+use Rattle.ds_screen.specs.Records.{acts, begun, unless}
+use Rattle.ds_screen.specs.State.{writing, HasCharacters, HaveCharacters}
+use Rattle.ds_screen.specs.declared.records.Base.{Base}
+use Rattle.ds_screen.specs.Kept.{start_of}
+use Rattle.ds_screen.specs.Prepared.{Prepares, start_from}
+use Rattle.ds_screen.specs.Surface.{Makes}
 
 has_characters : (mode : Mode) (order : Item) (part : List ℕ) → SpellsOrder mode order part → HasCharacters order
 has_characters mode (text run) part spelled = spelled.2
@@ -44,3 +54,18 @@ acts_stop site sites before why bad = ap (λ f. unless f site.at (acts sites (ef
 pub acts_end : (w : Writing) → acts [] w ≡ Ok w
 unfolding acts
 acts_end w = refl
+
+-- what was done to a surface that shows its content alone
+pub content_done : {C : Type 0} (content : C → List Cell) (old new : C) (orders : List Site) (wcc cursor : ℕ) (r : Result State Refused)
+    → IfOk r (λ end. Makes (λ s cells. content s ≡ cells) old new (λ cells later. acts orders (begun wcc cells cursor) ≡ Ok (writing later end)))
+    → IfOk r (λ end. acts orders (begun wcc (content old) cursor) ≡ Ok (writing (content new) end))
+content_done content old new orders wcc cursor (Ok end) done =
+    let all = done (content old) refl in
+    all.2 ∙ ap (λ cells. Ok (writing cells end)) (sym all.1)
+content_done content old new orders wcc cursor (Err refused) done = tt
+
+pub content_prepared : {C : Type 0} (content : C → List Cell) (spare : C) (cells : List Cell) (geometry : Sizes) (size : Size) (cursor : ℕ) (command : Command) (r : Option Base)
+    → Prepares (λ s cells. content s ≡ cells) geometry size cursor command r spare cells
+    → MatchOption r (start_of geometry size cells cursor command ≡ None) (λ base. start_of geometry size cells cursor command ≡ Some (start_from base (content spare)))
+content_prepared content spare cells geometry size cursor command None none = none
+content_prepared content spare cells geometry size cursor command (Some base) starts = starts.2 ∙ ap (λ later. Some (start_from base later)) (sym starts.1)

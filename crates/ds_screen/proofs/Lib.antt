@@ -14,4 +14,7 @@ pub mod SoundLaws
 pub mod GovernLaws
 pub mod OpenLaws
 pub mod PrintLaws
+pub mod MarkLaws
+pub mod OutlineLaws
+pub mod OutlineFieldLaws
 pub mod Rows

@@ -186,7 +186,7 @@ open_lt cells p inside =
 cursor_lt : (v : Picture) → IsSound v → v.cursor < length v.cells
 cursor_lt v sound = omega (arith, sound.whole, sound.cursor_inside)
 
-cleared_sound : (v : Picture) → IsSound v → IsSound (all_cleared v)
+pub cleared_sound : (v : Picture) → IsSound v → IsSound (all_cleared v)
 cleared_sound v sound =
     record {
       default_good = sound.default_good;

@@ -20,6 +20,11 @@ abbrev pub bits_of : Cell → ℕ
 bits_of (Field bits) = bits
 bits_of (Char glyph) = 0
 
+-- the bits of an attribute, if the cell holds one
+abbrev pub attribute_of : Cell → Option ℕ
+attribute_of (Field bits) = Some bits
+attribute_of (Char glyph) = None
+
 -- the attribute at the least distance going back from p, p itself first
 unfoldable pub attribute_before : List Cell → ℕ → Option ℕ
 attribute_before cells p =

@@ -5,8 +5,12 @@ pub mod Ruling
 pub mod Shown
 pub mod Orders
 pub mod State
+pub mod Surface
 pub mod Records
 pub mod Reset
+pub mod Marks
 pub mod Kept
+pub mod Outline
+pub mod Prepared
 pub mod Laws
 pub mod Refused

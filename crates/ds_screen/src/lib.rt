@@ -7,7 +7,11 @@ mod field;
 mod fields;
 mod laws;
 mod lock;
+mod mark;
+mod marks;
 mod orders;
+mod outline;
+mod outline_fields;
 mod plain;
 mod ranges;
 mod records;
@@ -19,6 +23,7 @@ mod ruling;
 mod screen;
 mod shown;
 mod state;
+mod surface;
 mod tab;
 mod wcc;
 
@@ -31,6 +36,8 @@ pub use laws::{
     open_is_unprotected, records_stay_sound, refused_at_the_least,
 };
 pub use lock::Lock;
+pub use outline::Outline;
+pub use outline_fields::OutlineFields;
 pub use plain::PlainCells;
 pub use refused::{Refused, Why};
 pub use screen::Screen;

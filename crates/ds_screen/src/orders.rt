@@ -2,16 +2,15 @@
 
 ghost use Rattle.std.specs.Prelude.{◌≡◌, ◌<◌, ◌≤◌, true, false, length, IfOk, IfErr, OnOk, IfSome, Some, None};
 ghost use Rattle.ds_codec.specs.declared.cell.Cell.{Cell};
-ghost use Rattle.ds_codec.specs.Order.{item_of, text, repeat_to_address, erase_unprotected_to_address};
-ghost use Rattle.ds_screen.specs.Fields.{is_attribute, bits_of};
-ghost use Rattle.ds_screen.specs.Picture.{cell_at};
+ghost use Rattle.ds_codec.specs.Order.{item_of, text, set_buffer_address, modify_field, repeat_to_address, erase_unprotected_to_address};
 ghost use Rattle.ds_screen.specs.Orders.{OrderActs, fault_of, outside_of, after_storing};
-ghost use Rattle.ds_screen.specs.State.{writing, HasCharacters, IsInside};
+ghost use Rattle.ds_screen.specs.State.{writing, HasCharacters};
+ghost use Rattle.ds_screen.specs.Surface.{Makes, Tells, IsOn};
 
-use crate::cells::Cells;
-use crate::ranges::{erase, put_run, repeat, store};
 use crate::refused::Why;
+use crate::ring::next;
 use crate::state::State;
+use crate::surface::Surface;
 use crate::tab::program_tab;
 use ds_codec::{Attr, Cell, Char, Order, last_attr};
 
@@ -27,64 +26,50 @@ fn position(n: u32, address: u32) -> Result<u32, Why>
     }
 }
 
-/// The attribute that stands at a position.
-fn attribute_at<C: Cells>(cells: &C, p: u32) -> Result<Attr, Why>
-    requires { p < length (C.content cells.now) }
-    ensures there { IfOk result
-        (λ bits. (bits ≡ bits_of (cell_at (C.content cells.now) p)) ×
-        (is_attribute (cell_at (C.content cells.now) p) ≡ true)) }
-    ensures missing { IfErr result
-        (λ why. (why ≡ Why.NoFieldHere) ×
-        (is_attribute (cell_at (C.content cells.now) p) ≡ false)) }
-{
-    match cells.cell(p) {
-        Cell::Field(attribute) => Ok(attribute),
-        Cell::Char(_) => Err(Why::NoFieldHere),
-    }
-}
-
 /// Stores a cell at the buffer address, and goes on by one. A Program Tab that comes next nulls nothing.
-fn stored<C: Cells>(cells: &mut C, state: State, cell: Cell) -> State
-    requires { state.address < length (C.content cells.old) }
-    ensures stores { writing (C.content cells.new) result
-        ≡ after_storing (writing (C.content cells.old) state) cell false }
-    ensures inside { result.address < length (C.content cells.old) }
-    ensures whole { length (C.content cells.new) ≡ length (C.content cells.old) }
-    ensures room { C.capacity cells.new ≡ C.capacity cells.old }
+fn stored<S: Surface>(surface: &mut S, state: State, cell: Cell) -> State
+    requires { state.address < S.size surface.old }
+    ensures stores { Makes S.shows surface.old surface.new (λ cells later. writing later result
+        ≡ after_storing (writing cells state) cell false) }
+    ensures cursor { result.cursor ≡ state.cursor }
+    ensures inside { result.address < S.size surface.old }
+    ensures whole { S.size surface.new ≡ S.size surface.old }
+    ensures room { S.room surface.new ≡ S.room surface.old }
 {
-    let address = store(cells, state.address, cell);
-    state.at(address)
+    surface.store(state.address, cell);
+    state.at(next(surface.positions(), state.address))
 }
 
 /// Stores a character as text is stored: a Program Tab that comes next nulls what it passes.
-fn stored_as_text<C: Cells>(cells: &mut C, state: State, character: Char) -> State
-    requires { state.address < length (C.content cells.old) }
-    ensures stores { writing (C.content cells.new) result
-        ≡ after_storing (writing (C.content cells.old) state) (Cell.Char character) true }
-    ensures inside { result.address < length (C.content cells.old) }
-    ensures whole { length (C.content cells.new) ≡ length (C.content cells.old) }
-    ensures room { C.capacity cells.new ≡ C.capacity cells.old }
+fn stored_as_text<S: Surface>(surface: &mut S, state: State, character: Char) -> State
+    requires { state.address < S.size surface.old }
+    ensures stores { Makes S.shows surface.old surface.new (λ cells later. writing later result
+        ≡ after_storing (writing cells state) (Cell.Char character) true) }
+    ensures cursor { result.cursor ≡ state.cursor }
+    ensures inside { result.address < S.size surface.old }
+    ensures whole { S.size surface.new ≡ S.size surface.old }
+    ensures room { S.room surface.new ≡ S.room surface.old }
 {
-    let address = store(cells, state.address, Cell::Char(character));
+    surface.store(state.address, Cell::Char(character));
     State {
         cursor: state.cursor,
-        address,
+        address: next(surface.positions(), state.address),
         nulling: true,
     }
 }
 
 /// Stores text from the buffer address on, and goes on behind it.
 #[tactic(auto, unfolding(crate::specs::Orders::effect_of, crate::specs::Orders::fault_of))]
-fn put_text<C: Cells>(cells: &mut C, state: State, run: &[u8]) -> State
-    requires inside { IsInside (C.content cells.old) state }
+fn put_text<S: Surface>(surface: &mut S, state: State, run: &[u8]) -> State
+    requires inside { IsOn (S.size surface.old) state }
     requires characters { HasCharacters (text run.now) }
-    ensures acts { OrderActs (text run.now) (writing (C.content cells.old) state)
-        (writing (C.content cells.new) result) }
-    ensures inside { IsInside (C.content cells.new) result }
-    ensures whole { length (C.content cells.new) ≡ length (C.content cells.old) }
-    ensures room { C.capacity cells.new ≡ C.capacity cells.old }
+    ensures acts { Makes S.shows surface.old surface.new
+        (λ cells later. OrderActs (text run.now) (writing cells state) (writing later result)) }
+    ensures inside { IsOn (S.size surface.old) result }
+    ensures whole { S.size surface.new ≡ S.size surface.old }
+    ensures room { S.room surface.new ≡ S.room surface.old }
 {
-    let address = put_run(cells, state.address, run);
+    let address = surface.store_text(state.address, run);
     State {
         cursor: state.cursor,
         address,
@@ -92,89 +77,122 @@ fn put_text<C: Cells>(cells: &mut C, state: State, run: &[u8]) -> State
     }
 }
 
+/// Changes the attribute at the buffer address, and goes on by one.
+#[tactic(auto, unfolding(crate::specs::Orders::effect_of, crate::specs::Orders::fault_of))]
+fn modify_field<S: Surface>(surface: &mut S, state: State, pairs: &[u8]) -> Result<State, Why>
+    requires inside { IsOn (S.size surface.old) state }
+    ensures acts { IfOk result (λ after. Makes S.shows surface.old surface.new
+        (λ cells later. OrderActs (modify_field pairs.now) (writing cells state)
+        (writing later after))) }
+    ensures inside { IfOk result (IsOn (S.size surface.old)) }
+    ensures refused { IfErr result (λ why. Tells S.shows surface.old
+        (λ cells. fault_of (modify_field pairs.now) (writing cells state) ≡ Some why)) }
+    ensures whole { OnOk result (S.size surface.new ≡ S.size surface.old) }
+    ensures room { S.room surface.new ≡ S.room surface.old }
+{
+    let Some(before) = surface.attribute_at(state.address) else {
+        return Err(Why::NoFieldHere);
+    };
+    let attribute = last_attr(pairs).unwrap_or(before);
+    Ok(stored(surface, state, Cell::Field(attribute)))
+}
+
 /// Stores a character from the buffer address up to the stop, and goes on there.
 #[tactic(auto, unfolding(crate::specs::Orders::effect_of, crate::specs::Orders::fault_of))]
-fn repeat_to_address<C: Cells>(
-    cells: &mut C,
+fn repeat_to_address<S: Surface>(
+    surface: &mut S,
     state: State,
     stop: u32,
     character: Char,
 ) -> Result<State, Why>
-    requires inside { IsInside (C.content cells.old) state }
-    ensures acts { IfOk result (λ after. OrderActs (repeat_to_address stop character)
-        (writing (C.content cells.old) state) (writing (C.content cells.new) after)) }
-    ensures inside { IfOk result (λ after. IsInside (C.content cells.new) after) }
-    ensures refused { IfErr result
-        (λ why. fault_of (repeat_to_address stop character) (writing (C.content cells.old) state)
-        ≡ Some why) }
-    ensures whole { OnOk result (length (C.content cells.new) ≡ length (C.content cells.old)) }
-    ensures room { C.capacity cells.new ≡ C.capacity cells.old }
+    requires inside { IsOn (S.size surface.old) state }
+    ensures acts { IfOk result (λ after. Makes S.shows surface.old surface.new
+        (λ cells later. OrderActs (repeat_to_address stop character) (writing cells state)
+        (writing later after))) }
+    ensures inside { IfOk result (IsOn (S.size surface.old)) }
+    ensures refused { IfErr result (λ why. Tells S.shows surface.old
+        (λ cells. fault_of (repeat_to_address stop character) (writing cells state) ≡ Some why)) }
+    ensures whole { OnOk result (S.size surface.new ≡ S.size surface.old) }
+    ensures room { S.room surface.new ≡ S.room surface.old }
 {
-    let address = position(cells.len(), stop)?;
-    repeat(cells, state.address, address, character);
+    let address = position(surface.positions(), stop)?;
+    surface.repeat(state.address, address, character);
     Ok(state.at(address))
 }
 
 /// Nulls the open characters from the buffer address up to the stop, and goes on there.
 #[tactic(auto, unfolding(crate::specs::Orders::effect_of, crate::specs::Orders::fault_of))]
-fn erase_unprotected_to_address<C: Cells>(
-    cells: &mut C,
+fn erase_unprotected_to_address<S: Surface>(
+    surface: &mut S,
     state: State,
     stop: u32,
 ) -> Result<State, Why>
-    requires inside { IsInside (C.content cells.old) state }
-    ensures acts { IfOk result (λ after. OrderActs (erase_unprotected_to_address stop)
-        (writing (C.content cells.old) state) (writing (C.content cells.new) after)) }
-    ensures inside { IfOk result (λ after. IsInside (C.content cells.new) after) }
-    ensures refused { IfErr result
-        (λ why. fault_of (erase_unprotected_to_address stop) (writing (C.content cells.old) state)
-        ≡ Some why) }
-    ensures whole { OnOk result (length (C.content cells.new) ≡ length (C.content cells.old)) }
-    ensures room { C.capacity cells.new ≡ C.capacity cells.old }
+    requires inside { IsOn (S.size surface.old) state }
+    ensures acts { IfOk result (λ after. Makes S.shows surface.old surface.new
+        (λ cells later. OrderActs (erase_unprotected_to_address stop) (writing cells state)
+        (writing later after))) }
+    ensures inside { IfOk result (IsOn (S.size surface.old)) }
+    ensures refused { IfErr result (λ why. Tells S.shows surface.old
+        (λ cells. fault_of (erase_unprotected_to_address stop) (writing cells state) ≡ Some why)) }
+    ensures whole { OnOk result (S.size surface.new ≡ S.size surface.old) }
+    ensures room { S.room surface.new ≡ S.room surface.old }
 {
-    let address = position(cells.len(), stop)?;
-    erase(cells, state.address, address);
+    let address = position(surface.positions(), stop)?;
+    surface.erase(state.address, address);
     Ok(state.at(address))
+}
+
+/// Goes on at an address.
+#[tactic(auto, unfolding(crate::specs::Orders::effect_of, crate::specs::Orders::fault_of))]
+fn set_buffer_address<S: Surface>(surface: &S, state: State, address: u32) -> Result<State, Why>
+    requires inside { IsOn (S.size surface.now) state }
+    ensures acts { IfOk result (λ after. Tells S.shows surface.now
+        (λ cells. OrderActs (set_buffer_address address) (writing cells state) (writing cells after))) }
+    ensures inside { IfOk result (IsOn (S.size surface.now)) }
+    ensures refused { IfErr result (λ why. Tells S.shows surface.now
+        (λ cells. fault_of (set_buffer_address address) (writing cells state) ≡ Some why)) }
+{
+    Ok(state.at(position(surface.positions(), address)?))
 }
 
 /// Does one order.
 #[tactic(auto, unfolding(crate::specs::Orders::effect_of, crate::specs::Orders::fault_of))]
-pub(crate) fn act<C: Cells>(cells: &mut C, state: State, order: &Order<'_>) -> Result<State, Why>
-    requires inside { IsInside (C.content cells.old) state }
+pub(crate) fn act<S: Surface>(
+    surface: &mut S,
+    state: State,
+    order: &Order<'_>,
+) -> Result<State, Why>
+    requires inside { IsOn (S.size surface.old) state }
     requires characters { HasCharacters (item_of order.now) }
-    ensures acts { IfOk result (λ after. OrderActs (item_of order.now)
-        (writing (C.content cells.old) state) (writing (C.content cells.new) after)) }
-    ensures inside { IfOk result (λ after. IsInside (C.content cells.new) after) }
-    ensures refused { IfErr result
-        (λ why. fault_of (item_of order.now) (writing (C.content cells.old) state) ≡ Some why) }
-    ensures whole { OnOk result (length (C.content cells.new) ≡ length (C.content cells.old)) }
-    ensures room { C.capacity cells.new ≡ C.capacity cells.old }
+    ensures acts { IfOk result (λ after. Makes S.shows surface.old surface.new
+        (λ cells later. OrderActs (item_of order.now) (writing cells state) (writing later after))) }
+    ensures inside { IfOk result (IsOn (S.size surface.old)) }
+    ensures refused { IfErr result (λ why. Tells S.shows surface.old
+        (λ cells. fault_of (item_of order.now) (writing cells state) ≡ Some why)) }
+    ensures whole { OnOk result (S.size surface.new ≡ S.size surface.old) }
+    ensures room { S.room surface.new ≡ S.room surface.old }
 {
     match order {
-        Order::Text(run) => Ok(put_text(cells, state, run)),
-        Order::Sf(attribute) => Ok(stored(cells, state, Cell::Field(*attribute))),
+        Order::Text(run) => Ok(put_text(surface, state, run)),
+        Order::Sf(attribute) => Ok(stored(surface, state, Cell::Field(*attribute))),
         Order::Sfe(pairs) => {
             let attribute = last_attr(pairs).unwrap_or(Attr::new(0));
-            Ok(stored(cells, state, Cell::Field(attribute)))
+            Ok(stored(surface, state, Cell::Field(attribute)))
         }
-        Order::Sba(address) => Ok(state.at(position(cells.len(), *address)?)),
+        Order::Sba(address) => set_buffer_address(surface, state, *address),
         Order::Sa(_, _) => Ok(state.at(state.address)),
-        Order::Mf(pairs) => {
-            let before = attribute_at(cells, state.address)?;
-            let attribute = last_attr(pairs).unwrap_or(before);
-            Ok(stored(cells, state, Cell::Field(attribute)))
-        }
+        Order::Mf(pairs) => modify_field(surface, state, pairs),
         Order::Ic => Ok(State {
             cursor: state.address,
             address: state.address,
             nulling: false,
         }),
-        Order::Pt => Ok(program_tab(cells, state)),
-        Order::Ra(stop, character) => repeat_to_address(cells, state, *stop, *character),
-        Order::Eua(stop) => erase_unprotected_to_address(cells, state, *stop),
+        Order::Pt => Ok(program_tab(surface, state)),
+        Order::Ra(stop, character) => repeat_to_address(surface, state, *stop, *character),
+        Order::Eua(stop) => erase_unprotected_to_address(surface, state, *stop),
         Order::Ge(code) => {
             let character = Char::new(*code, true).unwrap();
-            Ok(stored_as_text(cells, state, character))
+            Ok(stored_as_text(surface, state, character))
         }
     }
 }

@@ -12,18 +12,15 @@ use crate::ring::{distance, next, previous};
 use crate::ruling::{is_open_cell, ruled_on, ruling};
 use ds_codec::{Cell, Char};
 
-/// Stores one cell, and gives the position after it.
-pub(crate) fn store<C: Cells>(cells: &mut C, b: u32, cell: Cell) -> u32
+/// Stores one cell.
+pub(crate) fn store<C: Cells>(cells: &mut C, b: u32, cell: Cell)
     requires inside { b < length (C.content cells.old) }
     ensures stored { C.content cells.new
         ≡ ruled (length (C.content cells.old)) (single_cell (C.content cells.old) b cell) }
-    ensures after { result ≡ ring_on (length (C.content cells.old)) b 1 }
-    ensures inside { result < length (C.content cells.old) }
     ensures whole { length (C.content cells.new) ≡ length (C.content cells.old) }
     ensures room { C.capacity cells.new ≡ C.capacity cells.old }
 {
     cells.put(b, cell);
-    next(cells.len(), b)
 }
 
 /// Stores a run of text round the buffer, and gives the position after it.
@@ -48,7 +45,7 @@ pub(crate) fn put_run<C: Cells>(cells: &mut C, b: u32, run: &[u8]) -> u32
 }
 
 /// How many positions lie from `b` up to the stop: all of them where the stop is `b`.
-fn reach(n: u32, b: u32, stop: u32) -> u32
+pub(crate) fn reach(n: u32, b: u32, stop: u32) -> u32
     requires from_inside { b < n }
     requires stop_inside { stop < n }
     ensures steps { result ≡ (if b == stop then n else ring_distance n b stop) }

@@ -1,42 +1,44 @@
 //! The orders of a record, and what the write control character asks for.
 
-ghost use Rattle.std.specs.Prelude.{◌≡◌, ◌<◌, ◌≤◌, length, replicate, Ok, Err, Some, None, IfOk, IfErr, OnOk, IfSome, MatchOption};
+ghost use Rattle.std.specs.Prelude.{◌≡◌, ◌<◌, ◌≤◌, ℕ, length, replicate, Ok, Err, Some, None, IfOk, IfErr, OnOk, IfSome, MatchOption};
+ghost use Rattle.ds_codec.specs.declared.cell.Cell.{Cell};
 ghost use Rattle.ds_screen.specs.Picture.{blank, cell_at, ruled};
 ghost use Rattle.ds_screen.specs.State.{writing, HaveCharacters, IsInside};
-ghost use Rattle.ds_screen.specs.Records.{acts, begun, cleared_cell};
+ghost use Rattle.ds_screen.specs.Records.{acts, begun, cleared_cell, told_of, sounds, restores};
 ghost use Rattle.ds_screen.specs.Fields.{first_open};
 ghost use Rattle.ds_screen.specs.Kept.{HasRoom, start_of};
+ghost use Rattle.ds_screen.specs.Prepared.{Prepares};
+ghost use Rattle.ds_screen.specs.Surface.{Becomes, Makes, Tells, IsOn};
 ghost use Rattle.ds_codec.specs.Geometry.{cells_of};
 ghost use Rattle.ds_screen.specs.Reset.{after_reset};
 
 use crate::cells::Cells;
 use crate::orders::act;
-use crate::ranges::erase;
 use crate::refused::Refused;
-use crate::ruling::first_open_from;
 use crate::state::State;
+use crate::surface::Surface;
 use crate::wcc::resets_modified;
-use ds_codec::{Cell, Command, Geometry, Record, Size};
+use ds_codec::{Attr, Cell, Command, Geometry, Record, Size};
 
 /// Does the orders in turn, up to the first that is at fault.
-pub(crate) fn run_orders<C: Cells>(
-    cells: &mut C,
+fn run_orders<S: Surface>(
+    surface: &mut S,
     start: State,
     outbound: &Record<'_>,
 ) -> Result<State, Refused>
-    requires { IsInside (C.content cells.old) start }
-    ensures done { IfOk result (λ end. acts outbound.now.orders
-        (writing (C.content cells.old) start) ≡ Ok (writing (C.content cells.new) end)) }
-    ensures inside { IfOk result (IsInside (C.content cells.new)) }
-    ensures refused { IfErr result
-        (λ e. acts outbound.now.orders (writing (C.content cells.old) start) ≡ Err e) }
+    requires { IsOn (S.size surface.old) start }
+    ensures done { IfOk result (λ end. Makes S.shows surface.old surface.new
+        (λ cells later. acts outbound.now.orders (writing cells start) ≡ Ok (writing later end))) }
+    ensures inside { IfOk result (IsOn (S.size surface.old)) }
+    ensures refused { IfErr result (λ e. Tells S.shows surface.old
+        (λ cells. acts outbound.now.orders (writing cells start) ≡ Err e)) }
     ensures characters { HaveCharacters outbound.now.orders }
-    ensures whole { OnOk result (length (C.content cells.new) ≡ length (C.content cells.old)) }
-    ensures room { C.capacity cells.new ≡ C.capacity cells.old }
+    ensures whole { OnOk result (S.size surface.new ≡ S.size surface.old) }
+    ensures room { S.room surface.new ≡ S.room surface.old }
 {
     let mut state = start;
     'orders: for placed in outbound.orders() {
-        match act(cells, state, &placed.order) {
+        match act(surface, state, &placed.order) {
             Ok(after) => state = after,
             Err(why) => return Err(Refused { at: placed.at, why }),
         }
@@ -53,19 +55,24 @@ pub(crate) enum Reset {
     Unprotected,
 }
 
+/// What an attribute becomes when modified data tags are reset.
+pub(crate) fn reset_attribute(which: Reset, attribute: Attr) -> Attr
+    ensures { Cell.Field result ≡ after_reset which (Cell.Field attribute) }
+{
+    if which == Reset::Unprotected && attribute.protected() {
+        attribute
+    } else {
+        attribute.with_modified(false)
+    }
+}
+
 /// What a cell becomes when modified data tags are reset.
 fn reset_cell(which: Reset, cell: &Cell) -> Cell
     ensures { result ≡ after_reset which cell.now }
 {
     match cell {
         Cell::Char(character) => Cell::Char(*character),
-        Cell::Field(attribute) => {
-            if which == Reset::Unprotected && attribute.protected() {
-                Cell::Field(*attribute)
-            } else {
-                Cell::Field(attribute.with_modified(false))
-            }
-        }
+        Cell::Field(attribute) => Cell::Field(reset_attribute(which, *attribute)),
     }
 }
 
@@ -86,6 +93,21 @@ pub(crate) fn reset_modified<C: Cells>(cells: &mut C, which: Reset)
 /// Nulls what is open and resets the modified data tags of unprotected attributes, and gives the least
 /// open position (GA23-0059, "Erase All Unprotected"; the least position is our own rule where a field
 /// runs round the end).
+pub(crate) fn clear_on<S: Surface>(surface: &mut S) -> u32
+    requires { 0 < S.size surface.old }
+    ensures shown { Becomes S.shows surface.old surface.new cleared_cell }
+    ensures first { Tells S.shows surface.old (λ cells. result ≡ first_open cells 0) }
+    ensures inside { result < S.size surface.old }
+    ensures whole { S.size surface.new ≡ S.size surface.old }
+    ensures room { S.room surface.new ≡ S.room surface.old }
+{
+    let cursor = surface.first_open();
+    surface.erase(0, 0);
+    surface.reset_modified(Reset::Unprotected);
+    cursor
+}
+
+/// The same on the cells of a buffer.
 pub(crate) fn clear_unprotected<C: Cells>(cells: &mut C) -> u32
     requires { 0 < length (C.content cells.old) }
     ensures stored { C.content cells.new
@@ -95,10 +117,7 @@ pub(crate) fn clear_unprotected<C: Cells>(cells: &mut C) -> u32
     ensures whole { length (C.content cells.new) ≡ length (C.content cells.old) }
     ensures room { C.capacity cells.new ≡ C.capacity cells.old }
 {
-    let cursor = first_open_from(cells, 0);
-    erase(cells, 0, 0);
-    reset_modified(cells, Reset::Unprotected);
-    cursor
+    clear_on(cells)
 }
 
 /// What a write begins with.
@@ -110,14 +129,15 @@ pub(crate) struct Base {
     pub cursor: u32,
 }
 
-/// Makes the spare buffer nulls of a size: what a write that erases begins with.
-fn erased<C: Cells>(spare: &mut C, size: Size, wcc: u8) -> Base
-    requires { cells_of size ≤ C.capacity spare.old }
-    ensures nulls { C.content spare.new ≡ replicate (cells_of size) blank }
+/// Makes the spare one nulls of a size: what a write that erases begins with.
+fn erased<S: Surface>(spare: &mut S, size: Size, wcc: u8) -> Base
+    requires { cells_of size ≤ S.room spare.old }
+    ensures nulls { S.shows spare.new (replicate (cells_of size) blank) }
+    ensures whole { S.size spare.new ≡ cells_of size }
     ensures base { result ≡ record { wcc = wcc; size = size; cursor = 0 } }
-    ensures room { C.capacity spare.new ≡ C.capacity spare.old }
+    ensures room { S.room spare.new ≡ S.room spare.old }
 {
-    spare.clear(size.cells());
+    spare.make_blank(size.cells());
     Base {
         wcc,
         size,
@@ -125,8 +145,49 @@ fn erased<C: Cells>(spare: &mut C, size: Size, wcc: u8) -> Base
     }
 }
 
-/// Puts into the spare buffer what a write begins with: the cells as they are, or nulls of a size. `None`
-/// for a command that is no write.
+/// Puts into the spare one what a write begins with: the cells as they are, or nulls of a size. `None` for a
+/// command that is no write.
+pub(crate) fn prepare_on<S: Surface>(
+    spare: &mut S,
+    surface: &S,
+    geometry: &Geometry,
+    now: Base,
+    command: Command,
+) -> Option<Base>
+    requires whole { S.size surface.now ≡ cells_of now.size }
+    requires inside { now.cursor < cells_of now.size }
+    requires fits { cells_of now.size ≤ S.room spare.old }
+    requires room { HasRoom geometry.now (S.room spare.old) }
+    ensures start { Tells S.shows surface.now (Prepares S.shows geometry.now now.size now.cursor
+        command result spare.new) }
+    ensures whole { IfSome result (λ base. S.size spare.new ≡ cells_of base.size) }
+    ensures fits { IfSome result (λ base. (room : ℕ) → cells_of now.size ≤ room
+        → HasRoom geometry.now room → cells_of base.size ≤ room) }
+    ensures told { IfSome result (λ base. told_of command
+        ≡ record { alarm = sounds base.wcc; restored = restores base.wcc }) }
+    ensures inside { IfSome result (λ base. base.cursor < cells_of base.size) }
+    ensures room { S.room spare.new ≡ S.room spare.old }
+{
+    match command {
+        Command::Write(wcc) => {
+            spare.make_copy(surface);
+            Some(Base {
+                wcc,
+                size: now.size,
+                cursor: now.cursor,
+            })
+        }
+        Command::EraseWrite(wcc) => Some(erased(spare, geometry.default_size(), wcc)),
+        Command::EraseWriteAlternate(wcc) => Some(erased(spare, geometry.alternate_size(), wcc)),
+        Command::EraseAllUnprotected
+        | Command::ReadBuffer
+        | Command::ReadModified
+        | Command::ReadModifiedAll
+        | Command::NoOperation => None,
+    }
+}
+
+/// The same on the cells of buffers.
 pub(crate) fn prepare<C: Cells>(
     spare: &mut C,
     cells: &C,
@@ -146,26 +207,39 @@ pub(crate) fn prepare<C: Cells>(
     ensures inside { IfSome result (λ base. base.cursor < cells_of base.size) }
     ensures room { C.capacity spare.new ≡ C.capacity spare.old }
 {
-    match command {
-        Command::Write(wcc) => {
-            spare.copy_from(cells);
-            Some(Base {
-                wcc,
-                size: now.size,
-                cursor: now.cursor,
-            })
-        }
-        Command::EraseWrite(wcc) => Some(erased(spare, geometry.default_size(), wcc)),
-        Command::EraseWriteAlternate(wcc) => Some(erased(spare, geometry.alternate_size(), wcc)),
-        Command::EraseAllUnprotected
-        | Command::ReadBuffer
-        | Command::ReadModified
-        | Command::ReadModifiedAll
-        | Command::NoOperation => None,
-    }
+    prepare_on(spare, cells, geometry, now, command)
 }
 
 /// Resets modified data tags where the write control character asks for it, and does the orders.
+pub(crate) fn write_on<S: Surface>(
+    surface: &mut S,
+    wcc: u8,
+    cursor: u32,
+    outbound: &Record<'_>,
+) -> Result<State, Refused>
+    requires { cursor < S.size surface.old }
+    ensures done { IfOk result (λ end. Makes S.shows surface.old surface.new
+        (λ cells later. acts outbound.now.orders (begun wcc cells cursor)
+        ≡ Ok (writing later end))) }
+    ensures inside { IfOk result (IsOn (S.size surface.old)) }
+    ensures refused { IfErr result (λ e. Tells S.shows surface.old
+        (λ cells. acts outbound.now.orders (begun wcc cells cursor) ≡ Err e)) }
+    ensures characters { HaveCharacters outbound.now.orders }
+    ensures whole { OnOk result (S.size surface.new ≡ S.size surface.old) }
+    ensures room { S.room surface.new ≡ S.room surface.old }
+{
+    if resets_modified(wcc) {
+        surface.reset_modified(Reset::Every);
+    }
+    let start = State {
+        cursor,
+        address: cursor,
+        nulling: false,
+    };
+    run_orders(surface, start, outbound)
+}
+
+/// The same on the cells of a buffer.
 pub(crate) fn write_orders<C: Cells>(
     cells: &mut C,
     wcc: u8,
@@ -182,13 +256,5 @@ pub(crate) fn write_orders<C: Cells>(
     ensures whole { OnOk result (length (C.content cells.new) ≡ length (C.content cells.old)) }
     ensures room { C.capacity cells.new ≡ C.capacity cells.old }
 {
-    if resets_modified(wcc) {
-        reset_modified(cells, Reset::Every);
-    }
-    let start = State {
-        cursor,
-        address: cursor,
-        nulling: false,
-    };
-    run_orders(cells, start, outbound)
+    write_on(cells, wcc, cursor, outbound)
 }

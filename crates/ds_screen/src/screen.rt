@@ -43,15 +43,21 @@ impl<C: Cells> Model for Screen<C> {
         × HasRoom s.geometry (C.capacity s.cells) × HasRoom s.geometry (C.capacity s.spare) };
 }
 
+/// How many cells the larger size has.
+pub(crate) fn most_cells(geometry: &Geometry) -> u32
+    ensures { HasRoom geometry.now result }
+{
+    geometry
+        .default_size()
+        .cells()
+        .max(geometry.alternate_size().cells())
+}
+
 /// A buffer for either size.
 fn buffer_for<C: Cells>(alloc: Global, geometry: &Geometry) -> Result<C, AllocError>
     ensures { IfOk result (λ cells. HasRoom geometry.now (C.capacity cells)) }
 {
-    let most = geometry
-        .default_size()
-        .cells()
-        .max(geometry.alternate_size().cells());
-    C::reserved(alloc, most)
+    C::reserved(alloc, most_cells(geometry))
 }
 
 impl<C: Cells> Screen<C> {

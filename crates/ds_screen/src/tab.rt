@@ -5,14 +5,16 @@ ghost use Rattle.ds_screen.specs.Picture.{ruled};
 ghost use Rattle.ds_screen.specs.Fields.{is_attribute};
 ghost use Rattle.ds_screen.specs.Orders.{nulled_cell, first_from, is_unprotected_attribute, tab_stop, tabbed};
 ghost use Rattle.ds_screen.specs.State.{writing};
+ghost use Rattle.ds_screen.specs.Surface.{Makes};
 
 use crate::cells::{Cells, is_field};
 use crate::ring::next;
 use crate::state::State;
+use crate::surface::Surface;
 use ds_codec::{Cell, Char};
 
 /// Nulls the positions from `b` on up to the first attribute, or to the end, and gives that place.
-fn null_to_attribute<C: Cells>(cells: &mut C, b: u32) -> u32
+pub(crate) fn null_to_attribute<C: Cells>(cells: &mut C, b: u32) -> u32
     requires inside { b < length (C.content cells.old) }
     ensures place { result ≡ unwrap_or (first_from is_attribute (C.content cells.old) b)
         (length (C.content cells.old)) }
@@ -43,7 +45,7 @@ fn is_unprotected_field(cell: Cell) -> bool
 
 /// The position after the first unprotected attribute from here on, never round the buffer; 0 where there
 /// is none.
-fn stop_from<C: Cells>(cells: &C, from: u32) -> u32
+pub(crate) fn stop_from<C: Cells>(cells: &C, from: u32) -> u32
     requires inside { from < length (C.content cells.now) }
     ensures stop { result ≡ tab_stop (C.content cells.now) from }
     ensures inside { result < length (C.content cells.now) }
@@ -59,21 +61,22 @@ fn stop_from<C: Cells>(cells: &C, from: u32) -> u32
 
 /// Goes to the first unprotected field from the buffer address on. Right behind text or a graphic escape,
 /// or a tab that ran to the end, it first nulls up to the next attribute or the end (our own rule).
-pub(crate) fn program_tab<C: Cells>(cells: &mut C, state: State) -> State
-    requires inside { state.address < length (C.content cells.old) }
-    ensures tabs { writing (C.content cells.new) result
-        ≡ tabbed (writing (C.content cells.old) state) state.nulling
-        (first_from is_attribute (C.content cells.old) state.address) }
-    ensures inside { result.address < length (C.content cells.old) }
-    ensures whole { length (C.content cells.new) ≡ length (C.content cells.old) }
-    ensures room { C.capacity cells.new ≡ C.capacity cells.old }
+pub(crate) fn program_tab<S: Surface>(surface: &mut S, state: State) -> State
+    requires inside { state.address < S.size surface.old }
+    ensures tabs { Makes S.shows surface.old surface.new (λ cells later. writing later result
+        ≡ tabbed (writing cells state) state.nulling
+        (first_from is_attribute cells state.address)) }
+    ensures cursor { result.cursor ≡ state.cursor }
+    ensures inside { result.address < S.size surface.old }
+    ensures whole { S.size surface.new ≡ S.size surface.old }
+    ensures room { S.room surface.new ≡ S.room surface.old }
 {
     if !state.nulling {
-        return state.at(stop_from(cells, state.address));
+        return state.at(surface.stop_from(state.address));
     }
-    let place = null_to_attribute(cells, state.address);
-    if place < cells.len() {
-        state.at(stop_from(cells, place))
+    let place = surface.null_to_attribute(state.address);
+    if place < surface.positions() {
+        state.at(surface.stop_from(place))
     } else {
         State {
             cursor: state.cursor,

@@ -7,7 +7,7 @@ ghost use Rattle.ds_terminal.specs.Taking.{reading, AppliesAs, Takes};
 
 use crate::refused::Refused;
 use ds_codec::{Mode, Record};
-use ds_screen::{Cells, Effect, Screen};
+use ds_screen::{Cells, Effect, Outline, Screen};
 
 /// What outbound records act on: a screen, or something that keeps only so much of one as its user needs.
 pub trait RecordTarget: Drop {
@@ -51,6 +51,24 @@ impl<C: Cells> RecordTarget for Screen<C> {
 
     fn apply(&mut self, outbound: &Record<'_>) -> Result<Effect, ds_screen::Refused> {
         Screen::apply(self, outbound)
+    }
+}
+
+impl RecordTarget for Outline {
+    ghost use Rattle.ds_screen.specs.Outline.{OutlinesShown, OutlinesRefused};
+
+    ghost mode_of = { λ o. o.geometry.mode };
+
+    ghost leads = { OutlinesShown };
+
+    ghost refuses = { OutlinesRefused };
+
+    fn mode(&self) -> Mode {
+        self.geometry().mode()
+    }
+
+    fn apply(&mut self, outbound: &Record<'_>) -> Result<Effect, ds_screen::Refused> {
+        Outline::apply(self, outbound)
     }
 }
 

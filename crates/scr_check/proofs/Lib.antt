@@ -1,6 +1,5 @@
-pub mod HasField
-pub mod EntryPlaces
 pub mod OpenLaw
+pub mod MissingLaws
 pub mod BoundLaw
 pub mod BindLaw
 pub mod KeptLaws

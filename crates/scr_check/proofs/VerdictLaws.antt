@@ -8,9 +8,7 @@ use Rattle.scr_check.specs.declared.verdict.Verdict.{Verdict}
 use Rattle.scr_check.specs.declared.verdict.Verdict.TheVariants.{Yes}
 use Rattle.scr_check.specs.Opening.{opening_of}
 use Rattle.scr_check.specs.Findings.{findings_of, told}
-use Rattle.scr_check.specs.declared.opening.Opening.{Opening}
-use Rattle.scr_check.specs.declared.opening.Opening.TheVariants.{Leads, Stands}
-use Rattle.scr_check.specs.Seen.{findings_in, opening_seen, IsSoundOpening}
+use Rattle.scr_check.specs.Seen.{findings_in}
 use Rattle.scr_check.specs.Promise.{KeepsPromise}
 use Rattle.scr_check.specs.Leads.{IsPromised}
 use Rattle.scr_check.specs.Demos.{IsShown, AreShown}
@@ -52,9 +50,8 @@ pub yes_promised : (layout : Declaration) (records : List (List ℕ)) (r : Resul
 yes_promised layout records r verdict opens sound listed is =
     told_promised layout records r (sym opens) sound (sym listed ∙ ap findings_in is)
 
-pub sound_seen : (opening : Opening) → IsSoundOpening opening → IfOk (opening_seen opening) IsSound
-sound_seen (Leads screen) sound = sound
-sound_seen (Stands finding) sound = tt
+pub opened_size : (layout : Declaration) (records : List (List ℕ)) (v : Picture) → opening_of layout records ≡ Ok v → v.size ≡ layout.size
+opened_size layout records v opens = (opened_ready layout records v opens).1.0
 
 told_shown : (layout : Declaration) (records : List (List ℕ)) (r : Result Picture Finding) → opening_of layout records ≡ r → IfOk r IsSound → AreShown layout records (told layout r)
 told_shown layout records (Err finding) opens sound = λ v opened. absurd (other v (sym opens ∙ opened))

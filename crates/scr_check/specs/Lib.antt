@@ -8,3 +8,4 @@ pub mod Promise
 pub mod Leads
 pub mod Demos
 pub mod FindingText
+pub mod Among

@@ -1,14 +1,17 @@
 -- The checker's values as the program holds them.
-use Rattle.std.specs.Prelude.{◌≡◌, ℕ, List, [], Result, Ok, Err}
+use Rattle.std.specs.Prelude.{◌≡◌, ℕ, List, [], length, Result, Ok, Err}
 use Rattle.ds_codec.specs.declared.size.Size.{Size}
 use Rattle.ds_codec.specs.Reading.{read_of}
-use Rattle.ds_screen.specs.Picture.{Picture, IsSound}
+use Rattle.ds_screen.specs.Picture.{Picture}
+use Rattle.ds_screen.specs.Outline.{Outlined, IsOutlineOf}
+use Rattle.scr_layout.specs.Layout.{Declaration}
+use Rattle.scr_check.specs.declared.cursor.Cursor.{Cursor}
 use Rattle.scr_check.specs.declared.finding.Finding.{Finding}
 use Rattle.scr_check.specs.declared.verdict.Verdict.{Verdict}
 use Rattle.scr_check.specs.declared.verdict.Verdict.TheVariants.{Yes, No}
 use Rattle.scr_check.specs.declared.opening.Opening.{Opening}
 use Rattle.scr_check.specs.declared.opening.Opening.TheVariants.{Leads, Stands}
-use Rattle.scr_check.specs.Opening.{taken, taken_from, ready}
+use Rattle.scr_check.specs.Opening.{taken, taken_from, ready, opening_of}
 
 -- what a verdict tells
 abbrev pub findings_in : Verdict → List Finding
@@ -20,25 +23,33 @@ abbrev pub TellsSome : Verdict → Type 0
 TellsSome Yes = Unit {0}
 TellsSome (No findings) = findings.items ≡ [] → ⊥
 
-abbrev pub opening_seen : Opening → Result Picture Finding
-opening_seen (Leads screen) = Ok screen
-opening_seen (Stands finding) = Err finding
-
--- the record led from one picture to the other, or something stands against it
-abbrev pub Takes : Picture → Picture → ℕ → List ℕ → Result (Unit {0}) Finding → Type 0
-Takes old new index bytes (Ok done) = taken index old (read_of old.geometry.mode bytes) ≡ Ok new
-Takes old new index bytes (Err finding) = taken index old (read_of old.geometry.mode bytes) ≡ Err finding
+-- whatever picture it outlined, the record led to the one that it outlines, or something stands against it
+abbrev pub TakesOn : Outlined → Outlined → ℕ → List ℕ → Result (Unit {0}) Finding → Type 0
+TakesOn old new index bytes (Ok done) =
+    (v : Picture) → IsOutlineOf old v → (w : Picture) × (taken index v (read_of v.geometry.mode bytes) ≡ Ok w) × IsOutlineOf new w
+TakesOn old new index bytes (Err finding) = (v : Picture) → IsOutlineOf old v → taken index v (read_of v.geometry.mode bytes) ≡ Err finding
 
 -- the same of all records
-abbrev pub TakesAll : Picture → Picture → List (List ℕ) → Result (Unit {0}) Finding → Type 0
-TakesAll old new records (Ok done) = taken_from 0 old records ≡ Ok new
-TakesAll old new records (Err finding) = taken_from 0 old records ≡ Err finding
+abbrev pub TakesAllOn : Outlined → Outlined → List (List ℕ) → Result (Unit {0}) Finding → Type 0
+TakesAllOn old new records (Ok done) = (v : Picture) → IsOutlineOf old v → (w : Picture) × (taken_from 0 v records ≡ Ok w) × IsOutlineOf new w
+TakesAllOn old new records (Err finding) = (v : Picture) → IsOutlineOf old v → taken_from 0 v records ≡ Err finding
 
 abbrev pub IsReady : Picture → Size → Result (Unit {0}) Finding → Type 0
 IsReady v size (Ok done) = ready size v ≡ Ok v
 IsReady v size (Err finding) = ready size v ≡ Err finding
 
--- the screen that the records led to holds a sound picture
-abbrev pub IsSoundOpening : Opening → Type 0
-IsSoundOpening (Leads screen) = IsSound screen
-IsSoundOpening (Stands finding) = Unit {0}
+abbrev pub IsReadyOn : Outlined → Size → Result (Unit {0}) Finding → Type 0
+IsReadyOn outline size result = (v : Picture) → IsOutlineOf outline v → IsReady v size result
+
+-- the records led to a picture, of which this is the outline, or this is the finding that comes first
+abbrev pub IsOpening : Declaration → List (List ℕ) → Opening → Type 0
+IsOpening layout records (Leads outline) = (v : Picture) × (opening_of layout records ≡ Ok v) × IsOutlineOf outline v
+IsOpening layout records (Stands finding) = opening_of layout records ≡ Err finding
+
+-- the cursor of a picture, and how many cells it has
+abbrev pub IsCursorOf : Cursor → Picture → Type 0
+IsCursorOf cursor v = (length v.cells ≡ cursor.cells) × (v.cursor ≡ cursor.at)
+
+-- this is so of whatever picture has this cursor
+abbrev pub FromCursor : Cursor → (Picture → Type 0) → Type 0
+FromCursor cursor holds = (v : Picture) → IsCursorOf cursor v → holds v

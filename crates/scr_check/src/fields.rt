@@ -2,15 +2,18 @@
 
 ghost use Rattle.std.specs.Prelude.{◌≡◌, ℕ, ◌+◌, ◌<◌, ◌++◌, length, position, option_to_list, slice_index_or, All, OnOk, IfOk, None};
 ghost use Rattle.std.specs.List.{flat_map};
-ghost use Rattle.ds_codec.specs.Geometry.{cells_of};
-ghost use Rattle.ds_screen.specs.Fields.{is_attribute, fields_of};
-ghost use Rattle.scr_check.specs.Findings.{entry_at, is_of_kind, demo_at, length_demo, empty_finding, undeclared_finding, declared_finding, at_entry, entry_finding, field_finding, has_field, missing_finding, missing_from, findings_of};
+ghost use Rattle.ds_screen.specs.Picture.{Picture};
+ghost use Rattle.ds_screen.specs.Fields.{fields_of};
+ghost use Rattle.ds_screen.specs.Outline.{IsOutlineOf};
+ghost use Rattle.scr_check.specs.Findings.{is_of_kind, demo_at, length_demo, empty_finding, undeclared_finding, declared_finding, at_entry, entry_finding, field_finding, findings_of};
+ghost use Rattle.scr_check.specs.Seen.{FromCursor};
+ghost use Rattle.scr_check.specs.Among.{begins, missing_among};
 
+use crate::cursor::Cursor;
 use crate::finding::{Demo, Finding, Overlong};
-use crate::places::entries_by_place;
-use ds_codec::{Attr, Cell};
-use ds_screen::ring::{distance, previous};
-use ds_screen::{FieldAt, PlainCells, Screen};
+use ds_codec::Attr;
+use ds_screen::ring::distance;
+use ds_screen::{FieldAt, Outline};
 use scr_layout::{Entry, Kind, Layout};
 use std::alloc::{AllocError, Global};
 
@@ -23,30 +26,21 @@ fn is_of_kind(kind: Kind, attr: Attr) -> bool
     }
 }
 
-fn is_attribute(cell: Cell) -> bool
-    ensures { result ≡ is_attribute cell }
-{
-    match cell {
-        Cell::Field(_) => true,
-        Cell::Char(_) => false,
-    }
-}
-
 /// The keys that go from the cursor to the field's first cell and type so many characters.
-fn demo_at(screen: &Screen<PlainCells>, field: &FieldAt, types: u32) -> Demo
-    ensures { result ≡ demo_at screen.now field.now types }
+fn demo_at(cursor: Cursor, field: &FieldAt, types: u32) -> Demo
+    ensures { FromCursor cursor (λ v. result ≡ demo_at v field.now types) }
 {
     Demo {
-        rights: distance(screen.size().cells(), screen.cursor(), field.place),
+        rights: distance(cursor.cells, cursor.at, field.place),
         types,
     }
 }
 
-fn length_demo(screen: &Screen<PlainCells>, field: &FieldAt, kind: Kind) -> Option<Demo>
-    ensures { result ≡ length_demo screen.now field.now kind }
+fn length_demo(cursor: Cursor, field: &FieldAt, kind: Kind) -> Option<Demo>
+    ensures { FromCursor cursor (λ v. result ≡ length_demo v field.now kind) }
 {
     match kind {
-        Kind::Input => Some(demo_at(screen, field, field.length)),
+        Kind::Input => Some(demo_at(cursor, field, field.length)),
         Kind::Fixed => None,
     }
 }
@@ -63,11 +57,11 @@ fn empty_finding(field: &FieldAt) -> Option<Finding>
 }
 
 /// A field that governs cells and has no entry.
-fn undeclared_finding(screen: &Screen<PlainCells>, field: &FieldAt) -> Option<Finding>
-    ensures { result ≡ undeclared_finding screen.now field.now }
+fn undeclared_finding(cursor: Cursor, field: &FieldAt) -> Option<Finding>
+    ensures { FromCursor cursor (λ v. result ≡ undeclared_finding v field.now) }
 {
     if !field.attr.protected() {
-        Some(Finding::Undeclared(field.place, demo_at(screen, field, 1)))
+        Some(Finding::Undeclared(field.place, demo_at(cursor, field, 1)))
     } else if field.attr.modified() {
         let enter = Demo {
             rights: 0,
@@ -80,13 +74,8 @@ fn undeclared_finding(screen: &Screen<PlainCells>, field: &FieldAt) -> Option<Fi
 }
 
 /// A field that governs cells and has the entry of this index.
-fn declared_finding(
-    screen: &Screen<PlainCells>,
-    field: &FieldAt,
-    index: usize,
-    entry: &Entry,
-) -> Option<Finding>
-    ensures { result ≡ declared_finding screen.now field.now index entry.now }
+fn declared_finding(cursor: Cursor, field: &FieldAt, index: usize, entry: &Entry) -> Option<Finding>
+    ensures { FromCursor cursor (λ v. result ≡ declared_finding v field.now index entry.now) }
 {
     if !is_of_kind(entry.kind, field.attr) {
         Some(Finding::OtherKind(index))
@@ -95,7 +84,7 @@ fn declared_finding(
             entry: index,
             length: field.length,
             declared: entry.length,
-            demo: length_demo(screen, field, entry.kind),
+            demo: length_demo(cursor, field, entry.kind),
         }))
     } else {
         None
@@ -104,72 +93,55 @@ fn declared_finding(
 
 /// A field that governs cells, by the index of the entry at its place.
 fn entry_finding(
-    screen: &Screen<PlainCells>,
+    cursor: Cursor,
     field: &FieldAt,
     entries: &[Entry],
     index: Option<usize>,
 ) -> Option<Finding>
-    ensures { result ≡ entry_finding screen.now field.now entries.now index }
+    ensures { FromCursor cursor (λ v. result ≡ entry_finding v field.now entries.now index) }
 {
     let Some(index) = index else {
-        return undeclared_finding(screen, field);
+        return undeclared_finding(cursor, field);
     };
     match entries.get(index) {
-        Some(entry) => declared_finding(screen, field, index, entry),
-        None => undeclared_finding(screen, field),
+        Some(entry) => declared_finding(cursor, field, index, entry),
+        None => undeclared_finding(cursor, field),
     }
 }
 
-/// The index of the entry that begins at a place.
-fn place_index(places: &[Option<usize>], place: u32) -> Option<usize>
-    ensures { result ≡ slice_index_or places.now place None }
-{
-    match places.get(place as usize) {
-        Some(index) => *index,
-        None => None,
-    }
-}
-
-/// What stands against a field, with the entries by their places.
+/// What stands against a field.
 #[tactic(auto, unfolding(crate::specs::Findings::field_finding))]
-fn field_finding(
-    screen: &Screen<PlainCells>,
-    field: &FieldAt,
-    entries: &[Entry],
-    places: &[Option<usize>],
-) -> Option<Finding>
-    requires { (place : ℕ) → slice_index_or places.now place None ≡ entry_at entries.now place }
-    ensures { result ≡ field_finding entries.now screen.now field.now }
+fn field_finding(cursor: Cursor, field: &FieldAt, layout: &Layout) -> Option<Finding>
+    ensures { FromCursor cursor (λ v. result ≡ field_finding layout.now.entries v field.now) }
 {
     if field.length == 0 {
         return empty_finding(field);
     }
-    let index = place_index(places, field.place);
-    entry_finding(screen, field, entries, index)
+    let index = layout.entry_at(field.place);
+    entry_finding(cursor, field, layout.entries(), index)
 }
 
-/// Whether the position before a place holds an attribute that governs cells.
-fn has_field(screen: &Screen<PlainCells>, place: u32) -> bool
-    requires { place < length screen.now.cells }
-    ensures { result ≡ has_field screen.now.cells place }
+/// Whether one of the fields begins at a place and governs cells.
+fn begins(fields: &[FieldAt], place: u32) -> bool
+    ensures { result ≡ begins fields.now place }
 {
-    let before = previous(screen.size().cells(), place);
-    is_attribute(screen.cell(before)) && !is_attribute(screen.cell(place))
+    fields
+        .iter()
+        .any(|field| field.place == place && field.length > 0)
 }
 
 /// Adds what stands against the fields.
 fn add_fields(
     findings: &mut Vec<Finding>,
-    screen: &Screen<PlainCells>,
-    entries: &[Entry],
-    places: &[Option<usize>],
+    cursor: Cursor,
+    fields: &[FieldAt],
+    layout: &Layout,
 ) -> Result<(), AllocError>
-    requires { (place : ℕ) → slice_index_or places.now place None ≡ entry_at entries.now place }
-    ensures { OnOk result (findings.new.items ≡ findings.old.items
-        ++ flat_map (λ field. option_to_list (field_finding entries.now screen.now field)) (fields_of screen.now.cells)) }
+    ensures { OnOk result (FromCursor cursor (λ v. findings.new.items ≡ findings.old.items
+        ++ flat_map (λ field. option_to_list (field_finding layout.now.entries v field)) fields.now)) }
 {
-    for field in screen.fields() {
-        if let Some(finding) = field_finding(screen, &field, entries, places) {
+    for field in fields {
+        if let Some(finding) = field_finding(cursor, field, layout) {
             findings.push(finding)?;
         }
     }
@@ -179,36 +151,50 @@ fn add_fields(
 /// Adds the entries that have no field.
 fn add_missing(
     findings: &mut Vec<Finding>,
-    screen: &Screen<PlainCells>,
+    fields: &[FieldAt],
     entries: &[Entry],
 ) -> Result<(), AllocError>
-    requires { All (λ entry. entry.place < length screen.now.cells) entries.now }
     ensures { OnOk result (findings.new.items
-        ≡ findings.old.items ++ missing_from screen.now.cells 0 entries.now) }
+        ≡ findings.old.items ++ missing_among fields.now 0 entries.now) }
 {
     for (index, entry) in entries.iter().enumerate() {
-        if !has_field(screen, entry.place) {
+        if !begins(fields, entry.place) {
             findings.push(Finding::Missing(index))?;
         }
     }
     Ok(())
 }
 
-#[tactic(auto, unfolding(crate::specs::Findings::findings_of))]
-/// What stands against a screen of the layout's size: for each attribute it takes constant time to
-/// find the entry at its place, in a table that one pass over the entries makes.
+/// The fields of an outline.
+fn fields_in(alloc: Global, outline: &Outline) -> Result<Vec<FieldAt>, AllocError>
+    ensures { IfOk result (λ fields. (v : Picture) → IsOutlineOf outline.now v
+        → fields.items ≡ fields_of v.cells) }
+{
+    let mut fields = Vec::new(alloc);
+    for field in outline.fields() {
+        fields.push(field)?;
+    }
+    Ok(fields)
+}
+
+/// What stands against a screen of the layout's size, by its outline: against its fields in the order of their
+/// attributes, and then against the entries that have none. It looks at the entries in turn for each field.
 pub(crate) fn findings_of(
     alloc: Global,
-    screen: &Screen<PlainCells>,
+    outline: &Outline,
     layout: &Layout,
 ) -> Result<Vec<Finding>, AllocError>
-    requires { cells_of layout.now.size ≡ length screen.now.cells }
-    ensures { IfOk result (λ findings. findings.items ≡ findings_of layout.now screen.now) }
+    ensures { IfOk result (λ findings. (v : Picture) → IsOutlineOf outline.now v
+        → v.size ≡ layout.now.size → findings.items ≡ findings_of layout.now v) }
 {
-    let places = entries_by_place(alloc, layout)?;
+    let cursor = Cursor {
+        cells: outline.size().cells(),
+        at: outline.cursor(),
+    };
     let entries = layout.entries();
+    let fields = fields_in(alloc, outline)?;
     let mut findings = Vec::new(alloc);
-    add_fields(&mut findings, screen, entries, &places)?;
-    add_missing(&mut findings, screen, entries)?;
+    add_fields(&mut findings, cursor, &fields, layout)?;
+    add_missing(&mut findings, &fields, entries)?;
     Ok(findings)
 }

@@ -3,16 +3,17 @@
 
 mod binding;
 mod bound;
+mod cursor;
 mod fields;
 mod finding;
 mod finding_text;
 mod laws;
 mod opening;
-mod places;
 mod verdict;
 
 pub use binding::{BindError, BindFault, bind};
 pub use bound::Bound;
+pub use ds_screen::Outline;
 pub use finding::{Demo, Finding, Overlong};
 pub use laws::{bind_law, yes_law};
 pub use verdict::{Verdict, check};

@@ -1,21 +1,20 @@
 //! The records in turn, on a new terminal.
 
-ghost use Rattle.std.specs.Prelude.{◌≡◌, Ok, Err, map, IfOk};
-ghost use Rattle.ds_codec.specs.Reading.{read_of};
-ghost use Rattle.scr_check.specs.Opening.{erases, writes, command_fault, is_free, is_size, ready, opening_of};
-ghost use Rattle.scr_check.specs.Seen.{Takes, TakesAll, IsReady, IsSoundOpening, opening_seen};
+ghost use Rattle.std.specs.Prelude.{◌≡◌, map, IfOk};
+ghost use Rattle.scr_check.specs.Opening.{erases, writes, command_fault, is_size};
+ghost use Rattle.scr_check.specs.Seen.{TakesOn, TakesAllOn, IsReadyOn, IsOpening};
 
 use crate::finding::Finding;
 use ds_codec::{Command, Size};
-use ds_screen::{Lock, PlainCells, Screen};
+use ds_screen::{Lock, Outline};
 use ds_terminal::{apply_record, read_record};
 use scr_layout::Layout;
 use std::alloc::{AllocError, Global};
 
-/// Where the records lead: to a screen, or to the one finding that comes first.
+/// Where the records lead: to the outline of a screen, or to the one finding that comes first.
 #[derive(Drop)]
 pub(crate) enum Opening {
-    Leads(Screen<PlainCells>),
+    Leads(Outline),
     Stands(Finding),
 }
 
@@ -54,28 +53,28 @@ fn command_fault(index: usize, command: Command) -> Option<Finding>
 }
 
 /// Reads and applies the record of this number.
-fn take(screen: &mut Screen<PlainCells>, index: usize, bytes: &[u8]) -> Result<(), Finding>
-    ensures { Takes screen.old screen.new index bytes.now result }
+fn take(outline: &mut Outline, index: usize, bytes: &[u8]) -> Result<(), Finding>
+    ensures { TakesOn outline.old outline.new index bytes.now result }
 {
-    let record = match read_record(screen, bytes) {
+    let record = match read_record(outline, bytes) {
         Ok(record) => record,
         Err(refused) => return Err(Finding::RecordRefused(index, refused)),
     };
     if let Some(finding) = command_fault(index, record.command()) {
         return Err(finding);
     }
-    match apply_record(screen, &record) {
+    match apply_record(outline, &record) {
         Ok(_) => Ok(()),
         Err(refused) => Err(Finding::RecordRefused(index, refused)),
     }
 }
 
 /// Takes the records in turn, up to the first against which something stands.
-fn take_all(screen: &mut Screen<PlainCells>, records: &[&[u8]]) -> Result<(), Finding>
-    ensures { TakesAll screen.old screen.new (map (λ bytes. bytes.now) records.now) result }
+fn take_all(outline: &mut Outline, records: &[&[u8]]) -> Result<(), Finding>
+    ensures { TakesAllOn outline.old outline.new (map (λ bytes. bytes.now) records.now) result }
 {
     for (index, bytes) in records.iter().enumerate() {
-        take(screen, index, bytes)?;
+        take(outline, index, bytes)?;
     }
     Ok(())
 }
@@ -87,16 +86,16 @@ fn is_size(size: Size, other: Size) -> bool
 }
 
 /// What keeps the operator from a screen of this size with fields.
-fn ready(screen: &Screen<PlainCells>, size: Size) -> Result<(), Finding>
-    ensures { IsReady screen.now size result }
+fn ready(outline: &Outline, size: Size) -> Result<(), Finding>
+    ensures { IsReadyOn outline.now size result }
 {
-    if screen.lock() != Lock::Free {
+    if outline.lock() != Lock::Free {
         return Err(Finding::KeyboardLocked);
     }
-    if !is_size(screen.size(), size) {
-        return Err(Finding::OtherSize(screen.size(), size));
+    if !is_size(outline.size(), size) {
+        return Err(Finding::OtherSize(outline.size(), size));
     }
-    match screen.fields().next() {
+    match outline.fields().next() {
         Some(_) => Ok(()),
         None => Err(Finding::Unformatted),
     }
@@ -104,20 +103,17 @@ fn ready(screen: &Screen<PlainCells>, size: Size) -> Result<(), Finding>
 
 /// Opens a new terminal of the layout's geometry with the records.
 pub(crate) fn open(alloc: Global, records: &[&[u8]], layout: &Layout) -> Result<Opening, AllocError>
-    ensures opened { IfOk result
-        (λ opening. opening_seen opening ≡ opening_of layout.now
-        (map (λ bytes. bytes.now) records.now)) }
-    ensures sound { IfOk result IsSoundOpening }
+    ensures { IfOk result (IsOpening layout.now (map (λ bytes. bytes.now) records.now)) }
 {
     if records.is_empty() {
         return Ok(Opening::Stands(Finding::NoRecord));
     }
-    let mut screen = Screen::<PlainCells>::new(alloc, layout.geometry())?;
-    if let Err(finding) = take_all(&mut screen, records) {
+    let mut outline = Outline::new(alloc, layout.geometry())?;
+    if let Err(finding) = take_all(&mut outline, records) {
         return Ok(Opening::Stands(finding));
     }
-    match ready(&screen, layout.size()) {
-        Ok(()) => Ok(Opening::Leads(screen)),
+    match ready(&outline, layout.size()) {
+        Ok(()) => Ok(Opening::Leads(outline)),
         Err(finding) => Ok(Opening::Stands(finding)),
     }
 }

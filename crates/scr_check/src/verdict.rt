@@ -56,7 +56,7 @@ pub fn check(alloc: Global, records: &[&[u8]], layout: &Layout) -> Result<Verdic
         (findings_in verdict)) }
 {
     match open(alloc, records, layout)? {
-        Opening::Leads(screen) => Ok(verdict_of(findings_of(alloc, &screen, layout)?)),
+        Opening::Leads(outline) => Ok(verdict_of(findings_of(alloc, &outline, layout)?)),
         Opening::Stands(finding) => Ok(verdict_of(vec![in alloc; finding]?)),
     }
 }

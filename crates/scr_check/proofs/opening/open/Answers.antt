@@ -1,13 +1,32 @@
-use Rattle.std.proofs.Common.{◌≡◌, map, ◌∙◌, sym, ap}
-use Rattle.scr_check.specs.Opening.{taken_from, ready}
+use Rattle.std.proofs.Common.{◌∙◌, sym, ap, subst}
+use Rattle.ds_screen.specs.Outline.{IsOutlineOf}
 use Rattle.ds_screen.specs.Records.{new_picture}
-use Rattle.scr_check.proofs.OpenLaw.{open_err}
+use Rattle.scr_check.specs.Opening.{ready}
+use Rattle.scr_check.proofs.OpenLaw.{open_ok, open_err, open_stands}
 use Rattle.scr_check.proofs.opening.open.Goals as goal
 
-pub returns-in-Err-ready-clause-opened : goal.returns-in-Err-ready-clause-opened
-returns-in-Err-ready-clause-opened c =
-    let new : c.in_ok-screen.screen ≡ new_picture c.args.layout.now.geometry = c.in_ok-screen.ensures ∙ ap new_picture c.geometry.ensures in
-    open_err (λ bytes. bytes.now) c.args.layout.now c.args.records.now c.take_all.new.screen c.in-Err-ready.finding
-    (sym c.is_empty.ensures ∙ c.if-is_empty.false)
-    (ap (λ v. taken_from 0 v (map (λ bytes. bytes.now) c.args.records.now)) (sym new) ∙ c.in_default.ensures)
-    (ap (λ size. ready size c.take_all.new.screen) (sym c.size.ensures.value) ∙ c.in-Err-ready.ensures)
+pub returns-in-Err : goal.returns-in-Err
+returns-in-Err c =
+    let new : IsOutlineOf c.in_ok-outline.outline (new_picture c.args.layout.now.geometry) =
+    subst (λ g. IsOutlineOf c.in_ok-outline.outline (new_picture g)) c.geometry.ensures c.in_ok-outline.ensures in
+    open_stands (λ bytes. bytes.now) c.args.layout.now c.args.records.now c.in-Err.finding (sym c.is_empty.ensures ∙ c.if-is_empty.false)
+    (c.in-Err.ensures (new_picture c.args.layout.now.geometry) new)
+
+pub returns-in-Ok : goal.returns-in-Ok
+returns-in-Ok c =
+    let new : IsOutlineOf c.in_ok-outline.outline (new_picture c.args.layout.now.geometry) =
+    subst (λ g. IsOutlineOf c.in_ok-outline.outline (new_picture g)) c.geometry.ensures c.in_ok-outline.ensures in
+    let led = c.in_default.ensures (new_picture c.args.layout.now.geometry) new in (
+      led.0,
+      open_ok (λ bytes. bytes.now) c.args.layout.now c.args.records.now led.0 (sym c.is_empty.ensures ∙ c.if-is_empty.false) led.1
+          (ap (λ size. ready size led.0) (sym c.size.ensures.value) ∙ c.in-Ok.ensures led.0 led.2),
+      led.2,
+    )
+
+pub returns-in-Err-ready : goal.returns-in-Err-ready
+returns-in-Err-ready c =
+    let new : IsOutlineOf c.in_ok-outline.outline (new_picture c.args.layout.now.geometry) =
+    subst (λ g. IsOutlineOf c.in_ok-outline.outline (new_picture g)) c.geometry.ensures c.in_ok-outline.ensures in
+    let led = c.in_default.ensures (new_picture c.args.layout.now.geometry) new in
+    sym (open_err (λ bytes. bytes.now) c.args.layout.now c.args.records.now led.0 c.in-Err-ready.finding (sym c.is_empty.ensures ∙ c.if-is_empty.false) led.1
+    (ap (λ size. ready size led.0) (sym c.size.ensures.value) ∙ c.in-Err-ready.ensures led.0 led.2))

@@ -1,6 +1,10 @@
 use Rattle.std.proofs.Common.{◌≡◌, map, drop}
+use Rattle.ds_screen.specs.Picture.{Picture}
+use Rattle.ds_screen.specs.Outline.{IsOutlineOf}
 use Rattle.scr_check.specs.Opening.{taken_from}
 use Rattle.scr_check.proofs.opening.take_all.Given as goal
 
 abbrev pub invariant-loop-index : goal.invariant-loop-index
-invariant-loop-index l = taken_from l.index l.screen (map (λ bytes. bytes.now) (drop l.index l.records)) ≡ taken_from 0 l.fn.screen (map (λ bytes. bytes.now) l.records)
+invariant-loop-index l =
+    (v : Picture) → IsOutlineOf l.fn.outline v
+    → (w : Picture) × (taken_from l.index w (map (λ bytes. bytes.now) (drop l.index l.records)) ≡ taken_from 0 v (map (λ bytes. bytes.now) l.records)) × IsOutlineOf l.outline w

@@ -1,17 +1,18 @@
-use Rattle.std.proofs.Common.{map, sym, ◌∙◌, ap}
-use Rattle.scr_check.specs.Findings.{told}
-use Rattle.scr_check.specs.Seen.{opening_seen}
-use Rattle.scr_check.proofs.VerdictLaws.{yes_promised, all_shown, sound_seen}
+use Rattle.std.proofs.Common.{ℕ, List, map, Ok, sym, ◌∙◌, subst}
+use Rattle.scr_check.specs.Seen.{IsOpening}
+use Rattle.scr_check.proofs.VerdictLaws.{yes_promised, all_shown, opened_size}
 use Rattle.scr_check.proofs.verdict.check.Goals as goal
 
 pub returns-in_ok-findings_of-in-Leads-clause-promise : goal.returns-in_ok-findings_of-in-Leads-clause-promise
 returns-in_ok-findings_of-in-Leads-clause-promise c =
-    yes_promised c.args.layout.now (map (λ bytes. bytes.now) c.args.records.now) (opening_seen c.in_ok-screen.field-0) c.verdict_of.result
-    c.in_ok-screen.ensures.opened (sound_seen c.in_ok-screen.field-0 c.in_ok-screen.ensures.sound)
-    (c.verdict_of.ensures.listed ∙ c.in_ok-findings_of-in-Leads.ensures ∙ sym (ap (λ o. told c.args.layout.now (opening_seen o)) c.in-Leads.is))
+    let records : List (List ℕ) = map (λ bytes. bytes.now) c.args.records.now in
+    let opened = subst (IsOpening c.args.layout.now records) c.in-Leads.is c.in_ok-outline.ensures in
+    let found = c.in_ok-findings_of-in-Leads.ensures opened.0 opened.2 (opened_size c.args.layout.now records opened.0 opened.1) in
+    yes_promised c.args.layout.now records (Ok opened.0) c.verdict_of.result (sym opened.1) opened.2.sound (c.verdict_of.ensures.listed ∙ found)
 
 pub returns-in_ok-findings_of-in-Leads-clause-shown : goal.returns-in_ok-findings_of-in-Leads-clause-shown
 returns-in_ok-findings_of-in-Leads-clause-shown c =
-    all_shown c.args.layout.now (map (λ bytes. bytes.now) c.args.records.now) (opening_seen c.in_ok-screen.field-0) c.verdict_of.result
-    c.in_ok-screen.ensures.opened (sound_seen c.in_ok-screen.field-0 c.in_ok-screen.ensures.sound)
-    (c.verdict_of.ensures.listed ∙ c.in_ok-findings_of-in-Leads.ensures ∙ sym (ap (λ o. told c.args.layout.now (opening_seen o)) c.in-Leads.is))
+    let records : List (List ℕ) = map (λ bytes. bytes.now) c.args.records.now in
+    let opened = subst (IsOpening c.args.layout.now records) c.in-Leads.is c.in_ok-outline.ensures in
+    let found = c.in_ok-findings_of-in-Leads.ensures opened.0 opened.2 (opened_size c.args.layout.now records opened.0 opened.1) in
+    all_shown c.args.layout.now records (Ok opened.0) c.verdict_of.result (sym opened.1) opened.2.sound (c.verdict_of.ensures.listed ∙ found)

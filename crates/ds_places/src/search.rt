@@ -1,0 +1,90 @@
+//! Searches by halving: each looks at no more entries than their number has binary digits, and one more.
+
+ghost use Rattle.std.specs.Prelude.{◌≡◌, ◌≤◌, ◌<◌, length};
+ghost use Rattle.std.specs.List.Sorted.{IsPartitionPoint};
+ghost use Rattle.ds_places.specs.Places.{IsRising, at_place};
+ghost use Rattle.ds_places.specs.Nearest.{IsSlot, IsLastBelow, IsFirstFrom};
+
+use crate::placed::Placed;
+
+/// How many entries have a place below this one: the index of the first that has not.
+pub fn rank<T: Placed>(entries: &[T], place: u32) -> usize
+    requires { IsRising T.place_of entries.now }
+    ensures parts { IsPartitionPoint (λ entry. T.place_of entry < place)
+        (λ entry. place ≤ T.place_of entry) entries.now result }
+    ensures within { result ≤ length entries.now }
+{
+    entries.partition_point(|entry| entry.place() < place)
+}
+
+/// Where the entry of a place stands, or where one is to be inserted.
+pub(crate) fn slot<T: Placed>(entries: &[T], place: u32) -> Result<usize, usize>
+    requires { IsRising T.place_of entries.now }
+    ensures { IsSlot T.place_of entries.now place result }
+{
+    let index = rank(entries, place);
+    if index == entries.len() {
+        return Err(index);
+    }
+    let entry = entries[index];
+    if entry.place() == place {
+        Ok(index)
+    } else {
+        Err(index)
+    }
+}
+
+/// The entry at a place.
+pub fn held<T: Placed>(entries: &[T], place: u32) -> Option<T>
+    requires { IsRising T.place_of entries.now }
+    ensures { result ≡ at_place T.place_of entries.now place }
+{
+    match slot(entries, place) {
+        Ok(index) => Some(entries[index]),
+        Err(_) => None,
+    }
+}
+
+/// The entry at the greatest place below this one.
+pub fn last_below<T: Placed>(entries: &[T], place: u32) -> Option<T>
+    requires { IsRising T.place_of entries.now }
+    ensures { IsLastBelow T.place_of entries.now place result }
+{
+    let before = rank(entries, place);
+    if before == 0 {
+        None
+    } else {
+        Some(entries[before - 1])
+    }
+}
+
+/// The entry at the least place from this one on.
+pub fn first_from<T: Placed>(entries: &[T], place: u32) -> Option<T>
+    requires { IsRising T.place_of entries.now }
+    ensures { IsFirstFrom T.place_of entries.now place result }
+{
+    let index = rank(entries, place);
+    if index < entries.len() {
+        Some(entries[index])
+    } else {
+        None
+    }
+}
+
+#[cfg(test)]
+mod tests {
+    use super::*;
+
+    #[test]
+    fn places_are_found(rt: HostRuntime) {
+        let entries: [u32; 4] = [2, 5, 6, 19];
+        assert_eq!(rt; rank(&entries, 5), 1);
+        assert_eq!(rt; rank(&entries, 20), 4);
+        assert_eq!(rt; held(&entries, 6), Some(6));
+        assert_eq!(rt; held(&entries, 7), None);
+        assert_eq!(rt; last_below(&entries, 6), Some(5));
+        assert_eq!(rt; last_below(&entries, 2), None);
+        assert_eq!(rt; first_from(&entries, 7), Some(19));
+        assert_eq!(rt; first_from(&entries, 20), None);
+    }
+}

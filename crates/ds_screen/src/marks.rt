@@ -1,0 +1,237 @@
+//! The attributes of a buffer without its cells: what orders leave of them.
+
+ghost use Rattle.std.specs.Prelude.{◌≡◌, ◌≤◌, ◌<◌, map, vec_capacity};
+ghost use Rattle.ds_screen.specs.Marks.{reset_mark};
+
+use crate::field::FieldAt;
+use crate::mark::Mark;
+use crate::ranges::reach;
+use crate::records::{Reset, reset_attribute};
+use crate::ring::{distance, forward, next};
+use crate::surface::Surface;
+use ds_codec::{Attr, Cell, Char};
+use ds_places::{cut, cut_round, first_from, held, last_below, store};
+use std::alloc::{AllocError, Global};
+use std::marker::Model;
+
+/// The attributes of a buffer, and how many positions it has.
+#[derive(Drop)]
+pub(crate) struct Marks {
+    marks: Vec<Mark>,
+    size: u32,
+    limit: u32,
+}
+
+impl Model for Marks {
+    ghost use Rattle.std.specs.Prelude.{◌≤◌, vec_capacity};
+    ghost use Rattle.ds_screen.specs.Marks.{Marked, IsKept, marked};
+
+    ghost Value = { Marked };
+
+    ghost view = { λ s. marked s.marks.items s.size s.limit };
+
+    ghost invariant = { λ s. IsKept (marked s.marks.items s.size s.limit)
+        × (s.limit ≤ vec_capacity s.marks) };
+}
+
+/// Resets modified data tags, one mark after the other.
+fn reset_marks(marks: &mut Vec<Mark>, which: Reset)
+    ensures reset { marks.new.items ≡ map (reset_mark which) marks.old.items }
+    ensures room { vec_capacity marks.new ≡ vec_capacity marks.old }
+{
+    'marks: for i in 0..marks.len() {
+        let mark = marks[i];
+        marks[i] = Mark {
+            at: mark.at,
+            attribute: reset_attribute(which, mark.attribute),
+        };
+    }
+}
+
+impl Marks {
+    ghost use Rattle.std.specs.Prelude.{◌≡◌, ◌≤◌, ◌<◌, [], length, IfOk};
+    ghost use Rattle.ds_screen.specs.Ring.{ring_back};
+    ghost use Rattle.ds_screen.specs.Fields.{ruling_bits};
+    ghost use Rattle.ds_screen.specs.Surface.{Tells};
+    ghost use Rattle.ds_screen.specs.Marks.{IsMarked};
+
+    /// No attribute and no position, and room for as many attributes as this.
+    pub(crate) fn reserved(alloc: Global, most: u32) -> Result<Marks, AllocError>
+        ensures empty { IfOk result (λ marks. (marks.marks ≡ []) × (marks.size ≡ 0)) }
+        ensures room { IfOk result (λ marks. most ≤ marks.room) }
+    {
+        let marks = Vec::with_capacity(alloc, most as usize)?;
+        Ok(Marks {
+            marks,
+            size: 0,
+            limit: most,
+        })
+    }
+
+    /// The attribute that rules the last position; 00 where there is none.
+    fn last_ruling(&self) -> Attr
+        requires { 0 < self.now.size }
+        ensures { Tells IsMarked self.now
+            (λ cells. result ≡ ruling_bits cells (ring_back (length cells) 0 1)) }
+    {
+        match last_below(&self.marks, self.size) {
+            Some(mark) => mark.attribute,
+            None => Attr::new(0),
+        }
+    }
+}
+
+impl Marks {
+    ghost use Rattle.std.specs.Prelude.{◌≡◌, ◌<◌, ◌+◌, ◌^◌, true, [], ◌∷◌, length, IfSome, MatchOption};
+    ghost use Rattle.ds_screen.specs.Picture.{cell_at};
+    ghost use Rattle.ds_screen.specs.Fields.{is_attribute, attribute_from, span_of, attributes_from, field_at};
+    ghost use Rattle.ds_screen.specs.Surface.{Tells};
+    ghost use Rattle.ds_screen.specs.Marks.{IsMarked, bare_cells};
+
+    /// The position of the attribute at the least distance going on round the buffer, `place` itself first.
+    fn next_stop(&self, place: u32) -> Option<u32>
+        requires { place < self.now.size }
+        ensures nearest { Tells IsMarked self.now (λ cells. result ≡ attribute_from cells place) }
+        ensures inside { IfSome result (λ q. q < self.now.size) }
+    {
+        if let Some(mark) = first_from(&self.marks, place) {
+            return Some(mark.at);
+        }
+        match first_from(&self.marks, 0) {
+            Some(mark) => Some(mark.at),
+            None => None,
+        }
+    }
+
+    /// How many positions the attribute at one governs: up to the next attribute round the buffer.
+    fn governed_length(&self, at: u32) -> u32
+        requires { at < self.now.size }
+        ensures { Tells IsMarked self.now (λ cells. is_attribute (cell_at cells at) ≡ true
+            → result ≡ length (span_of cells at)) }
+    {
+        let n = self.size;
+        let place = next(n, at);
+        match self.next_stop(place) {
+            Some(stop) => distance(n, place, stop),
+            None => 0,
+        }
+    }
+
+    /// The first field whose attribute stands at a position or after it.
+    pub(crate) fn next_field(&self, from: u32) -> Option<FieldAt>
+        ensures first { MatchOption result (attributes_from (bare_cells self.now) from ≡ [])
+            (λ field. (attributes_from (bare_cells self.now) from
+            ≡ field.at ∷ attributes_from (bare_cells self.now) (field.at + 1))
+            × (field ≡ field_at (bare_cells self.now) field.at)) }
+        ensures small { IfSome result (λ field. field.at + 1 < 2 ^ 32) }
+    {
+        let n = self.size;
+        let Some(mark) = first_from(&self.marks, from) else {
+            return None;
+        };
+        Some(FieldAt {
+            at: mark.at,
+            attr: mark.attribute,
+            place: next(n, mark.at),
+            length: self.governed_length(mark.at),
+        })
+    }
+}
+
+impl Surface for Marks {
+    ghost use Rattle.ds_screen.specs.Marks.{IsMarked};
+
+    ghost shows = { IsMarked };
+
+    ghost size = { λ v. v.size };
+
+    ghost room = { λ v. v.room };
+
+    ghost sized = { λ v cells shown. shown.sized };
+
+    fn positions(&self) -> u32 {
+        self.size
+    }
+
+    fn make_blank(&mut self, n: u32) {
+        self.marks.clear();
+        self.size = n;
+    }
+
+    fn make_copy(&mut self, other: &Marks) {
+        self.marks.clear();
+        self.marks
+            .extend_from_slice(other.marks.as_slice())
+            .unwrap();
+        self.size = other.size;
+    }
+
+    fn attribute_at(&self, p: u32) -> Option<Attr> {
+        match held(&self.marks, p) {
+            Some(mark) => Some(mark.attribute),
+            None => None,
+        }
+    }
+
+    fn store(&mut self, p: u32, cell: Cell) {
+        match cell {
+            Cell::Field(attribute) => store(&mut self.marks, self.size, Mark { at: p, attribute }),
+            Cell::Char(_) => cut(&mut self.marks, p, p + 1),
+        }
+    }
+
+    fn store_text(&mut self, b: u32, run: &[u8]) -> u32 {
+        let n = self.size;
+        let steps = run.len().min(n as usize) as u32;
+        cut_round(&mut self.marks, n, b, steps);
+        forward(n, b, (run.len() % n as usize) as u32)
+    }
+
+    fn repeat(&mut self, b: u32, stop: u32, _character: Char) {
+        let steps = reach(self.size, b, stop);
+        cut_round(&mut self.marks, self.size, b, steps);
+    }
+
+    fn erase(&mut self, _b: u32, _stop: u32) {}
+
+    fn null_to_attribute(&mut self, b: u32) -> u32 {
+        let Some(mark) = first_from(&self.marks, b) else {
+            return self.size;
+        };
+        mark.at
+    }
+
+    fn stop_from(&self, from: u32) -> u32 {
+        let n = self.size;
+        let mut at = from;
+        'marks: while let Some(mark) = first_from(&self.marks, at) {
+            if !mark.attribute.protected() {
+                return next(n, mark.at);
+            }
+            at = mark.at + 1;
+        }
+        0
+    }
+
+    fn reset_modified(&mut self, which: Reset) {
+        reset_marks(&mut self.marks, which);
+    }
+
+    fn first_open(&self) -> u32 {
+        let n = self.size;
+        let mut before = self.last_ruling();
+        let mut place = 0;
+        'marks: while let Some(mark) = first_from(&self.marks, place) {
+            if place < mark.at && !before.protected() {
+                return place;
+            }
+            before = mark.attribute;
+            place = mark.at + 1;
+        }
+        if place < n && !before.protected() {
+            place
+        } else {
+            0
+        }
+    }
+}
