@@ -26,16 +26,8 @@ use term_commands::{
 /// Runs a command on the standard streams, and on the file that it was given.
 fn run(rt: &HostRuntime, asked: Asked<'_>) -> Status {
     let alloc = rt.alloc();
-    let mut records = Named {
-        rt,
-        name: "standard input",
-        stream: rt.stdin(),
-    };
-    let mut output = Named {
-        rt,
-        name: "standard output",
-        stream: rt.stdout(),
-    };
+    let mut records = named(rt, "standard input", rt.stdin());
+    let mut output = named(rt, "standard output", rt.stdout());
     match asked {
         Asked::Show => run_show(alloc, &mut records, &mut output),
         Asked::Check { layout, demos } => {
@@ -72,6 +64,11 @@ fn run(rt: &HostRuntime, asked: Asked<'_>) -> Status {
     }
 }
 
+/// A stream, and what people call it.
+fn named<'a, S>(rt: &'a HostRuntime, name: &'a str, stream: S) -> Named<'a, S> {
+    Named { rt, name, stream }
+}
+
 /// The file of a path, not yet opened.
 fn file_at<'a>(rt: &'a HostRuntime, path: &'a str) -> Named<'a, FileAt<'a>> {
     let stream = FileAt {
@@ -79,11 +76,7 @@ fn file_at<'a>(rt: &'a HostRuntime, path: &'a str) -> Named<'a, FileAt<'a>> {
         path,
         file: None,
     };
-    Named {
-        rt,
-        name: path,
-        stream,
-    }
+    named(rt, path, stream)
 }
 
 /// Parses the command line and runs what it asks for.
