@@ -11,9 +11,11 @@
 
 mod codec;
 mod codes;
+mod generated;
 mod inbound;
 mod keys;
 mod large;
+mod outlines;
 mod refusals;
 mod ring;
 mod screens;
@@ -71,6 +73,7 @@ fn push_screen_answer(
 ) -> Result<bool> {
     Ok(
         screens::push_answer(alloc, setup, out, verb, words)?
+            || outlines::push_answer(alloc, setup, out, verb, words)?
             || searches::push_answer(alloc, setup, out, verb, words)?
             || keys::push_answer(alloc, setup, out, verb, words)?
             || terminal::push_answer(alloc, setup, out, verb, words)?

@@ -101,7 +101,7 @@ pub(crate) fn push_all(
 }
 
 /// Where a field's attribute stands, its bits, its first place and its length.
-fn push_field(out: &mut String, field: FieldAt) -> Result<(), AllocError> {
+pub(crate) fn push_field(out: &mut String, field: FieldAt) -> Result<(), AllocError> {
     push_word_number(out, ", ", field.at)?;
     push_word_hex(out, " ", field.attr.bits())?;
     push_word_number(out, " ", field.place)?;
@@ -138,6 +138,19 @@ fn push_refused(alloc: Global, setup: &Setup, out: &mut String, text: &str) -> R
     Ok(push_cells(alloc, out, &screen)?)
 }
 
+/// The size, the cursor and the keyboard.
+pub(crate) fn push_state(
+    out: &mut String,
+    size: Size,
+    cursor: u32,
+    lock: Lock,
+) -> Result<(), AllocError> {
+    push_size(out, size)?;
+    push_word_number(out, " ", cursor)?;
+    out.push(' ')?;
+    out.push_str(name_of(lock))
+}
+
 /// What a record does besides, with the size, the cursor and the keyboard after it.
 fn push_effect(
     out: &mut String,
@@ -149,10 +162,7 @@ fn push_effect(
     out.push_str(" restored ")?;
     push_bool(out, effect.restored)?;
     out.push(' ')?;
-    push_size(out, screen.size())?;
-    push_word_number(out, " ", screen.cursor())?;
-    out.push(' ')?;
-    out.push_str(name_of(screen.lock()))?;
+    push_state(out, screen.size(), screen.cursor(), screen.lock())?;
     out.push_str("; ")
 }
 

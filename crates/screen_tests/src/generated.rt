@@ -1,0 +1,147 @@
+//! Generated records, applied to an outline and to a screen side by side.
+
+use anyhow::Result;
+use ds_codec::{Mode, Record};
+use ds_screen::{FieldAt, Outline, PlainCells, Screen};
+use std::alloc::{AllocError, Global};
+
+/// The next number, below `bound`, of a sequence that its seed determines.
+fn draw(seed: &mut u32, bound: u32) -> u32 {
+    *seed = seed.wrapping_mul(1_664_525).wrapping_add(1_013_904_223);
+    (*seed >> 16) % bound.max(1)
+}
+
+fn draw_byte(seed: &mut u32, bound: u32) -> u8 {
+    u8::try_from(draw(seed, bound)).unwrap_or(0)
+}
+
+/// One of some bytes.
+fn draw_from(seed: &mut u32, bytes: &[u8]) -> u8 {
+    let index = usize::try_from(draw(seed, 16)).unwrap_or(0);
+    bytes.get(index).copied().unwrap_or(0xC2)
+}
+
+fn push_byte(bytes: &mut Vec<u8>, byte: u8) -> Result<(), AllocError> {
+    Ok(bytes.push(byte)?)
+}
+
+/// An order's code, and an address of which some lie outside.
+fn push_placed(bytes: &mut Vec<u8>, seed: &mut u32, code: u8) -> Result<(), AllocError> {
+    push_byte(bytes, code)?;
+    push_byte(bytes, 0)?;
+    push_byte(bytes, draw_byte(seed, 44))
+}
+
+fn push_text(bytes: &mut Vec<u8>, seed: &mut u32) -> Result<(), AllocError> {
+    let length = draw(seed, 30);
+    for _ in 0..length {
+        push_byte(bytes, 0xC1)?;
+    }
+    Ok(())
+}
+
+/// Repeat to Address, of a character or of nulls.
+fn push_repeat(bytes: &mut Vec<u8>, seed: &mut u32) -> Result<(), AllocError> {
+    push_placed(bytes, seed, 0x3C)?;
+    push_byte(bytes, draw_from(seed, &[0x00, 0xC1, 0x40, 0xC2]))
+}
+
+/// Some bytes, and the bits of an attribute.
+fn push_attribute(bytes: &mut Vec<u8>, seed: &mut u32, front: &[u8]) -> Result<(), AllocError> {
+    bytes.extend_from_slice(front)?;
+    push_byte(bytes, draw_byte(seed, 64))
+}
+
+/// Any order.
+fn push_order(bytes: &mut Vec<u8>, seed: &mut u32) -> Result<(), AllocError> {
+    match draw(seed, 14) {
+        0 | 1 => push_text(bytes, seed),
+        2 | 3 => push_placed(bytes, seed, 0x11),
+        4 => push_repeat(bytes, seed),
+        5 => push_placed(bytes, seed, 0x12),
+        6 => push_byte(bytes, 0x05),
+        7 => push_byte(bytes, 0x13),
+        8 => push_attribute(bytes, seed, &[0x29, 0x02, 0x42, 0xF2, 0xC0]),
+        9 => push_attribute(bytes, seed, &[0x2C, 0x01, 0xC0]),
+        10 => bytes.extend_from_slice(&[0x08, 0xC5]),
+        11 => bytes.extend_from_slice(&[0x28, 0x42, 0xF2]),
+        _ => push_attribute(bytes, seed, &[0x1D]),
+    }
+}
+
+/// A record of any command and up to nine orders.
+fn record_of(alloc: Global, seed: &mut u32) -> Result<Vec<u8>, AllocError> {
+    let mut bytes = Vec::new(alloc);
+    let command = draw_from(seed, &[0xF5, 0x7E, 0x6F, 0xF1, 0xF1, 0xF1, 0xF1, 0xF1]);
+    bytes.push(if command == 0xC2 { 0xF1 } else { command })?;
+    if command != 0x6F {
+        bytes.push(draw_from(seed, &[0x40, 0xC1, 0xC3, 0xC7, 0x00]))?;
+        for _ in 0..draw(seed, 10) {
+            push_order(&mut bytes, seed)?;
+        }
+    }
+    Ok(bytes)
+}
+
+/// Whether both take a record with the same effect, or refuse it alike.
+fn take_alike(outline: &mut Outline, screen: &mut Screen<PlainCells>, record: &Record<'_>) -> bool {
+    match (outline.apply(record), screen.apply(record)) {
+        (Ok(told), Ok(shown)) => told == shown,
+        (Err(told), Err(shown)) => told == shown,
+        _ => false,
+    }
+}
+
+fn is_field(field: Option<FieldAt>, other: FieldAt) -> bool {
+    match field {
+        Some(field) => field == other,
+        None => false,
+    }
+}
+
+fn have_same_fields(outline: &Outline, screen: &Screen<PlainCells>) -> bool {
+    let mut fields = outline.fields();
+    for field in screen.fields() {
+        if !is_field(fields.next(), field) {
+            return false;
+        }
+    }
+    fields.next().is_none()
+}
+
+fn are_alike(outline: &Outline, screen: &Screen<PlainCells>) -> bool {
+    outline.size() == screen.size()
+        && outline.cursor() == screen.cursor()
+        && outline.lock() == screen.lock()
+        && outline.geometry() == screen.geometry()
+        && have_same_fields(outline, screen)
+}
+
+/// Whether one generated record leaves both alike.
+fn is_alike_after(
+    alloc: Global,
+    outline: &mut Outline,
+    screen: &mut Screen<PlainCells>,
+    seed: &mut u32,
+) -> Result<bool> {
+    let bytes = record_of(alloc, seed)?;
+    let record = Record::read(Mode::Bits14, bytes.as_slice())?;
+    Ok(take_alike(outline, screen, &record) && are_alike(outline, screen))
+}
+
+/// After how many of so many generated records both are alike.
+pub(crate) fn count_alike(
+    alloc: Global,
+    outline: &mut Outline,
+    screen: &mut Screen<PlainCells>,
+    count: u32,
+) -> Result<u32> {
+    let mut seed = 3_270u32;
+    let mut alike = 0u32;
+    for _ in 0..count {
+        if is_alike_after(alloc, outline, screen, &mut seed)? {
+            alike = alike.saturating_add(1);
+        }
+    }
+    Ok(alike)
+}
