@@ -1,246 +1,259 @@
-//! Lines read and printed, with values taken from the protocol by hand.
+//! Order lines read and printed.
 
+use crate::script::bytes_of;
+use anyhow::{Context, Result};
 use ds_codec::{Command, Mode, Order, Record, Unwritable};
-use order_lines::{
-    Draft, OwnedOrder, Told, cut, line_law, push_bytes, push_hex, push_record, read_line,
-    record_law,
-};
-use std::alloc::Global;
-use std::process::Abort;
-use std::test::Fail;
+use order_lines::{Draft, OwnedOrder, Told, cut, push_hex, push_record, read_line};
+use std::alloc::{AllocError, Global};
+use test_words::{between_bars, byte, cut_word, number, push_bytes, push_length};
 
-/// The order that a line says.
-fn order_of(alloc: Global, line: &str) -> Result<OwnedOrder, Fail> {
+/// A flaw and its order.
+fn push_flaw(out: &mut String, flaw: Unwritable) -> Result<(), AllocError> {
+    let (words, order) = match flaw {
+        Unwritable::AddressOutside(k) => ("U1 AddressOutside ", k),
+        Unwritable::BadText(k) => ("U2 BadText ", k),
+        Unwritable::BadPairs(k) => ("U3 BadPairs ", k),
+        Unwritable::BadCode(k) => ("U4 BadCode ", k),
+        Unwritable::NotAllowed => return out.push_str("U5 NotAllowed"),
+        Unwritable::OutOfMemory => return out.push_str("out of memory"),
+    };
+    out.push_str(words)?;
+    push_length(out, order)
+}
+
+/// The bytes of a record that is written for 1,920 cells, or the flaw and its order.
+fn push_written(alloc: Global, out: &mut String, draft: &Draft) -> Result<(), AllocError> {
+    match draft.write(alloc, Mode::Bits14, 1_920) {
+        Ok(bytes) => push_bytes(out, bytes.as_slice()),
+        Err(flaw) => push_flaw(out, flaw),
+    }
+}
+
+/// An Erase/Write of no order.
+fn new_draft(alloc: Global) -> Draft {
+    Draft {
+        command: Command::EraseWrite(0xC2),
+        orders: Vec::new(alloc),
+    }
+}
+
+/// Adds what a line says to a record; whether it says anything.
+fn take_line(alloc: Global, draft: &mut Draft, line: &str) -> Result<bool> {
+    match read_line(alloc, line.as_bytes())? {
+        Some(Told::Command(command)) => draft.command = command,
+        Some(Told::Order(order)) => draft.orders.push(order)?,
+        None => return Ok(false),
+    }
+    Ok(true)
+}
+
+/// Adds what a line must say to a record.
+fn take_order(alloc: Global, draft: &mut Draft, line: &str) -> Result<()> {
+    if take_line(alloc, draft, line)? {
+        return Ok(());
+    }
+    None.context("an order line")
+}
+
+/// What one line between bars says: a command alone, or an order of an Erase/Write.
+fn push_line(alloc: Global, out: &mut String, words: &str) -> Result<()> {
+    let line = between_bars(words)?;
+    let mut draft = new_draft(alloc);
+    if !take_line(alloc, &mut draft, line)? {
+        return Ok(out.push_str("nothing")?);
+    }
+    Ok(push_written(alloc, out, &draft)?)
+}
+
+/// A record of lines that are parted by commas.
+fn push_draft(alloc: Global, out: &mut String, words: &str) -> Result<()> {
+    let mut draft = new_draft(alloc);
+    for line in words.split(", ") {
+        take_order(alloc, &mut draft, line)?;
+    }
+    Ok(push_written(alloc, out, &draft)?)
+}
+
+/// A record of one line so many times.
+fn draft_of(alloc: Global, line: &str, count: u32) -> Result<Draft> {
+    let mut draft = new_draft(alloc);
+    for _ in 0..count {
+        let _taken = take_line(alloc, &mut draft, line)?;
+    }
+    Ok(draft)
+}
+
+fn push_many(alloc: Global, out: &mut String, words: &str) -> Result<()> {
+    let (count, line) = cut_word(words)?;
+    let draft = draft_of(alloc, line, number(count)?)?;
+    push_length(out, draft.orders.len())?;
+    out.push_str(" orders, ")?;
+    Ok(push_written(alloc, out, &draft)?)
+}
+
+/// The lines of a record's bytes.
+fn lines_of(alloc: Global, bytes: &[u8]) -> Result<String> {
+    let record = Record::read(Mode::Bits14, bytes)?;
+    let mut out = String::new(alloc);
+    push_record(alloc, &mut out, &record)?;
+    Ok(out)
+}
+
+/// Lines, a stroke after each.
+fn push_strokes(out: &mut String, lines: &str) -> Result<(), AllocError> {
+    for line in lines.lines() {
+        out.push_str(line)?;
+        out.push('/')?;
+    }
+    Ok(())
+}
+
+/// The lines of a record, a stroke after each.
+fn push_printed(alloc: Global, out: &mut String, bytes: &[u8]) -> Result<()> {
+    let lines = lines_of(alloc, bytes)?;
+    Ok(push_strokes(out, lines.as_str())?)
+}
+
+/// The record of lines.
+fn draft_of_lines(alloc: Global, lines: &str) -> Result<Draft> {
+    let mut draft = new_draft(alloc);
+    for line in lines.lines() {
+        let _taken = take_line(alloc, &mut draft, line)?;
+    }
+    Ok(draft)
+}
+
+/// How many orders a record has, and whether it is written as these bytes.
+fn push_same(alloc: Global, out: &mut String, draft: &Draft, bytes: &[u8]) -> Result<()> {
+    push_length(out, draft.orders.len())?;
+    let written = draft.write(alloc, Mode::Bits14, 1_920)?;
+    let is_same = written.as_slice() == bytes;
+    Ok(out.push_str(if is_same {
+        " orders, the same bytes"
+    } else {
+        " orders, other bytes"
+    })?)
+}
+
+/// How long the lines of a record are, and whether they are written as the same bytes.
+fn push_again(alloc: Global, out: &mut String, bytes: &[u8]) -> Result<()> {
+    let lines = lines_of(alloc, bytes)?;
+    push_length(out, lines.as_str().len())?;
+    out.push_str(" letters, ")?;
+    let draft = draft_of_lines(alloc, lines.as_str())?;
+    push_same(alloc, out, &draft, bytes)
+}
+
+/// The order of a line.
+fn order_of(alloc: Global, line: &str) -> Result<OwnedOrder> {
     match read_line(alloc, line.as_bytes())? {
         Some(Told::Order(order)) => Ok(order),
-        _ => Err(Fail::from("no order")),
+        _ => None.context("an order"),
     }
 }
 
-/// A record of these order lines.
-fn draft_of(alloc: Global, command: Command, lines: &[&str]) -> Result<Draft, Fail> {
-    let mut orders = Vec::new(alloc);
-    for line in lines {
-        orders.push(order_of(alloc, line)?)?;
-    }
-    Ok(Draft { command, orders })
-}
-
-/// Lines, and what an Erase/Write of the one line is written as.
-const WRITTEN: &str = "TEXT C100FF > F5C2C100FF
-TEXT c1fF > F5C2C1FF
-SF 3F > F5C21D7F
-SF 3f > F5C21D7F
-SF 20 > F5C21D60
-SFE > F5C22900
-SFE C0=F0 42=f2 > F5C22902C0F042F2
-SBA 0 > F5C2114040
-SBA 80 > F5C211C150
-SBA 1919 > F5C2115D7F
-SA 42=F2 > F5C22842F2
-MF C0=60 > F5C22C01C060
-IC > F5C213
-PT > F5C205
-RA 1919 C1 > F5C23C5D7FC1
-RA 0 00 > F5C23C404000
-RA 0 GE FE > F5C23C404008FE
-EUA 4 > F5C21240C4
-GE 40 > F5C20840";
-
-#[test]
-fn each_order_is_read(rt: HostRuntime) -> Result<(), Fail> {
-    let mut count = 0u32;
-    for row in WRITTEN.lines() {
-        let Some((line, due)) = row.split_once(" > ") else {
-            return Err(Fail::from("a bad row"));
-        };
-        let draft = draft_of(rt.alloc(), Command::EraseWrite(0xC2), &[line])?;
-        let Ok(written) = draft.write(rt.alloc(), Mode::Bits14, 1_920) else {
-            return Err(Fail::from("not written"));
-        };
-        let mut out = String::new(rt.alloc());
-        push_bytes(rt.alloc(), &mut out, written.as_slice())?;
-        assert_eq!(rt; out.as_str(), due, "{line}");
-        count = count.saturating_add(1);
-    }
-    assert_eq!(rt; count, 19);
-    Ok(())
-}
-
-#[test]
-fn each_command_is_read(rt: HostRuntime) -> Result<(), Fail> {
-    let rows = [
-        ("W C2", Command::Write(0xC2)),
-        ("EW c2", Command::EraseWrite(0xC2)),
-        ("EWA 00", Command::EraseWriteAlternate(0x00)),
-        ("EAU", Command::EraseAllUnprotected),
-        ("RB", Command::ReadBuffer),
-        ("RM", Command::ReadModified),
-        ("RMA", Command::ReadModifiedAll),
-        ("NOP", Command::NoOperation),
-    ];
-    for (line, expected) in rows {
-        match read_line(rt.alloc(), line.as_bytes())? {
-            Some(Told::Command(command)) => assert_eq!(rt; command, expected, "{line}"),
-            _ => return Err(Fail::from("no command")),
-        }
-    }
-    Ok(())
-}
-
-/// Lines that say neither a command nor an order, parted by bars.
-const OTHERS: &str =
-    "| |#|IC | IC|ic|Ic|PT 0|ICPT|NOPE|WSF 00|W|W |W C|W C2C3|W C2 C3|EW  C2|EW C2 |EWA|\
-    EAU 00|RB |rm|TEXT|TEXT |TEXT C|TEXT C1 C2|TEXT  C1|TEXT G1|TEXTC1|SF|SF 40|SF FF|\
-    SF 1|SF 020|SF 20 20|SF2020|SFE 42|SFE 42=F|SFE 42=F2F|SFE  42=F2|SFE 42=F2 |\
-    SFE 42-F2|SFE42=F2|SFE 42=F2  C0=F0|SBA|SBA |SBA 01|SBA 00|SBA -1|SBA +1|SBA 1 |\
-    SBA 1 2|SBA 0x1|SBA C1|SBA 4294967296|SBA 18446744073709551616|\
-    SBA 99999999999999999999999|SA|SA 42|SA 42F2|SA 42=F2 |SA 42=F2 C0=F0|MF42=F2|MF 42|\
-    RA|RA 1|RA 1 |RA 1 0E|RA 1 C|RA 1 C1 C2|RA 1  C1|RA 01 C1|RA C1|RA 1 GE|RA 1 GE FF|\
-    RA 1 GE 3F|RA 1 ge 40|RA GE 40|RA 1 GE 40 41|RA 4294967296 C1|EUA|EUA x|EUA 01|GE|\
-    GE 1|GE 40 |GE  40";
-
-#[test]
-fn other_lines_say_nothing(rt: HostRuntime) -> Result<(), Fail> {
-    let mut count = 0u32;
-    for line in OTHERS.split('|') {
-        assert!(rt; read_line(rt.alloc(), line.as_bytes())?.is_none(), "{line}");
-        count = count.saturating_add(1);
-    }
-    assert_eq!(rt; count, 87);
-    Ok(())
-}
-
-/// Why a record of these lines cannot be written for 1,920 cells.
-fn refuse(
-    rt: &impl Abort,
-    alloc: Global,
-    command: Command,
-    lines: &[&str],
-    expected: Unwritable,
-) -> Result<(), Fail> {
-    match draft_of(alloc, command, lines)?.write(alloc, Mode::Bits14, 1_920) {
-        Ok(_) => return Err(Fail::from("written")),
-        Err(flaw) => assert_eq!(rt; flaw, expected),
-    }
-    Ok(())
-}
-
-#[test]
-fn the_first_flaw_is_told(rt: HostRuntime) -> Result<(), Fail> {
-    let erase = Command::EraseWrite(0xC2);
-    let alloc = rt.alloc();
-    refuse(
-        &rt,
-        alloc,
-        erase,
-        &["SBA 1920"],
-        Unwritable::AddressOutside(0),
-    )?;
-    refuse(
-        &rt,
-        alloc,
-        erase,
-        &["SBA 1919", "EUA 4294967295"],
-        Unwritable::AddressOutside(1),
-    )?;
-    refuse(
-        &rt,
-        alloc,
-        erase,
-        &["IC", "RA 1920 C1"],
-        Unwritable::AddressOutside(1),
-    )?;
-    refuse(
-        &rt,
-        alloc,
-        erase,
-        &["TEXT C1", "TEXT C2"],
-        Unwritable::BadText(1),
-    )?;
-    refuse(&rt, alloc, erase, &["TEXT 0E"], Unwritable::BadText(0))?;
-    refuse(&rt, alloc, erase, &["SFE 44=F0"], Unwritable::BadPairs(0))?;
-    refuse(
-        &rt,
-        alloc,
-        erase,
-        &["MF C0=F0 00=00"],
-        Unwritable::BadPairs(0),
-    )?;
-    refuse(&rt, alloc, erase, &["SA 44=F0"], Unwritable::BadPairs(0))?;
-    refuse(&rt, alloc, erase, &["GE FF"], Unwritable::BadCode(0))?;
-    refuse(
-        &rt,
-        alloc,
-        erase,
-        &["GE 3F", "SBA 1920"],
-        Unwritable::BadCode(0),
-    )?;
-    refuse(
-        &rt,
-        alloc,
-        Command::ReadBuffer,
-        &["IC"],
-        Unwritable::NotAllowed,
-    )?;
-    refuse(
-        &rt,
-        alloc,
-        Command::EraseAllUnprotected,
-        &["SBA 1920"],
-        Unwritable::NotAllowed,
-    )
-}
-
-#[test]
-fn a_record_is_printed(rt: HostRuntime) -> Result<(), Fail> {
-    let bytes = [
-        0xF1, 0xC3, 0x13, 0x3C, 0x5D, 0x7F, 0x08, 0x40, 0x2C, 0x01, 0xC0, 0x60, 0xC1, 0xFF,
-    ];
-    let Ok(record) = Record::read(Mode::Bits14, &bytes) else {
-        return Err(Fail::from("no record"));
-    };
-    let mut out = String::new(rt.alloc());
-    push_record(rt.alloc(), &mut out, &record)?;
-    assert_eq!(rt;
-        out.as_str(),
-        "W C3\nIC\nRA 1919 GE 40\nMF C0=60\nTEXT C1FF\n\n"
-    );
-    Ok(())
-}
-
-#[test]
-fn bytes_are_printed_in_upper_case(rt: HostRuntime) -> Result<(), Fail> {
-    let mut out = String::new(rt.alloc());
-    push_hex(&mut out, 0x0A)?;
-    push_bytes(rt.alloc(), &mut out, &[0xBC, 0x01])?;
-    assert_eq!(rt; out.as_str(), "0ABC01");
-    Ok(())
-}
-
-#[test]
-fn cuts_at_the_first(rt: HostRuntime) -> Result<(), Fail> {
-    let Some((front, rest)) = cut(b"24x80x", b'x') else {
-        return Err(Fail::from("no cut"));
-    };
-    assert_eq!(rt; front, b"24".as_slice());
-    assert_eq!(rt; rest, b"80x".as_slice());
-    assert!(rt; cut(b"2480", b'x').is_none());
-    Ok(())
-}
-
-#[test]
-fn lends_what_it_owns(rt: HostRuntime) -> Result<(), Fail> {
-    let order = order_of(rt.alloc(), "TEXT C1C2")?;
+/// The bytes of an order that has some.
+fn push_lent(out: &mut String, order: &OwnedOrder) -> Result<(), AllocError> {
     match order.lend() {
-        Order::Text(run) => assert_eq!(rt; run, [0xC1, 0xC2].as_slice()),
-        _ => return Err(Fail::from("no text")),
+        Order::Text(run) => push_bytes(out, run),
+        Order::Sfe(pairs) => push_bytes(out, pairs),
+        Order::Mf(pairs) => push_bytes(out, pairs),
+        _ => out.push_str("no bytes"),
     }
-    Ok(())
 }
 
-#[test]
-fn laws_do_nothing() {
-    line_law();
-    record_law();
+/// A line of a name and the hexadecimal of bytes.
+fn line_of_bytes(alloc: Global, name: &str, bytes: &[u8]) -> Result<String, AllocError> {
+    let mut line = String::from_str(alloc, name)?;
+    line.push(' ')?;
+    order_lines::push_bytes(alloc, &mut line, bytes)?;
+    Ok(line)
+}
+
+/// What is lent of the order of a line of a name and hexadecimal.
+fn push_lend(alloc: Global, out: &mut String, words: &str) -> Result<()> {
+    let (name, digits) = cut_word(words)?;
+    let bytes = bytes_of(alloc, digits)?;
+    let line = line_of_bytes(alloc, name, bytes.as_slice())?;
+    let order = order_of(alloc, line.as_str())?;
+    Ok(push_lent(out, &order)?)
+}
+
+/// A line of a name and one pair so many times.
+fn line_of_pairs(alloc: Global, name: &str, pair: &str, count: u32) -> Result<String, AllocError> {
+    let mut line = String::from_str(alloc, name)?;
+    for _ in 0..count {
+        line.push(' ')?;
+        line.push_str(pair)?;
+    }
+    Ok(line)
+}
+
+/// The pairs that such a line says.
+fn push_pairs(alloc: Global, out: &mut String, words: &str) -> Result<()> {
+    let (count, line) = cut_word(words)?;
+    let (name, pair) = cut_word(line)?;
+    let line = line_of_pairs(alloc, name, pair, number(count)?)?;
+    let order = order_of(alloc, line.as_str())?;
+    Ok(push_lent(out, &order)?)
+}
+
+/// A byte and more bytes as they are printed.
+fn printed_bytes(alloc: Global, first: u8, rest: &[u8]) -> Result<String, AllocError> {
+    let mut out = String::new(alloc);
+    push_hex(&mut out, first)?;
+    order_lines::push_bytes(alloc, &mut out, rest)?;
+    Ok(out)
+}
+
+/// The same, folded.
+fn push_folded(alloc: Global, out: &mut String, words: &str) -> Result<()> {
+    let (first, rest) = cut_word(words)?;
+    let first = byte(first)?;
+    let bytes = bytes_of(alloc, rest)?;
+    let digits = printed_bytes(alloc, first, bytes.as_slice())?;
+    let printed = hex::decode(alloc, digits.as_str())?;
+    Ok(push_bytes(out, printed.as_slice())?)
+}
+
+/// A text between bars cut at the first of a letter.
+fn push_cut(out: &mut String, words: &str) -> Result<()> {
+    match cut(between_bars(words)?.as_bytes(), b'x') {
+        Some((front, rest)) => {
+            push_bytes(out, front)?;
+            out.push(' ')?;
+            Ok(push_bytes(out, rest)?)
+        }
+        None => Ok(out.push_str("none")?),
+    }
+}
+
+/// Adds what a verb answers of bytes; whether it is one of these.
+fn push_bytes_answer(alloc: Global, out: &mut String, verb: &str, words: &str) -> Result<bool> {
+    match verb {
+        "print" => push_printed(alloc, out, bytes_of(alloc, words)?.as_slice())?,
+        "again" => push_again(alloc, out, bytes_of(alloc, words)?.as_slice())?,
+        _ => return Ok(false),
+    }
+    Ok(true)
+}
+
+/// Adds what a verb answers; whether it is one of these.
+pub(crate) fn push_answer(
+    alloc: Global,
+    out: &mut String,
+    verb: &str,
+    words: &str,
+) -> Result<bool> {
+    match verb {
+        "line" => push_line(alloc, out, words)?,
+        "draft" => push_draft(alloc, out, words)?,
+        "many" => push_many(alloc, out, words)?,
+        "lend" => push_lend(alloc, out, words)?,
+        "pairs" => push_pairs(alloc, out, words)?,
+        "hex" => push_folded(alloc, out, words)?,
+        "cut" => push_cut(out, words)?,
+        _ => return push_bytes_answer(alloc, out, verb, words),
+    }
+    Ok(true)
 }

@@ -5,8 +5,8 @@
 //!
 //! `terminal classic responses HEX` and `host enhanced none HEX` say which core the lines below are run on, each on a new
 //! one that first takes the events HEX. `LABEL > HEX` prints what it answers to each event of HEX: the reply's bytes and what
-//! is told, or a dash. `name TEXT` prints the device of a name, `layout A B` what a host for these sizes says first, and
-//! `faults` every refusal.
+//! is told, or a dash. `name TEXT` prints the device of a name, `layout A B` what a host for these sizes says first, `faults`
+//! every refusal, and `laws` that the laws do nothing.
 #![tactic(auto)]
 
 mod ends;
@@ -17,7 +17,10 @@ use crate::ends::answers;
 use anyhow::{Context, Result};
 use scr_layout::Layout;
 use std::alloc::Global;
-use tn_session::{Device, HostCore, Out, ScreenModel, SessionFault, TermCore};
+use tn_session::{
+    Device, HostCore, Out, ScreenModel, SessionFault, TermCore, delivery_law, one_log, outcome_law,
+    pair_law, reply_law,
+};
 
 /// Which core a script's lines are run on.
 #[derive(Drop)]
@@ -128,15 +131,18 @@ fn run_asked(alloc: Global, words: &str, pieces: &str) -> Result<runs::Asked> {
     }
 }
 
-/// What is printed after a line of the script, if anything.
-fn line_answer(alloc: Global, setup: &mut Setup, line: &str) -> Result<Option<String>> {
-    if line.starts_with("terminal ") || line.starts_with("host ") {
-        *setup = setup_of(alloc, line)?;
-        return Ok(None);
-    }
-    if line == "faults" {
-        return Ok(Some(faults_text(alloc)?));
-    }
+/// What the laws answer: they do nothing.
+fn laws_text(alloc: Global) -> Result<String> {
+    pair_law();
+    delivery_law();
+    reply_law();
+    one_log::<u8>();
+    outcome_law();
+    Ok(String::from_str(alloc, "done")?)
+}
+
+/// What is printed after a line that asks for a run.
+fn run_answer(alloc: Global, line: &str) -> Result<Option<String>> {
     if let Some(run) = line.strip_prefix("endless ") {
         let asked = run_asked(alloc, run, "")?;
         return Ok(Some(runs::endless_answer(alloc, &asked)?));
@@ -152,6 +158,11 @@ fn line_answer(alloc: Global, setup: &mut Setup, line: &str) -> Result<Option<St
         let asked = run_asked(alloc, words, pieces)?;
         return Ok(Some(runs::answer(alloc, &asked)?));
     }
+    Ok(None)
+}
+
+/// What is printed after a line that asks for words, or for the events of a core.
+fn core_answer(alloc: Global, setup: &Setup, line: &str) -> Result<Option<String>> {
     if let Some(name) = line.strip_prefix("name ") {
         return Ok(Some(device_text(alloc, name)?));
     }
@@ -164,6 +175,23 @@ fn line_answer(alloc: Global, setup: &mut Setup, line: &str) -> Result<Option<St
             Ok(Some(answer(alloc, setup, &events)?))
         }
         None => Ok(None),
+    }
+}
+
+/// What is printed after a line of the script, if anything.
+fn line_answer(alloc: Global, setup: &mut Setup, line: &str) -> Result<Option<String>> {
+    if line.starts_with("terminal ") || line.starts_with("host ") {
+        *setup = setup_of(alloc, line)?;
+        return Ok(None);
+    }
+    match line {
+        "faults" => return Ok(Some(faults_text(alloc)?)),
+        "laws" => return Ok(Some(laws_text(alloc)?)),
+        _ => {}
+    }
+    match run_answer(alloc, line)? {
+        Some(answer) => Ok(Some(answer)),
+        None => core_answer(alloc, setup, line),
     }
 }
 

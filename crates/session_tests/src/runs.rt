@@ -1,4 +1,5 @@
-//! Runs of both ends over a line in memory: whole, byte by byte, a byte a write, and with each call failing in turn.
+//! Runs of both ends over a line in memory: whole, byte by byte, cut in two at each place, a byte a write, and with each
+//! call failing in turn.
 
 use crate::line::{Giving, Script};
 use anyhow::{Context, Result};
@@ -240,7 +241,41 @@ fn failing_text(alloc: Global, asked: &Asked, whole: &str) -> Result<String> {
     Ok(text)
 }
 
-/// The run whole; whether it is the same byte by byte, and with a byte a write; and how it fails with the line.
+/// All bytes of the pieces.
+fn joined(alloc: Global, pieces: &[Vec<u8>]) -> Result<Vec<u8>> {
+    let mut bytes = Vec::new(alloc);
+    for piece in pieces {
+        bytes.extend_from_slice(piece.as_slice())?;
+    }
+    Ok(bytes)
+}
+
+/// Bytes in two pieces.
+fn in_two(alloc: Global, bytes: &[u8], at: usize) -> Result<Vec<Vec<u8>>> {
+    let front = bytes.get(..at).context("a place to cut at")?;
+    let back = bytes.get(at..).context("a place to cut at")?;
+    let mut pieces = Vec::new(alloc);
+    pieces.push(front.to_vec(alloc)?)?;
+    pieces.push(back.to_vec(alloc)?)?;
+    Ok(pieces)
+}
+
+/// The places where a cut of the stream changes what the whole run gives: there must be none.
+fn cuts_text(alloc: Global, asked: &Asked, whole: &str) -> Result<String> {
+    let mut text = String::new(alloc);
+    let bytes = joined(alloc, asked.pieces.as_slice())?;
+    for at in 1..bytes.len() {
+        let pieces = in_two(alloc, bytes.as_slice(), at)?;
+        let cut = whole_text(alloc, asked, pieces, usize::MAX)?;
+        if cut.as_str() != whole {
+            write!(text, " but cut at {at} {cut}")?;
+        }
+    }
+    Ok(text)
+}
+
+/// The run whole; whether it is the same byte by byte, cut in two at each place, and with a byte a write; and how it fails
+/// with the line.
 pub(crate) fn answer(alloc: Global, asked: &Asked) -> Result<String> {
     let pieces = asked.pieces.as_slice();
     let mut text = whole_text(alloc, asked, pieces_of(alloc, pieces)?, usize::MAX)?;
@@ -248,12 +283,14 @@ pub(crate) fn answer(alloc: Global, asked: &Asked) -> Result<String> {
     let narrow = whole_text(alloc, asked, pieces_of(alloc, pieces)?, 1)?;
     let none = whole_text(alloc, asked, pieces_of(alloc, pieces)?, 0)?;
     let failing = failing_text(alloc, asked, text.as_str())?;
+    let cuts = cuts_text(alloc, asked, text.as_str())?;
     if bytes.as_str() != text.as_str() {
         write!(text, " but byte by byte {bytes}")?;
     }
     if narrow.as_str() != text.as_str() {
         write!(text, " but a byte a write {narrow}")?;
     }
+    text.push_str(cuts.as_str())?;
     write!(text, ";{failing}; no byte a write:{none}")?;
     Ok(text)
 }
