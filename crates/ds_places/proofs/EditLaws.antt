@@ -1,15 +1,15 @@
 -- What is held once an entry is stored or some are cut out.
-use Rattle.std.proofs.Common.{◌≡◌, ◌≢◌, ℕ, suc, ◌+◌, ◌-◌, ◌<◌, ◌≤◌, ◌&&◌, Bool, true, false, cond, eqb, ltb, leb, Result, List, [], ◌∷◌, ◌++◌, length, get_or, set, take, drop, Option, Some, None, refl, sym, ◌∙◌, ap, subst, arith, inl, inr}
+use Rattle.std.proofs.Common.{◌≡◌, ◌≢◌, ℕ, suc, ◌+◌, ◌-◌, ◌<◌, ◌≤◌, ◌&&◌, Bool, true, false, cond, eqb, ltb, leb, Result, List, [], ◌∷◌, ◌++◌, length, get_or, set, take, drop, Option, Some, None, Ok, Err, unwrap_or, refl, sym, ◌∙◌, ap, subst, arith, inl, inr}
 use Rattle.std.specs.List.{insert, copy_within}
 use Rattle.std.proofs.lemmas.Bool.{cond-true, cond-false, cases_lt, cases_eq, eq-eqb, ne_eqb, lt-ltb, le-ltb, le-leb, lt-leb}
-use Rattle.std.proofs.lemmas.List.{set_split, take-append-drop, take_rest, length-append}
+use Rattle.std.proofs.lemmas.List.{get_or_default, set_split, take-append-drop, take_rest, length-append}
 use Rattle.std.proofs.lemmas.List.Edits.{take-paste}
 use Rattle.std.proofs.Math.Seq.{drop-cons}
 use Rattle.std.proofs.Math.ListN.{length-drop}
 use Rattle.ds_places.specs.Places.{at_place, RisesFrom, IsRising, IsWithin}
 use Rattle.ds_places.specs.Nearest.{IsSlot}
 use Rattle.ds_places.proofs.ListLaws.{rises_weaken, rises_beyond, rises_join, few, either, at_append, at_filter, below, beyond, take_kept, drop_kept}
-use Rattle.ds_places.proofs.SearchLaws.{Parts}
+use Rattle.ds_places.proofs.SearchLaws.{Parts, held_here, held_none}
 
 module _ {T : Type 0} (place : T → ℕ) where
   take_below : (xs : List T) (q i : ℕ) → Parts place xs q i → take i xs ≡ below place q xs
@@ -95,6 +95,30 @@ module _ {T : Type 0} (place : T → ℕ) where
       head_apart xs i x apart d some same =
           let lt : i < length xs = omega (arith, length-drop i xs) in
           apart d lt (sym (ap (λ l. place (get_or l 0 d)) (drop-cons xs i d lt)) ∙ same)
+
+  -- ---- an entry that is added where none stands
+  pub kept_at : (xs : List T) (i : ℕ) (x : T) → IsRising place xs → IsSlot place xs (place x) (Ok i)
+      → (r : ℕ) → at_place place xs r ≡ cond (eqb (place x) r) (Some (unwrap_or (at_place place xs r) x)) (at_place place xs r)
+  kept_at xs i x rising slot r =
+      elim (cases_eq (place x) r) [
+        | inl same ↦
+            let y : T = get_or xs i x in
+            let held : Some y ≡ at_place place xs r = held_here place xs (place x) i y rising slot (get_or_default xs i x y slot.1) ∙ ap (at_place place xs) same in
+            sym held ∙ ap (λ o. Some (unwrap_or o x)) held ∙ sym (cond-true (eqb (place x) r) _ _ (eq-eqb _ _ same))
+        | inr apart ↦ sym (cond-false (eqb (place x) r) _ _ (ne_eqb _ _ apart))
+      ]
+
+  pub added_at : (xs ys : List T) (i : ℕ) (x : T) → IsRising place xs → IsSlot place xs (place x) (Err i)
+      → ((r : ℕ) → at_place place ys r ≡ cond (eqb (place x) r) (Some x) (at_place place xs r))
+      → (r : ℕ) → at_place place ys r ≡ cond (eqb (place x) r) (Some (unwrap_or (at_place place xs r) x)) (at_place place xs r)
+  added_at xs ys i x rising slot is r =
+      elim (cases_eq (place x) r) [
+        | inl same ↦
+            let none : None ≡ at_place place xs r = held_none place xs (place x) i rising slot ∙ ap (at_place place xs) same in
+            is r ∙ cond-true (eqb (place x) r) _ _ (eq-eqb _ _ same) ∙ ap (λ o. Some (unwrap_or o x)) none
+            ∙ sym (cond-true (eqb (place x) r) _ _ (eq-eqb _ _ same))
+        | inr apart ↦ is r ∙ cond-false (eqb (place x) r) _ _ (ne_eqb _ _ apart) ∙ sym (cond-false (eqb (place x) r) _ _ (ne_eqb _ _ apart))
+      ]
 
   pub replaced_at : (xs now : List T) (i : ℕ) (x d : T) → IsRising place xs → Parts place xs (place x) i → i < length xs → place (get_or xs i d) ≡ place x → now ≡ set xs i x
       → (r : ℕ) → at_place place now r ≡ cond (eqb (place x) r) (Some x) (at_place place xs r)

@@ -24,6 +24,34 @@ module _ {T : Type 0} (place : T → ℕ) where
         | inr from ↦ late k d from lt (parts.1 k d from lt)
       ])
 
+  -- the last entry has a place below q: so has each
+  pub parts_last : (xs : List T) (q i : ℕ) (x : T) → IsRising place xs → i + 1 ≡ length xs → x ≡ get_or xs i x → place x < q → Parts xs q (length xs)
+  parts_last xs q i x rising last is small = (
+    λ k d from lt. elim (cases_eq k i) [
+      | inl here ↦
+          let e : place (get_or xs k d) ≡ place x = ap (λ z. place (get_or xs z d)) here ∙ ap place (get_or_default xs i d x (omega arith) ∙ sym is) in
+          omega (arith, small, e)
+      | inr earlier ↦
+          let more = rises_order place 0 xs rising k i d (omega arith) (omega arith) in
+          let e : place (get_or xs i d) ≡ place x = ap place (get_or_default xs i d x (omega arith) ∙ sym is) in
+          omega (arith, small, more, e)
+    ],
+    λ k d from lt. absurd (omega arith),
+  )
+
+  -- the entry at i has a place from q on, and each before it one below q
+  pub parts_here : (xs : List T) (q i : ℕ) (x : T) → IsRising place xs → ((k : ℕ) (d : T) → k < i → place (get_or xs k d) < q) → i < length xs
+      → x ≡ get_or xs i x → q ≤ place x → Parts xs q i
+  parts_here xs q i x rising before lt is large = (
+    λ k d from less. before k d less,
+    λ k d from within.
+        let e : place (get_or xs i d) ≡ place x = ap place (get_or_default xs i d x lt ∙ sym is) in
+        elim (cases_eq i k) [
+          | inl here ↦ omega (arith, large, e, ap (λ z. place (get_or xs z d)) here)
+          | inr later ↦ let more = rises_order place 0 xs rising i k d (omega arith) within in omega (arith, large, e, more)
+        ],
+  )
+
   pub slot_here : (xs : List T) (q i : ℕ) (x : T) → Parts xs q i → i < length xs → x ≡ get_or xs i x → place x ≡ q → IsSlot place xs q (Ok i)
   slot_here xs q i x parts lt is same = (parts, lt, λ d. ap place (get_or_default xs i d x lt ∙ sym is) ∙ same)
 

@@ -1,10 +1,11 @@
-//! Edits that keep the order. None takes memory, and each moves the entries after it once.
+//! Edits that keep the order. `add` alone takes memory, and each moves the entries after it once.
 
-ghost use Rattle.std.specs.Prelude.{◌≡◌, ◌≤◌, ◌<◌, ◌+◌, ℕ, ◌==◌, ◌&&◌, nat_le, nat_lt, if◌then◌else◌, Some, None, vec_capacity};
+ghost use Rattle.std.specs.Prelude.{◌≡◌, ◌≤◌, ◌<◌, ◌+◌, ℕ, ◌==◌, ◌&&◌, nat_le, nat_lt, if◌then◌else◌, Some, None, unwrap_or, vec_capacity, OnOk, OnErr};
 ghost use Rattle.ds_places.specs.Places.{IsRising, IsWithin, at_place, is_round};
 
 use crate::placed::Placed;
-use crate::search::{rank, slot};
+use crate::search::{rank, rank_from, slot};
+use std::alloc::AllocError;
 
 /// Stores an entry at its place, over the one that it held, where there is room for an entry at each of so many places.
 pub fn store<T: Placed>(entries: &mut Vec<T>, places: u32, entry: T)
@@ -24,6 +25,25 @@ pub fn store<T: Placed>(entries: &mut Vec<T>, places: u32, entry: T)
     }
 }
 
+/// Adds an entry, unless one stands at its place already. Takes memory where there is no room for it.
+///
+/// # Errors
+///
+/// Where a request for memory was refused.
+pub fn add<T: Placed>(entries: &mut Vec<T>, entry: T) -> Result<(), AllocError>
+    requires { IsRising T.place_of entries.old.items }
+    ensures added { OnOk result ((q : ℕ) → at_place T.place_of entries.new.items q
+        ≡ (if T.place_of entry == q then Some (unwrap_or (at_place T.place_of entries.old.items q) entry)
+        else at_place T.place_of entries.old.items q)) }
+    ensures rising { IsRising T.place_of entries.new.items }
+    ensures unchanged { OnErr result (entries.new.items ≡ entries.old.items) }
+{
+    match slot(entries, entry.place()) {
+        Ok(_) => Ok(()),
+        Err(index) => Ok(entries.insert(index, entry)?),
+    }
+}
+
 /// Takes out the entries from a place on, up to another, which is none of them.
 pub fn cut<T: Placed>(entries: &mut Vec<T>, from: u32, to: u32)
     requires rising { IsRising T.place_of entries.old.items }
@@ -36,7 +56,7 @@ pub fn cut<T: Placed>(entries: &mut Vec<T>, from: u32, to: u32)
     ensures room { vec_capacity entries.new ≡ vec_capacity entries.old }
 {
     let start = rank(entries, from);
-    let end = rank(entries, to);
+    let end = rank_from(entries, start, to);
     if start < end {
         let left = entries.len() - (end - start);
         entries.copy_within(end.., start);
@@ -68,7 +88,34 @@ pub fn cut_round<T: Placed>(entries: &mut Vec<T>, places: u32, from: u32, steps:
 #[cfg(test)]
 mod tests {
     use super::*;
+    use crate::search::held;
     use std::test::Fail;
+
+    #[derive(Clone, Copy, Debug, PartialEq, Eq)]
+    struct Marked {
+        at: u32,
+        mark: u32,
+    }
+
+    impl Placed for Marked {
+        ghost place_of = { λ m. m.at };
+
+        fn place(&self) -> u32 {
+            self.at
+        }
+    }
+
+    #[test]
+    fn the_first_entry_of_a_place_stays(rt: HostRuntime) -> Result<(), Fail> {
+        let mut entries: Vec<Marked> = Vec::new(rt.alloc());
+        add(&mut entries, Marked { at: 5, mark: 0 })?;
+        add(&mut entries, Marked { at: 2, mark: 1 })?;
+        add(&mut entries, Marked { at: 5, mark: 2 })?;
+        assert_eq!(rt; held(&entries, 5), Some(Marked { at: 5, mark: 0 }));
+        assert_eq!(rt; held(&entries, 2), Some(Marked { at: 2, mark: 1 }));
+        assert_eq!(rt; entries.len(), 2);
+        Ok(())
+    }
 
     #[test]
     fn entries_are_stored_and_cut(rt: HostRuntime) -> Result<(), Fail> {

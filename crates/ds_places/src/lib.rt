@@ -5,6 +5,6 @@ mod edits;
 mod placed;
 mod search;
 
-pub use edits::{cut, cut_round, store};
+pub use edits::{add, cut, cut_round, store};
 pub use placed::Placed;
 pub use search::{first_from, held, last_below, rank};

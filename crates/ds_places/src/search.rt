@@ -1,6 +1,7 @@
-//! Searches by halving: each looks at no more entries than their number has binary digits, and one more.
+//! Searches: at the last entry first, and then by halving, which looks at no more entries than their number has binary
+//! digits, and one more.
 
-ghost use Rattle.std.specs.Prelude.{◌≡◌, ◌≤◌, ◌<◌, length};
+ghost use Rattle.std.specs.Prelude.{◌≡◌, ◌≤◌, ◌<◌, ℕ, length, slice_index_or};
 ghost use Rattle.std.specs.List.Sorted.{IsPartitionPoint};
 ghost use Rattle.ds_places.specs.Places.{IsRising, at_place};
 ghost use Rattle.ds_places.specs.Nearest.{IsSlot, IsLastBelow, IsFirstFrom};
@@ -14,7 +15,32 @@ pub fn rank<T: Placed>(entries: &[T], place: u32) -> usize
         (λ entry. place ≤ T.place_of entry) entries.now result }
     ensures within { result ≤ length entries.now }
 {
+    let count = entries.len();
+    if count == 0 {
+        return 0;
+    }
+    if entries[count - 1].place() < place {
+        return count;
+    }
     entries.partition_point(|entry| entry.place() < place)
+}
+
+/// The same, where it is known that the entries before this index have one: it looks first at the entry there.
+pub(crate) fn rank_from<T: Placed>(entries: &[T], start: usize, place: u32) -> usize
+    requires rising { IsRising T.place_of entries.now }
+    requires within { start ≤ length entries.now }
+    requires before { (k : ℕ) (other : T) → k < start → T.place_of (slice_index_or entries.now k other) < place }
+    ensures parts { IsPartitionPoint (λ entry. T.place_of entry < place)
+        (λ entry. place ≤ T.place_of entry) entries.now result }
+    ensures within { result ≤ length entries.now }
+{
+    if start == entries.len() {
+        return start;
+    }
+    if place <= entries[start].place() {
+        return start;
+    }
+    rank(entries, place)
 }
 
 /// Where the entry of a place stands, or where one is to be inserted.

@@ -1,9 +1,15 @@
-use Rattle.std.proofs.Common.{rules, ltb, ◌≡◌, true, false}
+use Rattle.std.proofs.Common.{rules, ltb, ◌≡◌, ◌-◌, length, true, false, arith}
 use Rattle.std.specs.List.Sorted.{IsPartitionPoint}
 use Rattle.std.proofs.lemmas.Bool.{ltb-true, ltb-false}
 use Rattle.std.proofs.lemmas.List.Sorted.{IsPartitionedBy-ltb, IsPartitionPoint-from_clause}
 use Rattle.ds_places.proofs.ListLaws.{never_falls}
+use Rattle.ds_places.proofs.SearchLaws.{parts_last}
 use Rattle.ds_places.proofs.search.rank.Goals as goal
+
+pub returns-then-place-clause-parts : goal.returns-then-place-clause-parts
+returns-then-place-clause-parts g c =
+    parts_last g.T.Placed.place_of c.args.entries.now c.args.place (length c.args.entries.now - 1) c.index-entries-count.result c.requires
+    (omega (arith, c.if-count-eq0.false)) c.index-entries-count.is (omega (arith, c.if-place.true, c.place.ensures))
 
 pub returns-clause-parts : goal.returns-clause-parts
 returns-clause-parts g c =
