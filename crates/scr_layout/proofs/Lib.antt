@@ -8,3 +8,4 @@ pub mod Keyed
 pub mod SizeLaw
 pub mod SaysLaw
 pub mod ReadLaw
+pub mod LocatedLaws

@@ -7,3 +7,4 @@ pub mod Top
 pub mod Field
 pub mod Layout
 pub mod Says
+pub mod Located

@@ -10,8 +10,10 @@ ghost use Rattle.scr_layout.specs.Layout.{table_of, entries_of};
 use crate::entry::Entry;
 use crate::fault::{LayoutError, LayoutFault};
 use crate::field::entry_of;
+use crate::located::{Located, places_of};
 use crate::top::{alternate_of, default_of, fields_of, screen_of, top_of};
 use ds_codec::{Geometry, Mode, Size};
+use ds_places::held;
 use std::alloc::Global;
 use std::marker::Model;
 use toml::{Table, Value};
@@ -22,16 +24,19 @@ pub struct Layout {
     geometry: Geometry,
     size: Size,
     entries: Vec<Entry>,
+    table: Vec<Located>,
 }
 
 impl Model for Layout {
     ghost use Rattle.scr_layout.specs.Layout.{Declaration, IsLayout};
+    ghost use Rattle.scr_layout.specs.Located.{AreLocated};
 
     ghost Value = { Declaration };
 
     ghost view = { λ l. record { geometry = l.geometry; size = l.size; entries = l.entries.items } };
 
-    ghost invariant = { λ l. IsLayout (record { geometry = l.geometry; size = l.size; entries = l.entries.items }) };
+    ghost invariant = { λ l. IsLayout (record { geometry = l.geometry; size = l.size; entries = l.entries.items })
+        × AreLocated l.entries.items l.table.items };
 }
 
 impl Layout {
@@ -78,20 +83,22 @@ impl Layout {
     }
 
     #[tactic(auto, unfolding(crate::specs::Layout::declaration_of))]
-    fn from_table(alloc: Global, table: &Table) -> Result<Layout, LayoutError>
-        ensures { Gives (λ l. l) result (declaration_of (table_view table.now)) }
+    fn from_table(alloc: Global, document: &Table) -> Result<Layout, LayoutError>
+        ensures { Gives (λ l. l) result (declaration_of (table_view document.now)) }
     {
-        let top = top_of(table)?;
+        let top = top_of(document)?;
         let default = default_of(top)?;
         let alternate = alternate_of(default, top)?;
         let size = screen_of(default, alternate, top)?;
         let fields = fields_of(top)?;
         let entries = entries_of(alloc, size, fields)?;
+        let table = places_of(alloc, &entries)?;
         let geometry = Geometry::new(default, alternate, Mode::usual()).unwrap();
         Ok(Layout {
             geometry,
             size,
             entries,
+            table,
         })
     }
 
@@ -119,11 +126,14 @@ impl Layout {
     }
 
     /// The index of the entry whose first character stands at this position, counted from 0. It
-    /// looks at each entry in turn.
+    /// is found by halving.
     pub fn entry_at(&self, place: u32) -> Option<usize>
         ensures { result ≡ position (λ entry. place == entry.place) self.now.entries }
     {
-        self.entries.iter().position(|entry| entry.is_at(place))
+        match held(&self.table, place) {
+            Some(found) => Some(found.index),
+            None => None,
+        }
     }
 }
 

@@ -5,6 +5,7 @@ mod entry;
 mod fault;
 mod field;
 mod layout;
+mod located;
 mod size_text;
 mod top;
 mod values;

@@ -4,6 +4,7 @@ use Rattle.ds_codec.specs.Geometry.{Sizes, IsGood}
 use Rattle.ds_codec.specs.declared.size.Mode.{Mode}
 use Rattle.ds_codec.specs.declared.size.Mode.TheVariants.{Bits14}
 use Rattle.scr_layout.specs.Layout.{IsLayout}
+use Rattle.scr_layout.specs.Located.{AreLocated}
 use Rattle.scr_layout.proofs.LayoutLaw.{parts-law}
 use Rattle.scr_layout.proofs.layout.Layout.from_table.Goals as goal
 
@@ -20,4 +21,4 @@ invariant_of-result c =
     let told = IfOk-at_ok (λ g. g ≡ record { default = c.in_ok-default.default; alternate = c.in_ok-alternate.alternate; mode = c.usual.result }) c.unwrap-geometry.ensures c.new.ensures.sizes in
     let same = told ∙ ap (λ (m : Mode). record { default = c.in_ok-default.default; alternate = c.in_ok-alternate.alternate; mode = m }) c.usual.ensures in
     let P : Sizes → Type 0 = λ g. IsLayout (record { geometry = g; size = c.in_ok-size.size; entries = c.in_ok-entries.entries.items }) in
-    subst P (sym same) law
+    (subst P (sym same) law, subst (λ es. AreLocated es c.in_ok-table.table.items) c.deref.ensures.value c.in_ok-table.ensures)

@@ -1,0 +1,11 @@
+-- For the code's own proofs: no public contract rests on this file.
+-- Entries by their places.
+use Rattle.std.specs.Prelude.{◌≡◌, ℕ, ◌==◌, List, position, option_map}
+use Rattle.ds_places.specs.Places.{IsRising, at_place}
+use Rattle.scr_layout.specs.declared.located.Located.{Located}
+use Rattle.scr_layout.specs.Entry.{Declared}
+
+-- at each place stands the index of the first entry that begins there
+pub record AreLocated (entries : List Declared) (table : List Located) : Type 0 where
+  pub rising : IsRising (λ located. located.place) table
+  pub found : (q : ℕ) → option_map (λ located. located.index) (at_place (λ located. located.place) table q) ≡ position (λ entry. q == entry.place) entries
