@@ -1,5 +1,5 @@
 -- Attributes, the fields that they begin, and what may be typed over.
-use Rattle.std.specs.Prelude.{ℕ, ◌-◌, Bool, true, false, not, ◌&&◌, ◌==◌, List, map, length, Option, Some, None, option_map, unwrap_or}
+use Rattle.std.specs.Prelude.{ℕ, ◌-◌, Bool, true, false, not, ◌&&◌, ◌==◌, List, map, length, Option, Some, None, option_map, unwrap_or, if◌then◌else◌}
 use Rattle.std.specs.List.{range_with_len, filter}
 use Rattle.ds_codec.specs.declared.cell.Cell.{Cell}
 use Rattle.ds_codec.specs.declared.cell.Cell.TheVariants.{Field, Char}
@@ -78,6 +78,10 @@ span_of cells q = filter (governs cells q) (map (ring_on (length cells) q) (rang
 -- governs
 abbrev pub field_at : List Cell → ℕ → FieldAt
 field_at cells q = record { at = q; attr = bits_of (cell_at cells q); place = ring_on (length cells) q 1; length = length (span_of cells q) }
+
+-- the field whose attribute stands at a position, where one stands there
+abbrev pub field_there : List Cell → ℕ → Option FieldAt
+field_there cells q = if is_attribute (cell_at cells q) then Some (field_at cells q) else None
 
 -- the places of the attributes from p to the buffer's end, in rising order
 abbrev pub attributes_from : List Cell → ℕ → List ℕ

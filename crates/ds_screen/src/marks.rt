@@ -84,7 +84,8 @@ impl Marks {
 impl Marks {
     ghost use Rattle.std.specs.Prelude.{◌≡◌, ◌<◌, ◌+◌, ◌^◌, true, [], ◌∷◌, length, IfSome, MatchOption};
     ghost use Rattle.ds_screen.specs.Picture.{cell_at};
-    ghost use Rattle.ds_screen.specs.Fields.{is_attribute, attribute_from, span_of, attributes_from, field_at};
+    ghost use Rattle.ds_codec.specs.declared.cell.Cell.TheVariants.{Field};
+    ghost use Rattle.ds_screen.specs.Fields.{is_attribute, attribute_from, span_of, attributes_from, field_at, field_there};
     ghost use Rattle.ds_screen.specs.Surface.{Tells};
     ghost use Rattle.ds_screen.specs.Marks.{IsMarked, bare_cells};
 
@@ -117,6 +118,32 @@ impl Marks {
         }
     }
 
+    /// The field of an attribute that is there.
+    fn field_of(&self, mark: Mark) -> FieldAt
+        requires { mark.at < self.now.size }
+        ensures field { Tells IsMarked self.now (λ cells. cell_at cells mark.at ≡ Field mark.attribute
+            → result ≡ field_at cells mark.at) }
+        ensures at { result.at ≡ mark.at }
+        ensures small { result.at + 1 < 2 ^ 32 }
+    {
+        FieldAt {
+            at: mark.at,
+            attr: mark.attribute,
+            place: next(self.size, mark.at),
+            length: self.governed_length(mark.at),
+        }
+    }
+
+    /// The field whose attribute stands at a position.
+    pub(crate) fn field_held(&self, p: u32) -> Option<FieldAt>
+        ensures { Tells IsMarked self.now (λ cells. result ≡ field_there cells p) }
+    {
+        match held(&self.marks, p) {
+            Some(mark) => Some(self.field_of(mark)),
+            None => None,
+        }
+    }
+
     /// The first field whose attribute stands at a position or after it.
     pub(crate) fn next_field(&self, from: u32) -> Option<FieldAt>
         ensures first { MatchOption result (attributes_from (bare_cells self.now) from ≡ [])
@@ -125,16 +152,10 @@ impl Marks {
             × (field ≡ field_at (bare_cells self.now) field.at)) }
         ensures small { IfSome result (λ field. field.at + 1 < 2 ^ 32) }
     {
-        let n = self.size;
-        let Some(mark) = first_from(&self.marks, from) else {
-            return None;
-        };
-        Some(FieldAt {
-            at: mark.at,
-            attr: mark.attribute,
-            place: next(n, mark.at),
-            length: self.governed_length(mark.at),
-        })
+        match first_from(&self.marks, from) {
+            Some(mark) => Some(self.field_of(mark)),
+            None => None,
+        }
     }
 }
 

@@ -1,6 +1,7 @@
 //! The outline of a screen: what records leave of its fields, without its cells.
 
 use crate::effect::Effect;
+use crate::field::FieldAt;
 use crate::lock::Lock;
 use crate::marks::Marks;
 use crate::outline_fields::OutlineFields;
@@ -41,7 +42,7 @@ impl Outline {
     ghost use Rattle.std.specs.Prelude.{◌≡◌, ◌<◌, true, false, IfOk, IfErr, OnOk, OnErr};
     ghost use Rattle.ds_codec.specs.Geometry.{cells_of};
     ghost use Rattle.ds_screen.specs.Picture.{Picture};
-    ghost use Rattle.ds_screen.specs.Fields.{fields_of};
+    ghost use Rattle.ds_screen.specs.Fields.{fields_of, field_there};
     ghost use Rattle.ds_screen.specs.Records.{new_picture, told_of};
     ghost use Rattle.ds_screen.specs.Outline.{IsOutlineOf, OutlinesShown, OutlinesRefused, OutlinesCleared};
 
@@ -99,6 +100,13 @@ impl Outline {
         ensures { (v : Picture) → IsOutlineOf self.now v → result ≡ fields_of v.cells }
     {
         OutlineFields::new(&self.marks)
+    }
+
+    /// The field whose attribute stands at this position, if one does: found by halving.
+    pub fn field_at(&self, p: u32) -> Option<FieldAt>
+        ensures { (v : Picture) → IsOutlineOf self.now v → result ≡ field_there v.cells p }
+    {
+        self.marks.field_held(p)
     }
 
     /// Erase All Unprotected (GA23-0059, "Commands").
