@@ -1,5 +1,4 @@
 pub mod OpenLaw
-pub mod MissingLaws
 pub mod BoundLaw
 pub mod BindLaw
 pub mod KeptLaws
@@ -14,3 +13,4 @@ pub mod DemoTyping
 pub mod DemoLaws
 pub mod VerdictLaws
 pub mod UserLaw
+pub mod FieldLaws

@@ -8,4 +8,3 @@ pub mod Promise
 pub mod Leads
 pub mod Demos
 pub mod FindingText
-pub mod Among

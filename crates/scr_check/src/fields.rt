@@ -5,14 +5,13 @@ ghost use Rattle.std.specs.List.{flat_map};
 ghost use Rattle.ds_screen.specs.Picture.{Picture};
 ghost use Rattle.ds_screen.specs.Fields.{fields_of};
 ghost use Rattle.ds_screen.specs.Outline.{IsOutlineOf};
-ghost use Rattle.scr_check.specs.Findings.{is_of_kind, demo_at, length_demo, empty_finding, undeclared_finding, declared_finding, at_entry, entry_finding, field_finding, findings_of};
-ghost use Rattle.scr_check.specs.Seen.{FromCursor};
-ghost use Rattle.scr_check.specs.Among.{begins, missing_among};
+ghost use Rattle.scr_check.specs.Findings.{is_of_kind, demo_at, length_demo, empty_finding, undeclared_finding, declared_finding, at_entry, entry_finding, field_finding, has_field, missing_from, findings_of};
+ghost use Rattle.scr_check.specs.Seen.{IsCursorOf, FromCursor};
 
 use crate::cursor::Cursor;
 use crate::finding::{Demo, Finding, Overlong};
 use ds_codec::Attr;
-use ds_screen::ring::distance;
+use ds_screen::ring::{distance, previous};
 use ds_screen::{FieldAt, Outline};
 use scr_layout::{Entry, Kind, Layout};
 use std::alloc::{AllocError, Global};
@@ -121,27 +120,34 @@ fn field_finding(cursor: Cursor, field: &FieldAt, layout: &Layout) -> Option<Fin
     entry_finding(cursor, field, layout.entries(), index)
 }
 
-/// Whether one of the fields begins at a place and governs cells.
-fn begins(fields: &[FieldAt], place: u32) -> bool
-    ensures { result ≡ begins fields.now place }
+/// Whether a field that governs cells begins at a place of the screen.
+fn has_field(outline: &Outline, place: u32) -> bool
+    ensures { (v : Picture) → IsOutlineOf outline.now v → place < length v.cells
+        → result ≡ has_field v.cells place }
 {
-    fields
-        .iter()
-        .any(|field| field.place == place && field.length > 0)
+    let cells = outline.size().cells();
+    if cells <= place {
+        return false;
+    }
+    match outline.field_at(previous(cells, place)) {
+        Some(field) => field.length > 0,
+        None => false,
+    }
 }
 
-/// Adds what stands against the fields.
+/// Adds what stands against the fields, in the order of their attributes.
 fn add_fields(
     findings: &mut Vec<Finding>,
     cursor: Cursor,
-    fields: &[FieldAt],
+    outline: &Outline,
     layout: &Layout,
 ) -> Result<(), AllocError>
-    ensures { OnOk result (FromCursor cursor (λ v. findings.new.items ≡ findings.old.items
-        ++ flat_map (λ field. option_to_list (field_finding layout.now.entries v field)) fields.now)) }
+    ensures { OnOk result ((v : Picture) → IsOutlineOf outline.now v → IsCursorOf cursor v
+        → findings.new.items ≡ findings.old.items
+        ++ flat_map (λ field. option_to_list (field_finding layout.now.entries v field)) (fields_of v.cells)) }
 {
-    for field in fields {
-        if let Some(finding) = field_finding(cursor, field, layout) {
+    for field in outline.fields() {
+        if let Some(finding) = field_finding(cursor, &field, layout) {
             findings.push(finding)?;
         }
     }
@@ -151,34 +157,23 @@ fn add_fields(
 /// Adds the entries that have no field.
 fn add_missing(
     findings: &mut Vec<Finding>,
-    fields: &[FieldAt],
+    outline: &Outline,
     entries: &[Entry],
 ) -> Result<(), AllocError>
-    ensures { OnOk result (findings.new.items
-        ≡ findings.old.items ++ missing_among fields.now 0 entries.now) }
+    ensures { OnOk result ((v : Picture) → IsOutlineOf outline.now v
+        → All (λ entry. entry.place < length v.cells) entries.now
+        → findings.new.items ≡ findings.old.items ++ missing_from v.cells 0 entries.now) }
 {
     for (index, entry) in entries.iter().enumerate() {
-        if !begins(fields, entry.place) {
+        if !has_field(outline, entry.place) {
             findings.push(Finding::Missing(index))?;
         }
     }
     Ok(())
 }
 
-/// The fields of an outline.
-fn fields_in(alloc: Global, outline: &Outline) -> Result<Vec<FieldAt>, AllocError>
-    ensures { IfOk result (λ fields. (v : Picture) → IsOutlineOf outline.now v
-        → fields.items ≡ fields_of v.cells) }
-{
-    let mut fields = Vec::new(alloc);
-    for field in outline.fields() {
-        fields.push(field)?;
-    }
-    Ok(fields)
-}
-
 /// What stands against a screen of the layout's size, by its outline: against its fields in the order of their
-/// attributes, and then against the entries that have none. It looks at the entries in turn for each field.
+/// attributes, and then against the entries that have none. Both are found by halving.
 pub(crate) fn findings_of(
     alloc: Global,
     outline: &Outline,
@@ -191,10 +186,8 @@ pub(crate) fn findings_of(
         cells: outline.size().cells(),
         at: outline.cursor(),
     };
-    let entries = layout.entries();
-    let fields = fields_in(alloc, outline)?;
     let mut findings = Vec::new(alloc);
-    add_fields(&mut findings, cursor, &fields, layout)?;
-    add_missing(&mut findings, &fields, entries)?;
+    add_fields(&mut findings, cursor, outline, layout)?;
+    add_missing(&mut findings, outline, layout.entries())?;
     Ok(findings)
 }

@@ -1,6 +1,8 @@
-use Rattle.std.proofs.Common.{◌≡◌, length, ◌∙◌, sym, ap, arith}
+use Rattle.std.specs.Prelude.{All}
+use Rattle.std.proofs.Common.{◌≡◌, ◌<◌, length, ◌∙◌, sym, ap, subst, arith}
 use Rattle.ds_codec.specs.Geometry.{cells_of}
-use Rattle.scr_check.proofs.MissingLaws.{findings_made}
+use Rattle.scr_layout.specs.Entry.{Declared}
+use Rattle.scr_check.proofs.FieldLaws.{findings_made}
 use Rattle.scr_check.proofs.fields.findings_of.Goals as goal
 
 pub returns : goal.returns
@@ -10,7 +12,7 @@ returns c = λ v is size.
       sym (c.cursor.ensures.value ∙ is.cursor),
     ) in
     let whole : length v.cells ≡ cells_of c.args.layout.now.size = is.sound.whole ∙ ap cells_of size in
-    let fields = c.in_ok-fields.ensures v is in
-    findings_made c.args.layout.now v c.deref.result.now c.deref-2.result.now c.entries-entries.result.now c.new-findings.result.items c.add_fields.new.findings.items
-    c.add_missing.new.findings.items c.new-findings.ensures.items (c.deref.ensures.value ∙ fields) (c.deref-2.ensures.value ∙ fields) c.entries-entries.ensures.value
-    (λ k d lt. omega (arith, c.entries-entries.ensures.law.inside k d lt, whole)) (c.in_ok-add_fields.ensures v at) c.in_ok-add_missing.ensures
+    findings_made c.args.layout.now v c.entries.result.now c.new-findings.result.items c.add_fields.new.findings.items
+    c.add_missing.new.findings.items c.new-findings.ensures.items c.entries.ensures.value (c.in_ok-add_fields.ensures v is at)
+    (c.in_ok-add_missing.ensures v is (subst (λ es. All (λ (entry : Declared). entry.place < length v.cells) es) (sym c.entries.ensures.value)
+    (λ k d lt. omega (arith, c.entries.ensures.law.inside k d lt, whole))))
