@@ -141,7 +141,7 @@ greatest_cases (suc k) test =
       ]
     ]
 
-on_mod : (n b i : ℕ) → b < n → i < n → (b + i) % n ≡ ring_on n b i
+pub on_mod : (n b i : ℕ) → b < n → i < n → (b + i) % n ≡ ring_on n b i
 on_mod n b i inside lt =
     elim (on_cases n b i) [
       | inl a ↦ mod-eq_of_lt a.0 ∙ sym a.1

@@ -1,6 +1,6 @@
 //! The attributes of a buffer without its cells: what orders leave of them.
 
-ghost use Rattle.std.specs.Prelude.{◌≡◌, ◌≤◌, ◌<◌, map, vec_capacity};
+ghost use Rattle.std.specs.Prelude.{◌≡◌, ◌≤◌, ◌<◌, ◌+◌, ◌%◌, map, vec_capacity};
 ghost use Rattle.ds_screen.specs.Marks.{reset_mark};
 
 use crate::field::FieldAt;
@@ -45,6 +45,19 @@ fn reset_marks(marks: &mut Vec<Mark>, which: Reset)
             at: mark.at,
             attribute: reset_attribute(which, mark.attribute),
         };
+    }
+}
+
+/// The position behind text of this length, which may go round more than once. Short text is spared the division.
+fn behind(n: u32, b: u32, length: usize) -> u32
+    requires { b < n }
+    ensures value { result ≡ (b + length) % n }
+    ensures inside { result < n }
+{
+    if length < n as usize {
+        forward(n, b, length as u32)
+    } else {
+        forward(n, b, (length % n as usize) as u32)
     }
 }
 
@@ -205,7 +218,7 @@ impl Surface for Marks {
         let n = self.size;
         let steps = run.len().min(n as usize) as u32;
         cut_round(&mut self.marks, n, b, steps);
-        forward(n, b, (run.len() % n as usize) as u32)
+        behind(n, b, run.len())
     }
 
     fn repeat(&mut self, b: u32, stop: u32, _character: Char) {

@@ -1,12 +1,9 @@
-use Rattle.std.proofs.Common.{◌≡◌, ◌<◌, List, Option, Some, None, ◌∙◌, sym, ap, subst, arith}
+use Rattle.std.proofs.Common.{◌≡◌, Some, None, ◌∙◌, sym, ap, subst, arith}
 use Rattle.std.proofs.lemmas.Bool.{cond-true, cond-false}
-use Rattle.ds_codec.specs.declared.cell.Cell.{Cell}
 use Rattle.ds_places.specs.Places.{at_place}
 use Rattle.ds_screen.specs.Picture.{cell_at}
 use Rattle.ds_screen.specs.Fields.{is_attribute, field_at}
 use Rattle.ds_screen.specs.Marks.{place_of, Marked, IsKept, IsMarked, bare_cells}
-use Rattle.ds_screen.specs.declared.field.FieldAt.{FieldAt}
-use Rattle.ds_screen.specs.declared.mark.Mark.{Mark}
 use Rattle.ds_screen.proofs.MarkLaws.{held_there, held_inside, none_there}
 use Rattle.ds_screen.proofs.OutlineFieldLaws.{bare_marked}
 use Rattle.ds_screen.proofs.marks.Marks.field_held.Goals as goal

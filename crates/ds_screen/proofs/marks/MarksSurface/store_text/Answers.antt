@@ -1,6 +1,6 @@
 use Rattle.std.proofs.Common.{◌≡◌, ◌<◌, ◌+◌, ◌%◌, length, refl, sym, ◌∙◌, ap, subst, arith}
 use Rattle.ds_screen.specs.Marks.{Marked, IsMarked, marked}
-use Rattle.ds_screen.proofs.MarkLaws.{text_marked, after_text}
+use Rattle.ds_screen.proofs.MarkLaws.{text_marked}
 use Rattle.ds_screen.proofs.marks.MarksSurface.store_text.Goals as goal
 
 pub returns-clause-shown : goal.returns-clause-shown
@@ -14,5 +14,4 @@ returns-clause-shown c = λ cells shown.
 pub returns-clause-after : goal.returns-clause-after
 returns-clause-after c =
     let size : c.self.inside.size ≡ c.args.self.now.size = ap (λ u. u.size) c.self.view_is in
-    c.forward.ensures.on ∙ after_text c.self.inside.size c.args.b (length c.args.run.now) (omega (arith, c.requires.inside, size))
-    ∙ ap (λ n. (c.args.b + length c.args.run.now) % n) size
+    c.behind.ensures.value ∙ ap (λ n. (c.args.b + length c.args.run.now) % n) size
