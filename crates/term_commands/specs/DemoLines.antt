@@ -1,5 +1,5 @@
 -- The line of what is sent once the keys of a finding are pressed.
-use Rattle.std.specs.Prelude.{ℕ, false, List, [], ◌++◌, codes, Option, Some, None, Result, Ok, Err}
+use Rattle.std.specs.Prelude.{ℕ, Bool, false, is_some, List, [], ◌++◌, codes, Option, Some, None, Result, Ok, Err}
 use Rattle.ds_screen.specs.Picture.{Picture}
 use Rattle.ds_screen.specs.Records.{new_picture}
 use Rattle.ds_keys.specs.KeyRuns as keyed
@@ -31,6 +31,10 @@ sends_on (Some v) (Some demo) = sends_line v demo
 -- the line of a finding and, from a picture, what its keys send
 abbrev pub finding_lines : List Declared → Option Picture → Finding → List ℕ
 finding_lines entries opened finding = (finding_text entries finding ++ codes "\n") ++ sends_on opened (demo_of finding)
+
+-- keys show the finding
+abbrev pub has_keys : Finding → Bool
+has_keys finding = is_some (demo_of finding)
 
 -- the picture from which demos go, where they are printed
 abbrev pub asked : {E : Type 0} → Demos → Result Picture E → Option Picture

@@ -1,11 +1,12 @@
 //! The command `check`: what stands against records and a layout.
 
-ghost use Rattle.std.specs.Prelude.{◌≡◌, map, IfErr, IfOk, IfSome};
-ghost use Rattle.std.specs.List.{flat_map};
+ghost use Rattle.std.specs.Prelude.{◌≡◌, if◌then◌else◌, map, IfErr, IfOk, IfSome};
+ghost use Rattle.std.specs.List.{flat_map, list_any};
 ghost use Rattle.scr_check.specs.Seen.{findings_in, TellsSome};
 ghost use Rattle.term_commands.specs.declared.status.Status.TheVariants.{Findings};
+ghost use Rattle.term_commands.specs.declared.output.demo.Demos.TheVariants.{Omitted};
 ghost use Rattle.term_commands.specs.Check.{printed_verdict, printed_answer, check, printed_check};
-ghost use Rattle.term_commands.specs.DemoLines.{finding_lines, asked, shown_on};
+ghost use Rattle.term_commands.specs.DemoLines.{finding_lines, has_keys, asked, shown_on};
 ghost use Rattle.term_commands.specs.Fault.{Gives};
 ghost use Rattle.term_commands.specs.Held.{answer_seen, records_held};
 ghost use Rattle.term_commands.specs.LayoutText.{layout_in};
@@ -34,6 +35,24 @@ fn lent<'a>(alloc: Global, records: &'a [Vec<u8>]) -> Result<Vec<&'a [u8]>, Allo
         slices.push(bytes.as_slice())?;
     }
     Ok(slices)
+}
+
+/// Whether keys show one of the findings.
+fn have_keys(findings: &[Finding]) -> bool
+    ensures { result ≡ list_any has_keys findings.now }
+{
+    findings.iter().any(|finding| finding.demo().is_some())
+}
+
+/// Demos, where a finding has keys; without one there is nothing to press on a screen.
+fn demos_for(demos: Demos, findings: &[Finding]) -> Demos
+    ensures { result ≡ (if list_any has_keys findings.now then demos else Omitted) }
+{
+    if have_keys(findings) {
+        demos
+    } else {
+        Demos::Omitted
+    }
 }
 
 /// The findings.
@@ -73,7 +92,10 @@ fn verdict_text(
             text: String::from_str(alloc, "yes\n")?,
             status: Status::Done,
         }),
-        Verdict::No(findings) => found(alloc, layout, records, demos, findings.as_slice()),
+        Verdict::No(findings) => {
+            let findings = findings.as_slice();
+            found(alloc, layout, records, demos_for(demos, findings), findings)
+        }
     }
 }
 
