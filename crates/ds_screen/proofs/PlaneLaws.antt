@@ -1,0 +1,129 @@
+-- Cells in two planes, and the index of their attributes.
+use Rattle.std.proofs.Common.{◌≡◌, ◌≢◌, ℕ, zero, suc, ◌+◌, ◌-◌, ◌<◌, ◌≤◌, Bool, true, false, cond, eqb, List, [], ◌∷◌, length, replicate, get_or, set, Option, Some, None, refl, sym, ◌∙◌, ap, arith, inl, inr, get_or-set_same, get_or-set_other}
+use Rattle.std.specs.Option.{option_map}
+use Rattle.std.proofs.lemmas.Bool.{cond-true, cond-false, cases_lt, cases_eq, cases_Bool, eq-eqb, ne_eqb, eqb-true, ltb-true}
+use Rattle.std.proofs.lemmas.List.{get_or-replicate, length-replicate, length-set, get_or_past, get_or_default}
+use Rattle.ds_codec.specs.declared.cell.Cell.{Cell}
+use Rattle.ds_codec.specs.declared.cell.Cell.TheVariants.{Field, Char}
+use Rattle.ds_codec.specs.Character.{is_text}
+use Rattle.ds_places.specs.Places.{at_place, IsRising, IsWithin}
+use Rattle.ds_places.specs.Nearest.{IsFirstFrom}
+use Rattle.ds_screen.specs.declared.stored.Kind.{Kind}
+use Rattle.ds_screen.specs.declared.stored.Kind.TheVariants.{Attribute, Plain, Alternate}
+use Rattle.ds_screen.specs.Picture.{blank, cell_at, ruled}
+use Rattle.ds_screen.specs.Fields.{is_attribute}
+use Rattle.ds_screen.specs.Planes.{stored_cell, is_storable, plane_cell, plane_cells, ArePlanes, Held, held_cells, itself, spot_of, spot_if, IsIndex}
+use Rattle.ds_screen.proofs.RuledLaws.{length-ruled, cell_at-ruled, as_ruled, ruled_same, set-ruled}
+use Rattle.ds_screen.proofs.MarkLaws.{past_blank}
+
+-- ---- the cells of the planes
+pub length-planes : (codes : List ℕ) (kinds : List Kind) → length (plane_cells codes kinds) ≡ length codes
+unfolding plane_cells
+length-planes codes kinds = length-ruled (length codes) (plane_cell codes kinds)
+
+pub cell_at-planes : (codes : List ℕ) (kinds : List Kind) (p : ℕ) → p < length codes → cell_at (plane_cells codes kinds) p ≡ plane_cell codes kinds p
+unfolding plane_cells
+cell_at-planes codes kinds p lt = cell_at-ruled (length codes) (plane_cell codes kinds) p lt
+
+pub planes_none : (kinds : List Kind) → plane_cells [] kinds ≡ []
+unfolding plane_cells ruled
+planes_none kinds = refl
+
+-- the planes of cells that a rule says
+pub planes_as : (codes : List ℕ) (kinds : List Kind) (n : ℕ) (rule : ℕ → Cell) → length codes ≡ n → ((p : ℕ) → p < n → plane_cell codes kinds p ≡ rule p)
+    → plane_cells codes kinds ≡ ruled n rule
+unfolding plane_cells
+planes_as codes kinds n rule len same = ap (λ m. ruled m (plane_cell codes kinds)) len ∙ ruled_same n (plane_cell codes kinds) rule same
+
+set_one : {T : Type 0} (xs : List T) (p q : ℕ) (x d : T) → q < length xs → get_or (set xs q x) p d ≡ cond (eqb p q) x (get_or xs p d)
+set_one xs p q x d lt =
+    elim (cases_eq p q) [
+      | inl same ↦ ap (λ k. get_or (set xs q x) k d) same ∙ get_or-set_same xs q x d lt ∙ sym (cond-true (eqb p q) _ _ (eq-eqb p q same))
+      | inr apart ↦ get_or-set_other xs q p x d apart ∙ sym (cond-false (eqb p q) _ _ (ne_eqb p q apart))
+    ]
+
+pub planes_set : (codes : List ℕ) (kinds : List Kind) (q code : ℕ) (kind : Kind) → length kinds ≡ length codes → q < length codes
+    → plane_cells (set codes q code) (set kinds q kind) ≡ set (plane_cells codes kinds) q (stored_cell kind code)
+unfolding plane_cells
+planes_set codes kinds q code kind same lt =
+    ap (λ n. ruled n (plane_cell (set codes q code) (set kinds q kind))) (length-set codes q code)
+    ∙ sym (set-ruled (length codes) (plane_cell codes kinds) (plane_cell (set codes q code) (set kinds q kind)) q (stored_cell kind code) lt
+    (ap (λ k. stored_cell k (get_or (set codes q code) q 0)) (get_or-set_same kinds q kind Plain (omega arith)) ∙ ap (stored_cell kind) (get_or-set_same codes q code 0 lt))
+    (λ p below apart.
+    ap (λ k. stored_cell k (get_or (set codes q code) p 0)) (get_or-set_other kinds q p kind Plain apart)
+    ∙ ap (stored_cell (get_or kinds p Plain)) (get_or-set_other codes q p code 0 apart)))
+
+pub are_set : (codes : List ℕ) (kinds : List Kind) (q code : ℕ) (kind : Kind) → ArePlanes codes kinds → q < length codes → is_storable kind code ≡ true
+    → ArePlanes (set codes q code) (set kinds q kind)
+are_set codes kinds q code kind planes lt good =
+    record {
+      same = length-set kinds q kind ∙ planes.same ∙ sym (length-set codes q code);
+      each = λ p below. elim (cases_eq p q) [
+        | inl here ↦
+            ap (λ z. is_storable (get_or (set kinds q kind) z Plain) (get_or (set codes q code) z 0)) here
+            ∙ ap (λ k. is_storable k (get_or (set codes q code) q 0)) (get_or-set_same kinds q kind Plain (omega (arith, planes.same)))
+            ∙ ap (is_storable kind) (get_or-set_same codes q code 0 lt) ∙ good
+        | inr apart ↦
+            ap (λ k. is_storable k (get_or (set codes q code) p 0)) (get_or-set_other kinds q p kind Plain apart)
+            ∙ ap (is_storable (get_or kinds p Plain)) (get_or-set_other codes q p code 0 apart)
+            ∙ planes.each p (omega (arith, length-set codes q code))
+      ];
+    }
+
+pub planes_blank : (codes : List ℕ) (kinds : List Kind) (n : ℕ) → codes ≡ replicate n 0 → kinds ≡ replicate n Plain → plane_cells codes kinds ≡ replicate n blank
+planes_blank codes kinds n zeros plain =
+    planes_as codes kinds n (λ p. blank) (ap length zeros ∙ length-replicate n 0)
+    (λ p lt. ap (λ l. stored_cell (get_or l p Plain) (get_or codes p 0)) plain
+    ∙ ap (λ k. stored_cell k (get_or codes p 0)) (get_or-replicate n p Plain Plain lt)
+    ∙ ap (λ l. stored_cell Plain (get_or l p 0)) zeros ∙ ap (stored_cell Plain) (get_or-replicate n p 0 0 lt))
+    ∙ sym (as_ruled (replicate n blank) n (λ p. blank) (length-replicate n blank) (λ p lt. get_or-replicate n p blank blank lt))
+
+zero_text : is_storable Plain 0 ≡ true
+unfolding is_text
+zero_text = refl
+
+pub are_blank : (codes : List ℕ) (kinds : List Kind) (n : ℕ) → codes ≡ replicate n 0 → kinds ≡ replicate n Plain → ArePlanes codes kinds
+are_blank codes kinds n zeros plain =
+    let many : length codes ≡ n = ap length zeros ∙ length-replicate n 0 in
+    record {
+      same = ap length plain ∙ length-replicate n Plain ∙ sym many;
+      each = λ p lt.
+          ap (λ l. is_storable (get_or l p Plain) (get_or codes p 0)) plain
+          ∙ ap (λ k. is_storable k (get_or codes p 0)) (get_or-replicate n p Plain Plain (omega arith))
+          ∙ ap (λ l. is_storable Plain (get_or l p 0)) zeros ∙ ap (is_storable Plain) (get_or-replicate n p 0 0 (omega arith)) ∙ zero_text;
+    }
+
+-- ---- what a method sees of the planes that it works on
+pub counted : (codes : List ℕ) (kinds : List Kind) (room : ℕ) (now : Held) → held_cells codes kinds room ≡ now → length codes ≡ length now.cells
+counted codes kinds room now view = sym (length-planes codes kinds) ∙ ap (λ (h : Held). length h.cells) view
+
+pub seen_at : (codes : List ℕ) (kinds : List Kind) (room : ℕ) (now : Held) (p : ℕ) → held_cells codes kinds room ≡ now → p < length now.cells
+    → plane_cell codes kinds p ≡ cell_at now.cells p
+seen_at codes kinds room now p view lt =
+    sym (cell_at-planes codes kinds p (omega (arith, counted codes kinds room now view))) ∙ ap (λ (h : Held). cell_at h.cells p) view
+
+pub read_at : (codes : List ℕ) (kinds : List Kind) (p code : ℕ) (kind : Kind) → ArePlanes codes kinds → p < length codes → kind ≡ get_or kinds p kind → code ≡ get_or codes p code
+    → stored_cell kind code ≡ plane_cell codes kinds p
+read_at codes kinds p code kind planes lt is_kind is_code =
+    ap (λ k. stored_cell k code) (is_kind ∙ get_or_default kinds p kind Plain (omega (arith, planes.same)))
+    ∙ ap (stored_cell (get_or kinds p Plain)) (is_code ∙ get_or_default codes p code 0 lt)
+
+pub storable_at : (codes : List ℕ) (kinds : List Kind) (p code : ℕ) (kind : Kind) → ArePlanes codes kinds → p < length codes → kind ≡ get_or kinds p kind → code ≡ get_or codes p code
+    → is_storable kind code ≡ true
+storable_at codes kinds p code kind planes lt is_kind is_code =
+    ap (λ k. is_storable k code) (is_kind ∙ get_or_default kinds p kind Plain (omega (arith, planes.same)))
+    ∙ ap (is_storable (get_or kinds p Plain)) (is_code ∙ get_or_default codes p code 0 lt) ∙ planes.each p lt
+
+pub attribute_at : (codes : List ℕ) (kinds : List Kind) (p : ℕ) (kind : Kind) → ArePlanes codes kinds → p < length codes → kind ≡ get_or kinds p kind
+    → denote.Enum.Bare.sameb Rattle.ds_screen.specs.contracts.stored.Kind.the_type kind Attribute ≡ is_attribute (plane_cell codes kinds p)
+attribute_at codes kinds p kind planes lt is_kind =
+    told kind (get_or codes p 0) ∙ ap (λ k. is_attribute (stored_cell k (get_or codes p 0))) (is_kind ∙ get_or_default kinds p kind Plain (omega (arith, planes.same)))
+  where
+    told : (kind : Kind) (code : ℕ) → denote.Enum.Bare.sameb Rattle.ds_screen.specs.contracts.stored.Kind.the_type kind Attribute ≡ is_attribute (stored_cell kind code)
+    told Attribute code = refl
+    told Plain code = refl
+    told Alternate code = refl
+
+-- ---- the index
+pub index_within : (index : List ℕ) (cells : List Cell) → IsIndex index cells → IsWithin itself (length cells) index
+index_within index cells listed q far = listed.each q ∙ ap (spot_of q) (past_blank cells q far)

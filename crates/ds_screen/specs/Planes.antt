@@ -1,0 +1,66 @@
+-- For the code's own proofs: public contracts rest on this file alone for which places an index holds.
+-- Cells kept in two planes, and the places of their attributes in rising order.
+use Rattle.std.specs.Prelude.{◌≡◌, ℕ, ◌<◌, Bool, true, false, nat_lt, List, length, Option, Some, None, slice_index_or}
+use Rattle.ds_codec.specs.declared.cell.Cell.{Cell}
+use Rattle.ds_codec.specs.declared.cell.Cell.TheVariants.{Field, Char}
+use Rattle.ds_codec.specs.Character.{is_text, is_graphic, glyph}
+use Rattle.ds_places.specs.Places.{at_place, IsRising}
+use Rattle.ds_screen.specs.declared.stored.Kind.{Kind}
+use Rattle.ds_screen.specs.declared.stored.Kind.TheVariants.{Attribute, Plain, Alternate}
+use Rattle.ds_screen.specs.declared.stored.Stored.{Stored}
+use Rattle.ds_screen.specs.Picture.{cell_at, ruled}
+
+-- the cell that a kind and a code stand for
+abbrev pub stored_cell : Kind → ℕ → Cell
+stored_cell Attribute code = Field code
+stored_cell Plain code = Char (glyph code false)
+stored_cell Alternate code = Char (glyph code true)
+
+-- there is such a cell
+abbrev pub is_storable : Kind → ℕ → Bool
+is_storable Attribute code = nat_lt code 64
+is_storable Plain code = is_text code
+is_storable Alternate code = is_graphic code
+
+abbrev pub plane_cell : List ℕ → List Kind → ℕ → Cell
+plane_cell codes kinds p = stored_cell (slice_index_or kinds p Plain) (slice_index_or codes p 0)
+
+-- the cells of a plane of codes and a plane of kinds
+unfoldable pub plane_cells : List ℕ → List Kind → List Cell
+plane_cells codes kinds = ruled (length codes) (plane_cell codes kinds)
+
+-- a kind for each code, and a cell for both
+pub record ArePlanes (codes : List ℕ) (kinds : List Kind) : Type 0 where
+  pub same : length kinds ≡ length codes
+  pub each : (p : ℕ) → p < length codes → is_storable (slice_index_or kinds p Plain) (slice_index_or codes p 0) ≡ true
+
+-- cells, and how many there is room for
+pub record Held : Type 0 where
+  pub cells : List Cell
+  pub room : ℕ
+
+abbrev pub held_cells : List ℕ → List Kind → ℕ → Held
+held_cells codes kinds room = record { cells = plane_cells codes kinds; room = room }
+
+abbrev pub itself : ℕ → ℕ
+itself p = p
+
+-- p, where the cell there is an attribute
+abbrev pub spot_of : ℕ → Cell → Option ℕ
+spot_of p (Field bits) = Some p
+spot_of p (Char character) = None
+
+-- p, where it is to be held
+abbrev pub spot_if : ℕ → Bool → Option ℕ
+spot_if p true = Some p
+spot_if p false = None
+
+-- the places of all attributes of the cells, in rising order, and no other
+pub record IsIndex (index : List ℕ) (cells : List Cell) : Type 0 where
+  pub rising : IsRising itself index
+  pub each : (p : ℕ) → at_place itself index p ≡ spot_of p (cell_at cells p)
+
+-- an index that is looked at, and how many looks that took
+pub record Probing : Type 0 where
+  pub positions : List ℕ
+  pub probes : ℕ

@@ -1,0 +1,118 @@
+//! A buffer kept in planes, with a sorted index of its attributes.
+
+ghost use Rattle.std.specs.Prelude.{◌≡◌, ◌≤◌, ◌<◌, ℕ, ◌==◌, if◌then◌else◌, vec_capacity};
+ghost use Rattle.ds_places.specs.Places.{IsRising, IsWithin, at_place};
+ghost use Rattle.ds_screen.specs.Planes.{itself, spot_if};
+
+use crate::cells::Cells;
+use crate::counted::attr_before_counted;
+use crate::planes::Planes;
+use crate::probed::Probed;
+use ds_codec::Cell;
+use ds_places::{cut, first_from, store};
+use std::alloc::{AllocError, Global};
+use std::marker::Model;
+
+/// A code and its kind for each position, and the positions of the attributes in rising order. It costs what it
+/// looks at: a search goes over the attributes, by halving.
+#[derive(Drop)]
+pub struct PlaneCells {
+    planes: Planes,
+    index: Vec<u32>,
+}
+
+impl Model for PlaneCells {
+    ghost use Rattle.std.specs.Prelude.{◌≤◌, vec_capacity};
+    ghost use Rattle.ds_screen.specs.Planes.{Held, IsIndex};
+
+    ghost Value = { Held };
+
+    ghost view = { λ s. s.planes };
+
+    ghost invariant = { λ s. IsIndex s.index.items s.planes.cells
+        × (s.planes.room ≤ vec_capacity s.index) };
+}
+
+/// Notes whether a position holds an attribute from now on, where it is known whether it held one.
+fn note(index: &mut Vec<u32>, places: u32, p: u32, was: bool, is: bool)
+    requires rising { IsRising itself index.old.items }
+    requires inside { IsWithin itself places index.old.items }
+    requires below { p < places }
+    requires room { places ≤ vec_capacity index.old }
+    requires known { at_place itself index.old.items p ≡ spot_if p was }
+    ensures noted { (q : ℕ) → at_place itself index.new.items q
+        ≡ (if p == q then spot_if p is else at_place itself index.old.items q) }
+    ensures rising { IsRising itself index.new.items }
+    ensures room { vec_capacity index.new ≡ vec_capacity index.old }
+{
+    if is && !was {
+        store(index, places, p);
+    } else if was && !is {
+        cut(index, p, p + 1);
+    }
+}
+
+impl PlaneCells {
+    ghost use Rattle.std.specs.Prelude.{◌≡◌};
+    ghost use Rattle.ds_screen.specs.Planes.{IsIndex};
+
+    /// The index of the attributes, with a count of looks that begins at 0.
+    pub fn probed(&self) -> Probed<'_>
+        ensures index { IsIndex result.positions self.now.cells }
+        ensures count { result.probes ≡ 0 }
+    {
+        let _places = self.planes.len();
+        Probed::new(self.index.as_slice())
+    }
+}
+
+impl Cells for PlaneCells {
+    ghost content = { λ s. s.cells };
+
+    ghost capacity = { λ s. s.room };
+
+    fn reserved(alloc: Global, most: u32) -> Result<PlaneCells, AllocError> {
+        let planes = Planes::reserved(alloc, most)?;
+        let index = Vec::with_capacity(alloc, most as usize)?;
+        Ok(PlaneCells { planes, index })
+    }
+
+    fn len(&self) -> u32 {
+        self.planes.len()
+    }
+
+    fn clear(&mut self, n: u32) {
+        self.index.clear();
+        self.planes.clear(n);
+    }
+
+    fn cell(&self, p: u32) -> Cell {
+        self.planes.cell(p)
+    }
+
+    fn put(&mut self, p: u32, cell: Cell) {
+        let was = self.planes.has_attribute(p);
+        self.planes.put(p, cell);
+        let is = self.planes.has_attribute(p);
+        note(&mut self.index, self.planes.len(), p, was, is);
+    }
+
+    fn attr_before(&self, p: u32) -> Option<u32> {
+        attr_before_counted(&mut self.probed(), p)
+    }
+
+    fn attr_from(&self, p: u32) -> Option<u32> {
+        if let Some(q) = first_from(&self.index, p) {
+            return Some(q);
+        }
+        first_from(&self.index, 0)
+    }
+
+    fn copy_from(&mut self, other: &PlaneCells) {
+        self.index.clear();
+        self.index
+            .extend_from_slice(other.index.as_slice())
+            .unwrap();
+        self.planes.copy_from(&other.planes);
+    }
+}

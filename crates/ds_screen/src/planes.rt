@@ -1,0 +1,113 @@
+//! The cells of a buffer in two planes: a code for each position, and what the code is.
+
+use crate::stored::{Kind, Stored, cell_of, cell_stored};
+use ds_codec::Cell;
+use std::alloc::{AllocError, Global};
+use std::marker::Model;
+
+/// A plane of codes and a plane of kinds, with room for so many positions.
+#[derive(Drop)]
+pub(crate) struct Planes {
+    codes: Vec<u8>,
+    kinds: Vec<Kind>,
+    limit: u32,
+}
+
+impl Model for Planes {
+    ghost use Rattle.std.specs.Prelude.{◌≤◌, length, vec_capacity};
+    ghost use Rattle.ds_screen.specs.Planes.{Held, ArePlanes, held_cells};
+
+    ghost Value = { Held };
+
+    ghost view = { λ s. held_cells s.codes.items s.kinds.items s.limit };
+
+    ghost invariant = { λ s. ArePlanes s.codes.items s.kinds.items
+        × (length s.codes.items ≤ s.limit)
+        × (s.limit ≤ vec_capacity s.codes)
+        × (s.limit ≤ vec_capacity s.kinds) };
+}
+
+impl Planes {
+    ghost use Rattle.std.specs.Prelude.{◌≡◌, ◌≤◌, ◌<◌, [], IfOk, length, replicate, slice_set};
+    ghost use Rattle.ds_screen.specs.Picture.{blank, cell_at};
+    ghost use Rattle.ds_screen.specs.Fields.{is_attribute};
+
+    /// No position, and room for as many as this.
+    pub(crate) fn reserved(alloc: Global, most: u32) -> Result<Planes, AllocError>
+        ensures empty { IfOk result (λ planes. planes.cells ≡ []) }
+        ensures room { IfOk result (λ planes. planes.room ≡ most) }
+    {
+        let codes = Vec::with_capacity(alloc, most as usize)?;
+        let kinds = Vec::with_capacity(alloc, most as usize)?;
+        Ok(Planes {
+            codes,
+            kinds,
+            limit: most,
+        })
+    }
+
+    /// The number of positions.
+    pub(crate) fn len(&self) -> u32
+        ensures count { result ≡ length self.now.cells }
+        ensures within { result ≤ self.now.room }
+    {
+        let _limit = self.limit;
+        self.codes.len() as u32
+    }
+
+    /// Makes it this many nulls.
+    pub(crate) fn clear(&mut self, n: u32)
+        requires { n ≤ self.old.room }
+        ensures nulls { self.new ≡ record self.old { cells = replicate n blank } }
+    {
+        self.codes.clear();
+        self.codes.resize(n as usize, 0).unwrap();
+        self.kinds.clear();
+        self.kinds.resize(n as usize, Kind::Plain).unwrap();
+    }
+
+    /// Whether a position holds an attribute.
+    pub(crate) fn has_attribute(&self, p: u32) -> bool
+        requires { p < length self.now.cells }
+        ensures { result ≡ is_attribute (cell_at self.now.cells p) }
+    {
+        self.kinds[p as usize] == Kind::Attribute
+    }
+
+    /// The cell at a position.
+    pub(crate) fn cell(&self, p: u32) -> Cell
+        requires { p < length self.now.cells }
+        ensures { result ≡ cell_at self.now.cells p }
+    {
+        let stored = Stored {
+            kind: self.kinds[p as usize],
+            code: self.codes[p as usize],
+        };
+        cell_of(stored)
+    }
+
+    /// Stores a cell at a position.
+    pub(crate) fn put(&mut self, p: u32, cell: Cell)
+        requires { p < length self.old.cells }
+        ensures stored { self.new ≡ record self.old { cells = slice_set self.old.cells p cell } }
+    {
+        let stored = cell_stored(cell);
+        self.codes[p as usize] = stored.code;
+        self.kinds[p as usize] = stored.kind;
+    }
+
+    /// Makes the cells those of other planes.
+    pub(crate) fn copy_from(&mut self, other: &Planes)
+        requires { length other.now.cells ≤ self.old.room }
+        ensures copied { self.new ≡ record self.old { cells = other.now.cells } }
+    {
+        self.codes.clear();
+        self.codes
+            .extend_from_slice(other.codes.as_slice())
+            .unwrap();
+        self.kinds.clear();
+        self.kinds
+            .extend_from_slice(other.kinds.as_slice())
+            .unwrap();
+    }
+}
