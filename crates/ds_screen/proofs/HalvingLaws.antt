@@ -1,5 +1,5 @@
 -- Searching a rising list by halving, and how many looks that takes.
-use Rattle.std.proofs.Common.{◌≡◌, ◌≢◌, ℕ, zero, suc, ◌+◌, ◌-◌, ◌*◌, ◌/◌, ◌^◌, ◌<◌, ◌≤◌, true, false, List, length, get_or, Option, Some, None, refl, sym, ◌∙◌, ap, subst, arith, inl, inr}
+use Rattle.std.proofs.Common.{◌≡◌, ◌≢◌, ℕ, zero, suc, ◌+◌, ◌-◌, ◌*◌, ◌^◌, ◌<◌, ◌≤◌, true, false, List, length, get_or, Option, Some, None, refl, sym, ◌∙◌, ap, arith, inl, inr}
 use Rattle.std.specs.Option.{IfSome}
 use Rattle.std.proofs.Math.Nat.{pow-suc, mul-le-mul_left}
 use Rattle.std.proofs.Math.Pow.{pow_mono}
@@ -8,10 +8,10 @@ use Rattle.std.proofs.lemmas.List.{get_or_default}
 use Rattle.ds_codec.specs.declared.cell.Cell.{Cell}
 use Rattle.ds_codec.specs.declared.cell.Cell.TheVariants.{Field, Char}
 use Rattle.ds_places.specs.Places.{at_place, IsRising}
-use Rattle.ds_places.specs.Nearest.{IsLastBelow, IsFirstFrom}
+use Rattle.ds_places.specs.Nearest.{IsFirstFrom}
 use Rattle.ds_places.proofs.ListLaws.{rises_order, at_none, at_held}
 use Rattle.ds_screen.specs.Ring.{ring_on, ring_back}
-use Rattle.ds_screen.specs.Picture.{blank, cell_at}
+use Rattle.ds_screen.specs.Picture.{cell_at}
 use Rattle.ds_screen.specs.Fields.{is_attribute, attribute_before, attribute_from}
 use Rattle.ds_screen.specs.Planes.{itself, spot_of, IsIndex}
 use Rattle.ds_screen.proofs.RingLaws.{back_cases, on_inside, on_round, on_cases}

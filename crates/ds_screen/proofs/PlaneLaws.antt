@@ -1,18 +1,15 @@
 -- Cells in two planes, and the index of their attributes.
-use Rattle.std.proofs.Common.{◌≡◌, ◌≢◌, ℕ, zero, suc, ◌+◌, ◌-◌, ◌<◌, ◌≤◌, Bool, true, false, cond, eqb, List, [], ◌∷◌, length, replicate, get_or, set, Option, Some, None, refl, sym, ◌∙◌, ap, arith, inl, inr, get_or-set_same, get_or-set_other}
-use Rattle.std.specs.Option.{option_map}
-use Rattle.std.proofs.lemmas.Bool.{cond-true, cond-false, cases_lt, cases_eq, cases_Bool, eq-eqb, ne_eqb, eqb-true, ltb-true}
-use Rattle.std.proofs.lemmas.List.{get_or-replicate, length-replicate, length-set, get_or_past, get_or_default}
+use Rattle.std.proofs.Common.{◌≡◌, ℕ, ◌<◌, true, cond, eqb, List, [], length, replicate, get_or, set, refl, sym, ◌∙◌, ap, arith, inl, inr, get_or-set_same, get_or-set_other}
+use Rattle.std.proofs.lemmas.Bool.{cond-true, cond-false, cases_eq, eq-eqb, ne_eqb}
+use Rattle.std.proofs.lemmas.List.{get_or-replicate, length-replicate, length-set, get_or_default}
 use Rattle.ds_codec.specs.declared.cell.Cell.{Cell}
-use Rattle.ds_codec.specs.declared.cell.Cell.TheVariants.{Field, Char}
 use Rattle.ds_codec.specs.Character.{is_text}
-use Rattle.ds_places.specs.Places.{at_place, IsRising, IsWithin}
-use Rattle.ds_places.specs.Nearest.{IsFirstFrom}
+use Rattle.ds_places.specs.Places.{IsWithin}
 use Rattle.ds_screen.specs.declared.stored.Kind.{Kind}
 use Rattle.ds_screen.specs.declared.stored.Kind.TheVariants.{Attribute, Plain, Alternate}
 use Rattle.ds_screen.specs.Picture.{blank, cell_at, ruled}
 use Rattle.ds_screen.specs.Fields.{is_attribute}
-use Rattle.ds_screen.specs.Planes.{stored_cell, is_storable, plane_cell, plane_cells, ArePlanes, Held, held_cells, itself, spot_of, spot_if, IsIndex}
+use Rattle.ds_screen.specs.Planes.{stored_cell, is_storable, plane_cell, plane_cells, ArePlanes, Held, held_cells, itself, spot_of, IsIndex}
 use Rattle.ds_screen.proofs.RuledLaws.{length-ruled, cell_at-ruled, as_ruled, ruled_same, set-ruled}
 use Rattle.ds_screen.proofs.MarkLaws.{past_blank}
 

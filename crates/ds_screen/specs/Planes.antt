@@ -7,7 +7,6 @@ use Rattle.ds_codec.specs.Character.{is_text, is_graphic, glyph}
 use Rattle.ds_places.specs.Places.{at_place, IsRising}
 use Rattle.ds_screen.specs.declared.stored.Kind.{Kind}
 use Rattle.ds_screen.specs.declared.stored.Kind.TheVariants.{Attribute, Plain, Alternate}
-use Rattle.ds_screen.specs.declared.stored.Stored.{Stored}
 use Rattle.ds_screen.specs.Picture.{cell_at, ruled}
 
 -- the cell that a kind and a code stand for

@@ -1,4 +1,4 @@
-use Rattle.std.proofs.Common.{◌≡◌, ◌+◌, ◌-◌, ◌≤◌, ◌<◌, ℕ, length, get_or, Some, sym, ◌∙◌, ap, arith}
+use Rattle.std.proofs.Common.{◌≡◌, get_or, Some, ◌∙◌, ap, arith}
 use Rattle.ds_screen.proofs.HalvingLaws.{before_empty, before_ahead, before_round}
 use Rattle.ds_screen.proofs.counted.attr_before_counted.Goals as goal
 use Rattle.ds_screen.proofs.counted.attr_before_counted.Goals.{then-before-eq0, else-before-eq0}

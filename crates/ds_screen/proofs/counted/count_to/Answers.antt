@@ -1,4 +1,4 @@
-use Rattle.std.proofs.Common.{◌≡◌, ◌<◌, ◌+◌, ◌-◌, ◌*◌, ◌/◌, ◌^◌, ◌≤◌, ℕ, length, get_or, refl, sym, ◌∙◌, ap, arith}
+use Rattle.std.proofs.Common.{◌≡◌, ◌<◌, ◌+◌, ◌-◌, ◌*◌, ◌/◌, ◌^◌, ◌≤◌, length, get_or, refl, ◌∙◌, ap, arith}
 use Rattle.ds_screen.proofs.HalvingLaws.{halved, looks_left, early_to, late_from}
 use Rattle.ds_screen.proofs.counted.count_to.Goals as goal
 

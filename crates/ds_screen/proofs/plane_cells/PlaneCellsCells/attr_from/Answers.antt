@@ -1,4 +1,4 @@
-use Rattle.std.proofs.Common.{◌≡◌, ◌<◌, length, Some, None, sym, ◌∙◌, ap, subst}
+use Rattle.std.proofs.Common.{Some, None, subst}
 use Rattle.ds_places.specs.Nearest.{IsFirstFrom}
 use Rattle.ds_screen.specs.Planes.{Held, itself, IsIndex}
 use Rattle.ds_screen.proofs.HalvingLaws.{from_ahead, from_again}

@@ -1,4 +1,4 @@
-use Rattle.std.proofs.Common.{◌≡◌, ◌-◌, ◌≤◌, length, ap, arith}
+use Rattle.std.proofs.Common.{◌-◌, ◌≤◌, length, ap, arith}
 use Rattle.ds_places.proofs.ListLaws.{few}
 use Rattle.ds_screen.specs.Planes.{Held, itself}
 use Rattle.ds_screen.proofs.PlaneLaws.{index_within}

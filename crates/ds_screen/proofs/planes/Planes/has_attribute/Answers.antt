@@ -1,4 +1,4 @@
-use Rattle.std.proofs.Common.{◌≡◌, true, sym, ◌∙◌, ap, arith, refl}
+use Rattle.std.proofs.Common.{◌∙◌, ap, arith}
 use Rattle.ds_screen.specs.Fields.{is_attribute}
 use Rattle.ds_screen.proofs.PlaneLaws.{counted, seen_at, attribute_at}
 use Rattle.ds_screen.proofs.planes.Planes.has_attribute.Goals as goal

@@ -1,5 +1,4 @@
-use Rattle.std.proofs.Common.{◌≡◌, ◌<◌, List, length, set, sym, ◌∙◌, ap, arith}
-use Rattle.ds_codec.specs.declared.cell.Cell.{Cell}
+use Rattle.std.proofs.Common.{◌<◌, length, set, ◌∙◌, ap, arith}
 use Rattle.ds_screen.specs.Planes.{Held, plane_cells}
 use Rattle.ds_screen.proofs.PlaneLaws.{counted, planes_set}
 use Rattle.ds_screen.proofs.planes.Planes.put.Goals as goal

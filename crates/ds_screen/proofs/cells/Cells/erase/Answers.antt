@@ -9,12 +9,12 @@ use Rattle.ds_screen.proofs.RingLaws.{on-zero}
 use Rattle.ds_screen.proofs.RuledLaws.{walk_none, walk_step, walk_sees, length_walked, place_more, place_before}
 use Rattle.ds_screen.proofs.FieldLaws.{ruling_more}
 use Rattle.ds_screen.proofs.EraseLaws.{nulled_open, erase_done}
-use Rattle.ds_screen.proofs.ranges.erase.Goals as goal
-use Rattle.ds_screen.proofs.ranges.erase.Goals.{then-is_open_cell, else-is_open_cell}
+use Rattle.ds_screen.proofs.cells.Cells.erase.Goals as goal
+use Rattle.ds_screen.proofs.cells.Cells.erase.Goals.{then-is_open_cell, else-is_open_cell}
 
 pub steps-init : goal.steps-init
 steps-init g c =
-    let old : List Cell = g.C.Cells.content c.args.cells.now in
+    let old : List Cell = g.Self.Cells.content c.args.self.now in
     record {
       stored = walk_none old c.args.b (nulled_open old);
       whole = refl;
@@ -32,9 +32,9 @@ put-requires g c = omega (arith, c.steps.invariant.whole, c.steps.invariant.insi
 
 pub steps-preserved : goal.steps-preserved
 steps-preserved g c =
-    let old : List Cell = g.C.Cells.content c.args.cells.now in
-    let now : List Cell = g.C.Cells.content c.steps.cells in
-    let after : List Cell = g.C.Cells.content c.if-is_open_cell.cells in
+    let old : List Cell = g.Self.Cells.content c.args.self.now in
+    let now : List Cell = g.Self.Cells.content c.steps.self in
+    let after : List Cell = g.Self.Cells.content c.if-is_open_cell.self in
     let at : ℕ = c.steps.at in
     let few : c.steps.steps < length old = omega (arith, c.reach-steps-end.ensures.within, c.len-n.ensures, c.steps-test.true) in
     let reads : c.cell-cell.result ≡ cell_at old at =
@@ -46,8 +46,8 @@ steps-preserved g c =
     c.is_open_cell.ensures ∙ ap (λ x. is_open_under x c.cell-cell.result) bits ∙ ap (is_open_under (ruling_bits old at)) reads in
     let writes : after ≡ cond c.is_open_cell.result (set now at blank) now =
     elim c.if-is_open_cell.branch [
-      | then-is_open_cell w ↦ ap g.C.Cells.content w.cells-is ∙ w.put.ensures.stored ∙ ap (λ x. set now at (Char x)) w.null.ensures ∙ sym (cond-true c.is_open_cell.result _ _ w.if-is_open_cell.true)
-      | else-is_open_cell w ↦ ap g.C.Cells.content w.cells-is ∙ sym (cond-false c.is_open_cell.result _ _ w.if-is_open_cell.false)
+      | then-is_open_cell w ↦ ap g.Self.Cells.content w.self-is ∙ w.put.ensures.stored ∙ ap (λ x. set now at (Char x)) w.null.ensures ∙ sym (cond-true c.is_open_cell.result _ _ w.if-is_open_cell.true)
+      | else-is_open_cell w ↦ ap g.Self.Cells.content w.self-is ∙ sym (cond-false c.is_open_cell.result _ _ w.if-is_open_cell.false)
     ] in
     let stored = walk_step old c.args.b c.steps.steps at (nulled_open old) c.is_open_cell.result blank now after c.requires.inside few
     c.steps.invariant.at c.steps.invariant.stored (ap (λ t. cond t blank (cell_at old at)) (sym opens)) writes in
@@ -59,14 +59,14 @@ steps-preserved g c =
       inside = omega (arith, c.next-at.ensures.inside, c.len-n.ensures);
       ruled_by = bits ∙ ap (ruling_bits old) (sym (place_before (length old) c.len-n.result at c.next-at.result c.steps.invariant.inside c.len-n.ensures c.next-at.ensures.on));
       room = elim c.if-is_open_cell.branch [
-        | then-is_open_cell w ↦ ap g.C.Cells.capacity w.cells-is ∙ w.put.ensures.room ∙ c.steps.invariant.room
-        | else-is_open_cell w ↦ ap g.C.Cells.capacity w.cells-is ∙ c.steps.invariant.room
+        | then-is_open_cell w ↦ ap g.Self.Cells.capacity w.self-is ∙ w.put.ensures.room ∙ c.steps.invariant.room
+        | else-is_open_cell w ↦ ap g.Self.Cells.capacity w.self-is ∙ c.steps.invariant.room
       ];
     }
 
 pub returns-clause-stored : goal.returns-clause-stored
 returns-clause-stored g c =
-    let old : List Cell = g.C.Cells.content c.args.cells.now in
+    let old : List Cell = g.Self.Cells.content c.args.self.now in
     let all : c.reach-steps-end.result ≡ c.steps.steps = omega arith in
     c.steps.invariant.stored
     ∙ erase_done old c.args.b c.args.stop c.steps.steps c.requires.inside

@@ -7,11 +7,11 @@ use Rattle.ds_screen.specs.Ring.{ring_on}
 use Rattle.ds_screen.specs.Picture.{ruled}
 use Rattle.ds_screen.proofs.RuledLaws.{length-ruled}
 use Rattle.ds_screen.proofs.RunLaws.{run_cell, run_none, run_step, run_all, list_all_true, mod_next}
-use Rattle.ds_screen.proofs.ranges.put_run.Goals as goal
+use Rattle.ds_screen.proofs.cells.Cells.put_text.Goals as goal
 
 pub bytes-init : goal.bytes-init
 bytes-init g c =
-    let old : List Cell = g.C.Cells.content c.args.cells.now in
+    let old : List Cell = g.Self.Cells.content c.args.self.now in
     record {
       stored = run_none old c.args.b c.args.run.now;
       whole = refl;
@@ -25,7 +25,7 @@ put-requires g c = omega (arith, c.bytes.invariant.whole, c.bytes.invariant.insi
 
 pub bytes-preserved : goal.bytes-preserved
 bytes-preserved g c =
-    let old : List Cell = g.C.Cells.content c.args.cells.now in
+    let old : List Cell = g.Self.Cells.content c.args.self.now in
     let run : List ℕ = c.args.run.now in
     let k : ℕ = c.bytes.byte-index in
     let some : 0 < length old = omega (arith, c.requires.inside) in
@@ -33,8 +33,8 @@ bytes-preserved g c =
     let made : Some c.unwrap-character.result ≡ Some (glyph (get_or run k 0) false) =
     sym c.unwrap-character.ensures ∙ c.new.ensures ∙ cond-true (is_text (get_or run k 0)) _ _ known in
     let character : c.unwrap-character.result ≡ glyph (get_or run k 0) false = cc in
-    let stored : g.C.Cells.content c.put.new.self ≡ ruled (length old) (run_cell old c.args.b run (k + 1)) =
-    run_step old c.args.b run k c.bytes.at (g.C.Cells.content c.bytes.cells) (g.C.Cells.content c.put.new.self) c.unwrap-character.result some
+    let stored : g.Self.Cells.content c.put.new.self ≡ ruled (length old) (run_cell old c.args.b run (k + 1)) =
+    run_step old c.args.b run k c.bytes.at (g.Self.Cells.content c.bytes.self) (g.Self.Cells.content c.put.new.self) c.unwrap-character.result some
     c.bytes.invariant.at c.bytes.invariant.stored character c.put.ensures.stored in
     record {
       stored = stored;
@@ -47,6 +47,6 @@ bytes-preserved g c =
 
 pub returns-clause-stored : goal.returns-clause-stored
 returns-clause-stored g c =
-    let old : List Cell = g.C.Cells.content c.args.cells.now in
+    let old : List Cell = g.Self.Cells.content c.args.self.now in
     let all : c.bytes.byte-index ≡ length c.args.run.now = omega arith in
     c.bytes.invariant.stored ∙ ap (λ k. ruled (length old) (run_cell old c.args.b c.args.run.now k)) all ∙ run_all old c.args.b c.args.run.now

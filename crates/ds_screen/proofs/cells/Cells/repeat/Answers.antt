@@ -5,11 +5,11 @@ use Rattle.ds_screen.specs.Ring.{ring_distance}
 use Rattle.ds_screen.proofs.RingLaws.{on-zero}
 use Rattle.ds_screen.proofs.RuledLaws.{walk_none, walk_step, length_walked, place_more}
 use Rattle.ds_screen.proofs.EraseLaws.{repeat_done}
-use Rattle.ds_screen.proofs.ranges.repeat.Goals as goal
+use Rattle.ds_screen.proofs.cells.Cells.repeat.Goals as goal
 
 pub steps-init : goal.steps-init
 steps-init g c =
-    let old : List Cell = g.C.Cells.content c.args.cells.now in
+    let old : List Cell = g.Self.Cells.content c.args.self.now in
     record {
       stored = walk_none old c.args.b (λ p. Char c.args.character);
       whole = refl;
@@ -23,9 +23,9 @@ put-requires g c = omega (arith, c.steps.invariant.whole, c.steps.invariant.insi
 
 pub steps-preserved : goal.steps-preserved
 steps-preserved g c =
-    let old : List Cell = g.C.Cells.content c.args.cells.now in
-    let now : List Cell = g.C.Cells.content c.steps.cells in
-    let after : List Cell = g.C.Cells.content c.put.new.self in
+    let old : List Cell = g.Self.Cells.content c.args.self.now in
+    let now : List Cell = g.Self.Cells.content c.steps.self in
+    let after : List Cell = g.Self.Cells.content c.put.new.self in
     let at : ℕ = c.steps.at in
     let few : c.steps.steps < length old = omega (arith, c.reach-steps-end.ensures.within, c.len-n.ensures, c.steps-test.true) in
     let stored = walk_step old c.args.b c.steps.steps at (λ p. Char c.args.character) true (Char c.args.character) now after c.requires.inside few
@@ -40,7 +40,7 @@ steps-preserved g c =
 
 pub returns-clause-stored : goal.returns-clause-stored
 returns-clause-stored g c =
-    let old : List Cell = g.C.Cells.content c.args.cells.now in
+    let old : List Cell = g.Self.Cells.content c.args.self.now in
     let all : c.reach-steps-end.result ≡ c.steps.steps = omega arith in
     c.steps.invariant.stored
     ∙ repeat_done old c.args.b c.args.stop c.steps.steps c.args.character c.requires.inside
