@@ -82,10 +82,10 @@ none_held index cells q listed none = no_spot q (cell_at cells q) (sym (listed.e
     no_spot q (Char c) e = refl
 
 -- nothing between two neighbours of the index
-gap : (index : List ℕ) (cells : List Cell) (q : ℕ) → IsIndex index cells → ((k : ℕ) → k < length index → get_or index k 0 ≢ q) → is_attribute (cell_at cells q) ≡ false
+pub gap : (index : List ℕ) (cells : List Cell) (q : ℕ) → IsIndex index cells → ((k : ℕ) → k < length index → get_or index k 0 ≢ q) → is_attribute (cell_at cells q) ≡ false
 gap index cells q listed apart = none_held index cells q listed (at_none itself index q (λ k d lt same. apart k lt (get_or_default index k 0 d lt ∙ same)))
 
-here_held : (index : List ℕ) (cells : List Cell) (k : ℕ) → IsIndex index cells → k < length index → (is_attribute (cell_at cells (get_or index k 0)) ≡ true) × (get_or index k 0 < length cells)
+pub here_held : (index : List ℕ) (cells : List Cell) (k : ℕ) → IsIndex index cells → k < length index → (is_attribute (cell_at cells (get_or index k 0)) ≡ true) × (get_or index k 0 < length cells)
 here_held index cells k listed lt =
     let found = held_attribute index cells (get_or index k 0) (get_or index k 0) listed (at_held itself 0 index listed.rising k 0 lt) in
     (found.0, found.2)

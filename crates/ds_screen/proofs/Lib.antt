@@ -19,4 +19,5 @@ pub mod OutlineLaws
 pub mod OutlineFieldLaws
 pub mod PlaneLaws
 pub mod HalvingLaws
+pub mod IndexLaws
 pub mod Rows

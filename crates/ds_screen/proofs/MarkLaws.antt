@@ -368,7 +368,7 @@ after_text n b k inside =
     ∙ ap (λ x. x % n) (omega arith) ∙ mod-add-mod k n b ∙ ap (λ x. x % n) (omega arith)
 
 -- ---- the first attribute that doesn't protect
-not_unprotected : (c : Cell) → is_attribute c ≡ false → is_unprotected_attribute c ≡ false
+pub not_unprotected : (c : Cell) → is_attribute c ≡ false → is_unprotected_attribute c ≡ false
 not_unprotected (Field bits) none = absurd cc
 not_unprotected (Char c) none = refl
 

@@ -1,15 +1,18 @@
 -- Cells in two planes, and the index of their attributes.
-use Rattle.std.proofs.Common.{◌≡◌, ℕ, ◌<◌, true, cond, eqb, List, [], length, replicate, get_or, set, refl, sym, ◌∙◌, ap, arith, inl, inr, get_or-set_same, get_or-set_other}
-use Rattle.std.proofs.lemmas.Bool.{cond-true, cond-false, cases_eq, eq-eqb, ne_eqb}
+use Rattle.std.proofs.Common.{◌≡◌, ◌≢◌, ℕ, ◌+◌, ◌<◌, ◌≤◌, ◌&&◌, ◌++◌, Bool, true, false, cond, eqb, leb, ltb, List, [], length, take, drop, replicate, get_or, set, refl, sym, ◌∙◌, ap, arith, inl, inr, get_or-set_same, get_or-set_other}
+use Rattle.std.proofs.lemmas.Bool.{cond-true, cond-false, cases_eq, cases_lt, eq-eqb, ne_eqb, lt-ltb, le-ltb, le-leb, lt-leb}
 use Rattle.std.proofs.lemmas.List.{get_or-replicate, length-replicate, length-set, get_or_default}
+use Rattle.std.proofs.lemmas.List.{take_all, drop_all}
+use mathlib.Core.List.{append-nil}
 use Rattle.ds_codec.specs.declared.cell.Cell.{Cell}
-use Rattle.ds_codec.specs.Character.{is_text}
+use Rattle.ds_codec.specs.declared.cell.Cell.TheVariants.{Field, Char}
+use Rattle.ds_codec.specs.Character.{Glyph, is_text}
 use Rattle.ds_places.specs.Places.{IsWithin}
 use Rattle.ds_screen.specs.declared.stored.Kind.{Kind}
 use Rattle.ds_screen.specs.declared.stored.Kind.TheVariants.{Attribute, Plain, Alternate}
 use Rattle.ds_screen.specs.Picture.{blank, cell_at, ruled}
 use Rattle.ds_screen.specs.Fields.{is_attribute}
-use Rattle.ds_screen.specs.Planes.{stored_cell, is_storable, plane_cell, plane_cells, ArePlanes, Held, held_cells, itself, spot_of, IsIndex}
+use Rattle.ds_screen.specs.Planes.{stored_cell, is_storable, plane_cell, plane_cells, ArePlanes, Held, held_cells, filled_cell, itself, spot_of, IsIndex}
 use Rattle.ds_screen.proofs.RuledLaws.{length-ruled, cell_at-ruled, as_ruled, ruled_same, set-ruled}
 use Rattle.ds_screen.proofs.MarkLaws.{past_blank}
 
@@ -124,3 +127,79 @@ attribute_at codes kinds p kind planes lt is_kind =
 -- ---- the index
 pub index_within : (index : List ℕ) (cells : List Cell) → IsIndex index cells → IsWithin itself (length cells) index
 index_within index cells listed q far = listed.each q ∙ ap (spot_of q) (past_blank cells q far)
+
+-- ---- a part that is filled
+both_ends : (from i p : ℕ) → from ≤ i → p ≢ i → (leb from p && ltb p (i + 1)) ≡ (leb from p && ltb p i)
+both_ends from i p order apart =
+    elim (cases_lt p i) [
+      | inl less ↦ ap (λ t. leb from p && t) (lt-ltb p (i + 1) (omega arith) ∙ sym (lt-ltb p i less))
+      | inr more ↦ ap (λ t. leb from p && t) (le-ltb p (i + 1) (omega arith) ∙ sym (le-ltb p i more))
+    ]
+
+pub part_none : {T : Type 0} (xs : List T) (from : ℕ) (x : T) (p : ℕ) (d : T) → get_or xs p d ≡ cond (leb from p && ltb p from) x (get_or xs p d)
+part_none xs from x p d =
+    elim (cases_lt p from) [
+      | inl less ↦ sym (ap (λ t. cond (t && ltb p from) x (get_or xs p d)) (lt-leb from p less))
+      | inr more ↦
+          sym (ap (λ t. cond (t && ltb p from) x (get_or xs p d)) (le-leb from p more)
+          ∙ ap (λ t. cond t x (get_or xs p d)) (le-ltb p from more))
+    ]
+
+pub part_more : {T : Type 0} (old now : List T) (from i : ℕ) (x : T) → from ≤ i → i < length now
+    → ((p : ℕ) (d : T) → get_or now p d ≡ cond (leb from p && ltb p i) x (get_or old p d))
+    → (p : ℕ) (d : T) → get_or (set now i x) p d ≡ cond (leb from p && ltb p (i + 1)) x (get_or old p d)
+part_more old now from i x order lt so p d =
+    elim (cases_eq p i) [
+      | inl same ↦
+          ap (λ k. get_or (set now i x) k d) same ∙ get_or-set_same now i x d lt
+          ∙ sym (ap (λ t. cond (t && ltb p (i + 1)) x (get_or old p d)) (le-leb from p (omega (arith, same)))
+          ∙ ap (λ t. cond t x (get_or old p d)) (lt-ltb p (i + 1) (omega (arith, same))))
+      | inr apart ↦
+          get_or-set_other now i p x d apart ∙ so p d ∙ ap (λ t. cond t x (get_or old p d)) (sym (both_ends from i p order apart))
+    ]
+
+-- a plane that was lent whole and given back
+pub given_back : {T : Type 0} (old now : List T) (n : ℕ) → n ≡ length old → length now ≡ length old → take n (now ++ drop (length now) old) ≡ now
+given_back old now n len same =
+    ap (λ k. take n (now ++ drop k old)) same ∙ ap (λ l. take n (now ++ l)) (drop_all (length old) old (omega arith)) ∙ ap (take n) (append-nil now) ∙ ap (λ k. take k now) (len ∙ sym same) ∙ take_all (length now) now (omega arith)
+
+-- what holds of the planes once a part of both is filled
+pub filled_each : (codes kinds_codes : List ℕ) (kinds now_kinds : List Kind) (from to code p : ℕ) (kind : Kind) (c : Glyph) → stored_cell kind code ≡ Char c
+    → ((q : ℕ) (d : ℕ) → get_or kinds_codes q d ≡ cond (leb from q && ltb q to) code (get_or codes q d))
+    → ((q : ℕ) (d : Kind) → get_or now_kinds q d ≡ cond (leb from q && ltb q to) kind (get_or kinds q d))
+    → plane_cell kinds_codes now_kinds p ≡ cond (leb from p && ltb p to) (Char c) (plane_cell codes kinds p)
+filled_each codes now_codes kinds now_kinds from to code p kind c is in_codes in_kinds =
+    ap (λ k. stored_cell k (get_or now_codes p 0)) (in_kinds p Plain)
+    ∙ ap (stored_cell (cond (leb from p && ltb p to) kind (get_or kinds p Plain))) (in_codes p 0)
+    ∙ split (leb from p && ltb p to)
+  where
+    split : (t : Bool) → stored_cell (cond t kind (get_or kinds p Plain)) (cond t code (get_or codes p 0)) ≡ cond t (Char c) (plane_cell codes kinds p)
+    split true = is
+    split false = refl
+
+pub filled_storable : (codes now_codes : List ℕ) (kinds now_kinds : List Kind) (from to code : ℕ) (kind : Kind) → ArePlanes codes kinds → is_storable kind code ≡ true
+    → length now_codes ≡ length codes → length now_kinds ≡ length kinds
+    → ((q : ℕ) (d : ℕ) → get_or now_codes q d ≡ cond (leb from q && ltb q to) code (get_or codes q d))
+    → ((q : ℕ) (d : Kind) → get_or now_kinds q d ≡ cond (leb from q && ltb q to) kind (get_or kinds q d)) → ArePlanes now_codes now_kinds
+filled_storable codes now_codes kinds now_kinds from to code kind planes good len_codes len_kinds in_codes in_kinds =
+    record {
+      same = len_kinds ∙ planes.same ∙ sym len_codes;
+      each = λ p lt.
+          ap (λ k. is_storable k (get_or now_codes p 0)) (in_kinds p Plain)
+          ∙ ap (is_storable (cond (leb from p && ltb p to) kind (get_or kinds p Plain))) (in_codes p 0)
+          ∙ split p (leb from p && ltb p to) (omega (arith, len_codes));
+    }
+  where
+    split : (p : ℕ) (t : Bool) → p < length codes → is_storable (cond t kind (get_or kinds p Plain)) (cond t code (get_or codes p 0)) ≡ true
+    split p true lt = good
+    split p false lt = planes.each p lt
+
+pub planes_filled : (codes now_codes : List ℕ) (kinds now_kinds : List Kind) (from to code : ℕ) (kind : Kind) (c : Glyph) → stored_cell kind code ≡ Char c
+    → length now_codes ≡ length codes
+    → ((q : ℕ) (d : ℕ) → get_or now_codes q d ≡ cond (leb from q && ltb q to) code (get_or codes q d))
+    → ((q : ℕ) (d : Kind) → get_or now_kinds q d ≡ cond (leb from q && ltb q to) kind (get_or kinds q d))
+    → plane_cells now_codes now_kinds ≡ ruled (length (plane_cells codes kinds)) (filled_cell (plane_cells codes kinds) from to c)
+planes_filled codes now_codes kinds now_kinds from to code kind c is len in_codes in_kinds =
+    planes_as now_codes now_kinds (length (plane_cells codes kinds)) (filled_cell (plane_cells codes kinds) from to c) (len ∙ sym (length-planes codes kinds))
+    (λ p lt. filled_each codes now_codes kinds now_kinds from to code p kind c is in_codes in_kinds
+    ∙ ap (cond (leb from p && ltb p to) (Char c)) (sym (cell_at-planes codes kinds p (omega (arith, length-planes codes kinds)))))

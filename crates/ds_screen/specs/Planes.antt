@@ -1,9 +1,9 @@
 -- For the code's own proofs: public contracts rest on this file alone for which places an index holds.
 -- Cells kept in two planes, and the places of their attributes in rising order.
-use Rattle.std.specs.Prelude.{◌≡◌, ℕ, ◌<◌, Bool, true, false, nat_lt, List, length, Option, Some, None, slice_index_or}
+use Rattle.std.specs.Prelude.{◌≡◌, ℕ, ◌<◌, Bool, true, false, ◌&&◌, nat_lt, nat_le, if◌then◌else◌, List, length, Option, Some, None, slice_index_or}
 use Rattle.ds_codec.specs.declared.cell.Cell.{Cell}
 use Rattle.ds_codec.specs.declared.cell.Cell.TheVariants.{Field, Char}
-use Rattle.ds_codec.specs.Character.{is_text, is_graphic, glyph}
+use Rattle.ds_codec.specs.Character.{Glyph, is_text, is_graphic, glyph}
 use Rattle.ds_places.specs.Places.{at_place, IsRising}
 use Rattle.ds_screen.specs.declared.stored.Kind.{Kind}
 use Rattle.ds_screen.specs.declared.stored.Kind.TheVariants.{Attribute, Plain, Alternate}
@@ -40,6 +40,10 @@ pub record Held : Type 0 where
 
 abbrev pub held_cells : List ℕ → List Kind → ℕ → Held
 held_cells codes kinds room = record { cells = plane_cells codes kinds; room = room }
+
+-- the positions from one up to another hold a character, the others what they held
+abbrev pub filled_cell : List Cell → ℕ → ℕ → Glyph → ℕ → Cell
+filled_cell cells from to character p = if nat_le from p && nat_lt p to then Char character else cell_at cells p
 
 abbrev pub itself : ℕ → ℕ
 itself p = p

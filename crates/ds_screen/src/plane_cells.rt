@@ -1,15 +1,22 @@
 //! A buffer kept in planes, with a sorted index of its attributes.
 
-ghost use Rattle.std.specs.Prelude.{◌≡◌, ◌≤◌, ◌<◌, ℕ, ◌==◌, if◌then◌else◌, vec_capacity};
-ghost use Rattle.ds_places.specs.Places.{IsRising, IsWithin, at_place};
-ghost use Rattle.ds_screen.specs.Planes.{itself, spot_if};
+ghost use Rattle.std.specs.Prelude.{◌≡◌, ◌≤◌, ◌<◌, ℕ, ◌==◌, if◌then◌else◌, length, vec_capacity};
+ghost use Rattle.ds_codec.specs.declared.cell.Cell.{Cell};
+ghost use Rattle.ds_places.specs.Places.{IsRising, IsWithin, at_place, is_round};
+ghost use Rattle.ds_screen.specs.Picture.{cell_at, ruled};
+ghost use Rattle.ds_screen.specs.Reset.{after_reset};
+ghost use Rattle.ds_screen.specs.Planes.{itself, spot_if, IsIndex};
 
 use crate::cells::Cells;
 use crate::counted::attr_before_counted;
 use crate::planes::Planes;
 use crate::probed::Probed;
-use ds_codec::Cell;
-use ds_places::{cut, first_from, store};
+use crate::ranges::reach;
+use crate::records::{Reset, reset_cell};
+use crate::ring::next;
+use crate::tab::is_unprotected_field;
+use ds_codec::{Cell, Char};
+use ds_places::{cut, cut_round, first_from, rank, store};
 use std::alloc::{AllocError, Global};
 use std::marker::Model;
 
@@ -49,6 +56,34 @@ fn note(index: &mut Vec<u32>, places: u32, p: u32, was: bool, is: bool)
         store(index, places, p);
     } else if was && !is {
         cut(index, p, p + 1);
+    }
+}
+
+/// Stores a character in so many positions from one on, round the buffer.
+fn fill_round(planes: &mut Planes, b: u32, steps: u32, character: Char)
+    requires inside { b < length planes.old.cells }
+    requires few { steps ≤ length planes.old.cells }
+    ensures filled { planes.new ≡ record planes.old { cells = ruled (length planes.old.cells)
+        (λ p. if is_round (length planes.old.cells) b steps p then Cell.Char character else cell_at planes.old.cells p) } }
+{
+    let left = planes.len() - b;
+    if steps <= left {
+        planes.fill(b, b + steps, character);
+    } else {
+        planes.fill(b, b + left, character);
+        planes.fill(0, steps - left, character);
+    }
+}
+
+/// Resets the modified data tags of the attributes that are listed.
+fn reset_listed(planes: &mut Planes, index: &[u32], which: Reset)
+    requires { IsIndex index.now planes.old.cells }
+    ensures reset { planes.new ≡ record planes.old { cells = ruled (length planes.old.cells)
+        (λ p. after_reset which (cell_at planes.old.cells p)) } }
+{
+    'listed: for i in 0..index.len() {
+        let cell = reset_cell(which, &planes.cell(index[i]));
+        planes.put(index[i], cell);
     }
 }
 
@@ -114,5 +149,35 @@ impl Cells for PlaneCells {
             .extend_from_slice(other.index.as_slice())
             .unwrap();
         self.planes.copy_from(&other.planes);
+    }
+
+    fn repeat(&mut self, b: u32, stop: u32, character: Char) {
+        let n = self.planes.len();
+        let steps = reach(n, b, stop);
+        fill_round(&mut self.planes, b, steps, character);
+        cut_round(&mut self.index, n, b, steps);
+    }
+
+    fn null_to_attribute(&mut self, b: u32) -> u32 {
+        let n = self.planes.len();
+        let stop = first_from(&self.index, b).unwrap_or(n);
+        self.planes.fill(b, stop, Char::null());
+        stop
+    }
+
+    fn stop_from(&self, from: u32) -> u32 {
+        let n = self.planes.len();
+        let start = rank(&self.index, from);
+        'stops: for i in start..self.index.len() {
+            let q = self.index[i];
+            if is_unprotected_field(self.planes.cell(q)) {
+                return next(n, q);
+            }
+        }
+        0
+    }
+
+    fn reset_modified(&mut self, which: Reset) {
+        reset_listed(&mut self.planes, &self.index, which);
     }
 }

@@ -1,7 +1,9 @@
 //! The cells of a buffer in two planes: a code for each position, and what the code is.
 
-use crate::stored::{Kind, Stored, cell_of, cell_stored};
-use ds_codec::Cell;
+ghost use Rattle.std.specs.Prelude.{◌≡◌, ◌≤◌, ◌&&◌, ℕ, length, slice_index_or, nat_le, nat_lt, if◌then◌else◌};
+
+use crate::stored::{Kind, Stored, cell_of, cell_stored, character_stored};
+use ds_codec::{Cell, Char};
 use std::alloc::{AllocError, Global};
 use std::marker::Model;
 
@@ -27,10 +29,24 @@ impl Model for Planes {
         × (s.limit ≤ vec_capacity s.kinds) };
 }
 
+/// Stores a value from one index up to another.
+fn fill_part<T: Copy>(items: &mut [T], from: usize, to: usize, value: T)
+    requires order { from ≤ to }
+    requires inside { to ≤ length items.old }
+    ensures each { (p : ℕ) (d : T) → slice_index_or items.new p d
+        ≡ (if nat_le from p && nat_lt p to then value else slice_index_or items.old p d) }
+    ensures whole { length items.new ≡ length items.old }
+{
+    'indexes: for i in from..to {
+        items[i] = value;
+    }
+}
+
 impl Planes {
     ghost use Rattle.std.specs.Prelude.{◌≡◌, ◌≤◌, ◌<◌, [], IfOk, length, replicate, slice_set};
-    ghost use Rattle.ds_screen.specs.Picture.{blank, cell_at};
+    ghost use Rattle.ds_screen.specs.Picture.{blank, cell_at, ruled};
     ghost use Rattle.ds_screen.specs.Fields.{is_attribute};
+    ghost use Rattle.ds_screen.specs.Planes.{filled_cell};
 
     /// No position, and room for as many as this.
     pub(crate) fn reserved(alloc: Global, most: u32) -> Result<Planes, AllocError>
@@ -94,6 +110,18 @@ impl Planes {
         let stored = cell_stored(cell);
         self.codes[p as usize] = stored.code;
         self.kinds[p as usize] = stored.kind;
+    }
+
+    /// Stores a character in each position from one up to another.
+    pub(crate) fn fill(&mut self, from: u32, to: u32, character: Char)
+        requires order { from ≤ to }
+        requires inside { to ≤ length self.old.cells }
+        ensures filled { self.new ≡ record self.old { cells = ruled (length self.old.cells)
+            (filled_cell self.old.cells from to character) } }
+    {
+        let stored = character_stored(character);
+        fill_part(&mut self.codes, from as usize, to as usize, stored.code);
+        fill_part(&mut self.kinds, from as usize, to as usize, stored.kind);
     }
 
     /// Makes the cells those of other planes.
