@@ -1,27 +1,31 @@
 -- What is done to the cells of planes, and to the index of their attributes.
-use Rattle.std.proofs.Common.{◌≡◌, ◌≢◌, ℕ, zero, suc, ◌+◌, ◌-◌, ◌<◌, ◌≤◌, ◌&&◌, ◌||◌, Bool, true, false, cond, eqb, leb, ltb, List, [], ◌∷◌, length, get_or, set, Option, Some, None, refl, sym, ◌∙◌, ap, subst, arith, inl, inr, get_or-set_same, get_or-set_other}
-use Rattle.std.specs.Option.{unwrap_or}
-use Rattle.std.proofs.lemmas.Bool.{cond-true, cond-false, cases_Bool, cases_lt, cases_eq, eqb-true, ne_eqb, leb-true, ltb-true, lt-ltb, le-ltb, le-leb, lt-leb}
-use Rattle.std.proofs.lemmas.List.{length-set}
+use Rattle.std.proofs.Common.{◌≡◌, ℕ, zero, suc, ◌+◌, ◌-◌, ◌%◌, min, ◌<◌, ◌≤◌, ◌&&◌, ◌||◌, Bool, true, false, cond, eqb, leb, ltb, List, [], ◌∷◌, length, get_or, set, Option, Some, None, refl, sym, ◌∙◌, ap, subst, arith, inl, inr, get_or-set_same, get_or-set_other}
+use Rattle.std.specs.Option.{unwrap_or, option_map}
+use Rattle.std.proofs.Math.Nat.{mod-add-mod, mod-eq_of_lt, mod_self}
+use Rattle.std.proofs.lemmas.Bool.{cond-true, cond-false, cases_Bool, cases_lt, cases_eq, eqb-true, eq-eqb, ne_eqb, leb-true, ltb-true, lt-ltb, le-ltb, le-leb, lt-leb}
 use Rattle.ds_codec.specs.declared.cell.Cell.{Cell}
 use Rattle.ds_codec.specs.declared.cell.Cell.TheVariants.{Field, Char}
-use Rattle.ds_codec.specs.Character.{Glyph, null}
-use Rattle.ds_places.specs.Places.{at_place, RisesFrom, IsRising, IsWithin, is_round}
+use Rattle.ds_codec.specs.Character.{Glyph, glyph, null}
+use Rattle.ds_places.specs.Places.{at_place, IsRising, IsWithin, is_round}
 use Rattle.ds_places.specs.Nearest.{IsFirstFrom}
 use Rattle.ds_places.proofs.ListLaws.{rises_order}
 use Rattle.ds_places.proofs.SearchLaws.{Parts}
 use Rattle.ds_screen.specs.declared.records.Reset.{Reset}
 use Rattle.ds_screen.specs.declared.records.Reset.TheVariants.{Every, Unprotected}
-use Rattle.ds_screen.specs.Ring.{ring_on, ring_distance}
+use Rattle.ds_screen.specs.declared.mark.Mark.{Mark}
+use Rattle.ds_screen.specs.Ring.{ring_on, ring_distance, greatest}
 use Rattle.ds_screen.specs.Picture.{blank, cell_at, ruled}
 use Rattle.ds_screen.specs.Fields.{is_attribute}
-use Rattle.ds_screen.specs.Orders.{repeated_cell, nulled_cell, is_reached, first_from, is_unprotected_attribute, behind, tab_stop}
+use Rattle.ds_screen.specs.Orders.{byte_cell, text_cell, repeated_cell, nulled_cell, is_reached, first_from, is_unprotected_attribute, behind, tab_stop}
 use Rattle.ds_screen.specs.Reset.{after_reset}
-use Rattle.ds_screen.specs.Planes.{filled_cell, itself, spot_of, IsIndex}
+use Rattle.ds_screen.specs.Marks.{mark_of}
+use Rattle.ds_screen.specs.Planes.{filled_cell, written_cell, itself, spot_of, IsIndex}
 use Rattle.ds_screen.proofs.RuledLaws.{length-ruled, cell_at-ruled, ruled_same, as_ruled}
 use Rattle.ds_screen.proofs.TabLaws.{first_hit, first_miss}
 use Rattle.ds_screen.proofs.EraseLaws.{reaches}
-use Rattle.ds_screen.proofs.MarkLaws.{past_blank, round_distance, not_unprotected}
+use Rattle.ds_screen.proofs.MarkLaws.{past_blank, round_distance, not_unprotected, text_each}
+use Rattle.ds_screen.proofs.RunLaws.{run_cell, greatest_hit, greatest_miss}
+use Rattle.ds_screen.proofs.PlaneLaws.{both_ends}
 use Rattle.ds_screen.proofs.HalvingLaws.{held_attribute, none_held, gap, here_held}
 
 -- ---- an index of cells that a rule says
@@ -327,3 +331,80 @@ round_both cells b steps left c inside few is some =
       | inl lt ↦ lt-ltb p (steps - left) lt ∙ sym (lt-ltb (p + length cells) (b + steps) (omega arith))
       | inr ge ↦ le-ltb p (steps - left) ge ∙ sym (le-ltb (p + length cells) (b + steps) (omega arith))
     ]
+
+-- ---- a part of a run
+mod_part : (n x at c : ℕ) → at ≡ x % n → at + c < n → (x + c) % n ≡ at + c
+mod_part n x at c is lt = sym (mod-add-mod x n c) ∙ ap (λ r. (r + c) % n) (sym is) ∙ mod-eq_of_lt lt
+
+pub run_part : (cells : List Cell) (b : ℕ) (run : List ℕ) (k at count p : ℕ) → at ≡ (b + k) % length cells → at + count ≤ length cells
+    → cond (leb at p && ltb p (at + count)) (Char (glyph (get_or run (k + (p - at)) 0) false)) (run_cell cells b run k p) ≡ run_cell cells b run (k + count) p
+run_part cells b run k at zero p is fits =
+    let x : Cell = Char (glyph (get_or run (k + (p - at)) 0) false) in
+    let none : at + 0 ≡ at = omega arith in
+    let same : k ≡ k + 0 = omega arith in
+    ap (λ e. cond (leb at p && ltb p e) x (run_cell cells b run k p)) none ∙ nothing at p x (run_cell cells b run k p) ∙ ap (λ j. run_cell cells b run j p) same
+  where
+    nothing : (at p : ℕ) (x y : Cell) → cond (leb at p && ltb p at) x y ≡ y
+    nothing at p x y = elim (cases_lt p at) [
+      | inl less ↦ ap (λ t. cond (t && ltb p at) x y) (lt-leb at p less)
+      | inr more ↦ ap (λ t. cond (t && ltb p at) x y) (le-leb at p more) ∙ ap (λ t. cond t x y) (le-ltb p at more)
+    ]
+run_part cells b run k at (suc c) p is fits =
+    let n : ℕ = length cells in
+    let x : Cell = Char (glyph (get_or run (k + (p - at)) 0) false) in
+    let falls : (b + (k + c)) % n ≡ at + c = ap (λ y. y % n) (omega arith) ∙ mod_part n (b + k) at c is (omega arith) in
+    let more : k + suc c ≡ k + c + 1 = omega arith in
+    let next : at + suc c ≡ at + c + 1 = omega arith in
+    elim (cases_eq p (at + c)) [
+      | inl same ↦
+          let there : k + (p - at) ≡ k + c = omega (arith, same) in
+          ap (λ t. cond (t && ltb p (at + suc c)) x (run_cell cells b run k p)) (le-leb at p (omega (arith, same)))
+          ∙ ap (λ t. cond t x (run_cell cells b run k p)) (lt-ltb p (at + suc c) (omega (arith, same)))
+          ∙ ap (λ j. Char (glyph (get_or run j 0) false)) there
+          ∙ sym (ap (byte_cell cells run p) (ap (λ j. greatest j (λ i. eqb ((b + i) % n) p)) more
+          ∙ greatest_hit (k + c) (λ i. eqb ((b + i) % n) p) (eq-eqb _ _ (falls ∙ sym same))))
+      | inr apart ↦
+          ap (λ t. cond t x (run_cell cells b run k p)) (ap (λ e. leb at p && ltb p e) next ∙ both_ends at (at + c) p (omega arith) apart)
+          ∙ run_part cells b run k at c p is (omega arith)
+          ∙ sym (ap (byte_cell cells run p) (ap (λ j. greatest j (λ i. eqb ((b + i) % n) p)) more
+          ∙ greatest_miss (k + c) (λ i. eqb ((b + i) % n) p) (ne_eqb _ _ (λ same. apart (sym (sym falls ∙ same))))))
+    ]
+
+pub part_written : (cells now : List Cell) (b : ℕ) (run : List ℕ) (done at count : ℕ) → now ≡ ruled (length cells) (run_cell cells b run done) → at ≡ (b + done) % length cells → at + count ≤ length cells
+    → ruled (length now) (written_cell now at run done count) ≡ ruled (length cells) (run_cell cells b run (done + count))
+part_written cells now b run done at count stored is fits =
+    let n : ℕ = length cells in
+    let first : List Cell = ruled n (run_cell cells b run done) in
+    ap (λ l. ruled (length l) (written_cell l at run done count)) stored
+    ∙ ap (λ m. ruled m (written_cell first at run done count)) (length-ruled n (run_cell cells b run done))
+    ∙ ruled_same n (written_cell first at run done count) (run_cell cells b run (done + count))
+    (λ p lt. ap (cond (leb at p && ltb p (at + count)) (Char (glyph (get_or run (done + (p - at)) 0) false))) (cell_at-ruled n (run_cell cells b run done) p lt)
+    ∙ run_part cells b run done at count p is fits)
+
+-- where the next part begins
+pub part_next : (n b done at count : ℕ) → at ≡ (b + done) % n → at + count < n → at + count ≡ (b + (done + count)) % n
+part_next n b done at count is lt = sym (ap (λ x. x % n) (omega arith) ∙ mod_part n (b + done) at count is lt)
+
+pub part_round : (n b done at count : ℕ) → 0 < n → at ≡ (b + done) % n → at + count ≡ n → 0 ≡ (b + (done + count)) % n
+part_round n b done at count some is full =
+    sym (ap (λ x. x % n) (omega arith) ∙ sym (mod-add-mod (b + done) n count) ∙ ap (λ r. (r + count) % n) (sym is) ∙ ap (λ x. x % n) full ∙ mod_self n)
+
+-- ---- text overwrites attributes
+spot_of_mark : (q : ℕ) (c : Cell) → option_map (λ (m : Mark). m.at) (mark_of q c) ≡ spot_of q c
+spot_of_mark q (Field bits) = refl
+spot_of_mark q (Char c) = refl
+
+spot_cut : (t : Bool) (q : ℕ) (c : Cell) → option_map (λ (m : Mark). m.at) (cond t None (mark_of q c)) ≡ cond t None (spot_of q c)
+spot_cut true q c = refl
+spot_cut false q c = spot_of_mark q c
+
+pub text_listed : (index now : List ℕ) (cells : List Cell) (n b steps : ℕ) (run : List ℕ) → IsIndex index cells → n ≡ length cells → b < n → steps ≡ min (length run) n
+    → IsRising itself now → IsWithin itself n now → ((q : ℕ) → at_place itself now q ≡ cond (is_round n b steps q) None (at_place itself index q))
+    → IsIndex now (ruled (length cells) (text_cell cells b run))
+text_listed index now cells n b steps run listed len inside is rising within cut =
+    listed_ruled now (length cells) (text_cell cells b run) rising (subst (λ m. IsWithin itself m now) len within)
+    (λ p lt. cut p ∙ ap (λ m. cond (is_round m b steps p) None (at_place itself index p)) len ∙ ap (cond (is_round (length cells) b steps p) None) (listed.each p)
+    ∙ sym (spot_cut (is_round (length cells) b steps p) p (cell_at cells p))
+    ∙ ap (option_map (λ (m : Mark). m.at)) (text_each cells b run steps p (omega (arith, len)) lt (omega (arith, len)) (omega arith)
+    (elim (cases_lt (length run) n) [ inl less ↦ inl (omega arith) | inr more ↦ inr (omega (arith, len)) ]))
+    ∙ spot_of_mark p (text_cell cells b run p))

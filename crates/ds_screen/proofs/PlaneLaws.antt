@@ -1,19 +1,21 @@
 -- Cells in two planes, and the index of their attributes.
-use Rattle.std.proofs.Common.{◌≡◌, ◌≢◌, ℕ, ◌+◌, ◌<◌, ◌≤◌, ◌&&◌, ◌++◌, Bool, true, false, cond, eqb, leb, ltb, List, [], length, take, drop, replicate, get_or, set, refl, sym, ◌∙◌, ap, arith, inl, inr, get_or-set_same, get_or-set_other}
-use Rattle.std.proofs.lemmas.Bool.{cond-true, cond-false, cases_eq, cases_lt, eq-eqb, ne_eqb, lt-ltb, le-ltb, le-leb, lt-leb}
+use Rattle.std.proofs.Common.{◌≡◌, ◌≢◌, ℕ, ◌+◌, ◌-◌, ◌<◌, ◌≤◌, ◌&&◌, ◌++◌, Bool, true, false, cond, eqb, leb, ltb, List, [], length, take, drop, replicate, get_or, set, refl, sym, ◌∙◌, ap, arith, inl, inr, get_or-set_same, get_or-set_other}
+use Rattle.std.proofs.lemmas.Bool.{cond-true, cond-false, cases_eq, cases_lt, eq-eqb, ne_eqb, lt-ltb, le-ltb, le-leb, lt-leb, leb-true, ltb-true}
 use Rattle.std.proofs.lemmas.List.{get_or-replicate, length-replicate, length-set, get_or_default}
+use Rattle.std.specs.List.{list_all}
 use Rattle.std.proofs.lemmas.List.{take_all, drop_all}
 use mathlib.Core.List.{append-nil}
 use Rattle.ds_codec.specs.declared.cell.Cell.{Cell}
-use Rattle.ds_codec.specs.declared.cell.Cell.TheVariants.{Field, Char}
-use Rattle.ds_codec.specs.Character.{Glyph, is_text}
+use Rattle.ds_codec.specs.declared.cell.Cell.TheVariants.{Char}
+use Rattle.ds_codec.specs.Character.{Glyph, glyph, is_text}
 use Rattle.ds_places.specs.Places.{IsWithin}
 use Rattle.ds_screen.specs.declared.stored.Kind.{Kind}
 use Rattle.ds_screen.specs.declared.stored.Kind.TheVariants.{Attribute, Plain, Alternate}
 use Rattle.ds_screen.specs.Picture.{blank, cell_at, ruled}
 use Rattle.ds_screen.specs.Fields.{is_attribute}
-use Rattle.ds_screen.specs.Planes.{stored_cell, is_storable, plane_cell, plane_cells, ArePlanes, Held, held_cells, filled_cell, itself, spot_of, IsIndex}
+use Rattle.ds_screen.specs.Planes.{stored_cell, is_storable, plane_cell, plane_cells, ArePlanes, Held, held_cells, filled_cell, written_cell, itself, spot_of, IsIndex}
 use Rattle.ds_screen.proofs.RuledLaws.{length-ruled, cell_at-ruled, as_ruled, ruled_same, set-ruled}
+use Rattle.ds_screen.proofs.RunLaws.{list_all_true}
 use Rattle.ds_screen.proofs.MarkLaws.{past_blank}
 
 -- ---- the cells of the planes
@@ -129,7 +131,7 @@ pub index_within : (index : List ℕ) (cells : List Cell) → IsIndex index cell
 index_within index cells listed q far = listed.each q ∙ ap (spot_of q) (past_blank cells q far)
 
 -- ---- a part that is filled
-both_ends : (from i p : ℕ) → from ≤ i → p ≢ i → (leb from p && ltb p (i + 1)) ≡ (leb from p && ltb p i)
+pub both_ends : (from i p : ℕ) → from ≤ i → p ≢ i → (leb from p && ltb p (i + 1)) ≡ (leb from p && ltb p i)
 both_ends from i p order apart =
     elim (cases_lt p i) [
       | inl less ↦ ap (λ t. leb from p && t) (lt-ltb p (i + 1) (omega arith) ∙ sym (lt-ltb p i less))
@@ -203,3 +205,72 @@ planes_filled codes now_codes kinds now_kinds from to code kind c is len in_code
     planes_as now_codes now_kinds (length (plane_cells codes kinds)) (filled_cell (plane_cells codes kinds) from to c) (len ∙ sym (length-planes codes kinds))
     (λ p lt. filled_each codes now_codes kinds now_kinds from to code p kind c is in_codes in_kinds
     ∙ ap (cond (leb from p && ltb p to) (Char c)) (sym (cell_at-planes codes kinds p (omega (arith, length-planes codes kinds)))))
+
+-- ---- a part that is copied
+pub copied_none : (xs run : List ℕ) (at from p d : ℕ) → get_or xs p d ≡ cond (leb at p && ltb p (at + 0)) (get_or run (from + (p - at)) 0) (get_or xs p d)
+copied_none xs run at from p d =
+    let none : at + 0 ≡ at = omega arith in
+    part_none xs at (get_or run (from + (p - at)) 0) p d ∙ ap (λ e. cond (leb at p && ltb p e) (get_or run (from + (p - at)) 0) (get_or xs p d)) (sym none)
+
+pub copied_more : (old now run : List ℕ) (at from i : ℕ) → at + i < length now
+    → ((p d : ℕ) → get_or now p d ≡ cond (leb at p && ltb p (at + i)) (get_or run (from + (p - at)) 0) (get_or old p d))
+    → (p d : ℕ) → get_or (set now (at + i) (get_or run (from + i) 0)) p d ≡ cond (leb at p && ltb p (at + (i + 1))) (get_or run (from + (p - at)) 0) (get_or old p d)
+copied_more old now run at from i lt so p d =
+    let x : ℕ = get_or run (from + i) 0 in
+    let y : ℕ = get_or run (from + (p - at)) 0 in
+    let next : at + (i + 1) ≡ at + i + 1 = omega arith in
+    elim (cases_eq p (at + i)) [
+      | inl same ↦
+          let there : i ≡ p - at = omega (arith, same) in
+          ap (λ k. get_or (set now (at + i) x) k d) same ∙ get_or-set_same now (at + i) x d lt ∙ ap (λ k. get_or run (from + k) 0) there
+          ∙ sym (ap (λ t. cond (t && ltb p (at + (i + 1))) y (get_or old p d)) (le-leb at p (omega (arith, same)))
+          ∙ ap (λ t. cond t y (get_or old p d)) (lt-ltb p (at + (i + 1)) (omega (arith, same))))
+      | inr apart ↦
+          get_or-set_other now (at + i) p x d apart ∙ so p d
+          ∙ ap (λ t. cond t y (get_or old p d)) (sym (both_ends at (at + i) p (omega arith) apart) ∙ ap (λ e. leb at p && ltb p e) (sym next))
+    ]
+
+pub written_each : (codes now_codes run : List ℕ) (kinds now_kinds : List Kind) (at from count p : ℕ)
+    → ((q d : ℕ) → get_or now_codes q d ≡ cond (leb at q && ltb q (at + count)) (get_or run (from + (q - at)) 0) (get_or codes q d))
+    → ((q : ℕ) (d : Kind) → get_or now_kinds q d ≡ cond (leb at q && ltb q (at + count)) Plain (get_or kinds q d))
+    → plane_cell now_codes now_kinds p ≡ cond (leb at p && ltb p (at + count)) (Char (glyph (get_or run (from + (p - at)) 0) false)) (plane_cell codes kinds p)
+written_each codes now_codes run kinds now_kinds at from count p in_codes in_kinds =
+    ap (λ k. stored_cell k (get_or now_codes p 0)) (in_kinds p Plain)
+    ∙ ap (stored_cell (cond (leb at p && ltb p (at + count)) Plain (get_or kinds p Plain))) (in_codes p 0)
+    ∙ split (leb at p && ltb p (at + count))
+  where
+    split : (t : Bool) → stored_cell (cond t Plain (get_or kinds p Plain)) (cond t (get_or run (from + (p - at)) 0) (get_or codes p 0))
+        ≡ cond t (Char (glyph (get_or run (from + (p - at)) 0) false)) (plane_cell codes kinds p)
+    split true = refl
+    split false = refl
+
+pub written_storable : (codes now_codes run : List ℕ) (kinds now_kinds : List Kind) (at from count : ℕ) → ArePlanes codes kinds → list_all is_text run ≡ true → from + count ≤ length run
+    → length now_codes ≡ length codes → length now_kinds ≡ length kinds
+    → ((q d : ℕ) → get_or now_codes q d ≡ cond (leb at q && ltb q (at + count)) (get_or run (from + (q - at)) 0) (get_or codes q d))
+    → ((q : ℕ) (d : Kind) → get_or now_kinds q d ≡ cond (leb at q && ltb q (at + count)) Plain (get_or kinds q d)) → ArePlanes now_codes now_kinds
+written_storable codes now_codes run kinds now_kinds at from count planes text few len_codes len_kinds in_codes in_kinds =
+    record {
+      same = len_kinds ∙ planes.same ∙ sym len_codes;
+      each = λ p lt.
+          ap (λ k. is_storable k (get_or now_codes p 0)) (in_kinds p Plain)
+          ∙ ap (is_storable (cond (leb at p && ltb p (at + count)) Plain (get_or kinds p Plain))) (in_codes p 0)
+          ∙ split p (leb at p) (ltb p (at + count)) (omega (arith, len_codes)) (λ low. leb-true at p low) (λ high. ltb-true p (at + count) high);
+    }
+  where
+    split : (p : ℕ) (t u : Bool) → p < length codes → (t ≡ true → at ≤ p) → (u ≡ true → p < at + count)
+        → is_storable (cond (t && u) Plain (get_or kinds p Plain)) (cond (t && u) (get_or run (from + (p - at)) 0) (get_or codes p 0)) ≡ true
+    split p true true lt low high =
+        let l = low refl in
+        let h = high refl in
+        list_all_true is_text run (from + (p - at)) 0 text (omega (arith, l, h, few))
+    split p true false lt low high = planes.each p lt
+    split p false u lt low high = planes.each p lt
+
+pub planes_written : (codes now_codes run : List ℕ) (kinds now_kinds : List Kind) (at from count : ℕ) → length now_codes ≡ length codes
+    → ((q d : ℕ) → get_or now_codes q d ≡ cond (leb at q && ltb q (at + count)) (get_or run (from + (q - at)) 0) (get_or codes q d))
+    → ((q : ℕ) (d : Kind) → get_or now_kinds q d ≡ cond (leb at q && ltb q (at + count)) Plain (get_or kinds q d))
+    → plane_cells now_codes now_kinds ≡ ruled (length (plane_cells codes kinds)) (written_cell (plane_cells codes kinds) at run from count)
+planes_written codes now_codes run kinds now_kinds at from count len in_codes in_kinds =
+    planes_as now_codes now_kinds (length (plane_cells codes kinds)) (written_cell (plane_cells codes kinds) at run from count) (len ∙ sym (length-planes codes kinds))
+    (λ p lt. written_each codes now_codes run kinds now_kinds at from count p in_codes in_kinds
+    ∙ ap (cond (leb at p && ltb p (at + count)) (Char (glyph (get_or run (from + (p - at)) 0) false))) (sym (cell_at-planes codes kinds p (omega (arith, length-planes codes kinds)))))

@@ -1,6 +1,6 @@
 -- For the code's own proofs: public contracts rest on this file alone for which places an index holds.
 -- Cells kept in two planes, and the places of their attributes in rising order.
-use Rattle.std.specs.Prelude.{◌≡◌, ℕ, ◌<◌, Bool, true, false, ◌&&◌, nat_lt, nat_le, if◌then◌else◌, List, length, Option, Some, None, slice_index_or}
+use Rattle.std.specs.Prelude.{◌≡◌, ℕ, ◌<◌, ◌+◌, ◌-◌, Bool, true, false, ◌&&◌, nat_lt, nat_le, if◌then◌else◌, List, length, Option, Some, None, slice_index_or, slice_index}
 use Rattle.ds_codec.specs.declared.cell.Cell.{Cell}
 use Rattle.ds_codec.specs.declared.cell.Cell.TheVariants.{Field, Char}
 use Rattle.ds_codec.specs.Character.{Glyph, is_text, is_graphic, glyph}
@@ -44,6 +44,11 @@ held_cells codes kinds room = record { cells = plane_cells codes kinds; room = r
 -- the positions from one up to another hold a character, the others what they held
 abbrev pub filled_cell : List Cell → ℕ → ℕ → Glyph → ℕ → Cell
 filled_cell cells from to character p = if nat_le from p && nat_lt p to then Char character else cell_at cells p
+
+-- so many positions hold the characters of a run's bytes, the others what they held
+abbrev pub written_cell : List Cell → ℕ → List ℕ → ℕ → ℕ → ℕ → Cell
+written_cell cells at run from count p =
+    if nat_le at p && nat_lt p (at + count) then Char (glyph (slice_index run (from + (p - at))) false) else cell_at cells p
 
 abbrev pub itself : ℕ → ℕ
 itself p = p

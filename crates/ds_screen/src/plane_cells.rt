@@ -1,9 +1,12 @@
 //! A buffer kept in planes, with a sorted index of its attributes.
 
-ghost use Rattle.std.specs.Prelude.{◌≡◌, ◌≤◌, ◌<◌, ℕ, ◌==◌, if◌then◌else◌, length, vec_capacity};
+ghost use Rattle.std.specs.Prelude.{◌≡◌, ◌≤◌, ◌<◌, ◌+◌, ◌%◌, ℕ, ◌==◌, true, if◌then◌else◌, length, vec_capacity};
+ghost use Rattle.std.specs.List.{list_all};
 ghost use Rattle.ds_codec.specs.declared.cell.Cell.{Cell};
+ghost use Rattle.ds_codec.specs.Character.{is_text};
 ghost use Rattle.ds_places.specs.Places.{IsRising, IsWithin, at_place, is_round};
 ghost use Rattle.ds_screen.specs.Picture.{cell_at, ruled};
+ghost use Rattle.ds_screen.specs.Orders.{text_cell};
 ghost use Rattle.ds_screen.specs.Reset.{after_reset};
 ghost use Rattle.ds_screen.specs.Planes.{itself, spot_if, IsIndex};
 
@@ -63,8 +66,10 @@ fn note(index: &mut Vec<u32>, places: u32, p: u32, was: bool, is: bool)
 fn fill_round(planes: &mut Planes, b: u32, steps: u32, character: Char)
     requires inside { b < length planes.old.cells }
     requires few { steps ≤ length planes.old.cells }
-    ensures filled { planes.new ≡ record planes.old { cells = ruled (length planes.old.cells)
-        (λ p. if is_round (length planes.old.cells) b steps p then Cell.Char character else cell_at planes.old.cells p) } }
+    ensures filled { planes.new ≡ record planes.old {
+      cells = ruled (length planes.old.cells)
+          (λ p. if is_round (length planes.old.cells) b steps p then Cell.Char character else cell_at planes.old.cells p);
+    } }
 {
     let left = planes.len() - b;
     if steps <= left {
@@ -75,11 +80,36 @@ fn fill_round(planes: &mut Planes, b: u32, steps: u32, character: Char)
     }
 }
 
+/// Stores a run of text round the buffer, and gives the position after it.
+fn write_round(planes: &mut Planes, b: u32, run: &[u8]) -> u32
+    requires inside { b < length planes.old.cells }
+    requires characters { list_all is_text run.now ≡ true }
+    ensures written { planes.new ≡ record planes.old {
+      cells = ruled (length planes.old.cells)
+          (text_cell planes.old.cells b run.now);
+    } }
+    ensures after { result ≡ (b + length run.now) % length planes.old.cells }
+    ensures inside { result < length planes.old.cells }
+{
+    let n = planes.len();
+    let mut at = b;
+    let mut done = 0;
+    'parts: while done < run.len() {
+        let count = (run.len() - done).min((n - at) as usize) as u32;
+        planes.write(at, run, done, count);
+        done += count as usize;
+        at = if at + count < n { at + count } else { 0 };
+    }
+    at
+}
+
 /// Resets the modified data tags of the attributes that are listed.
 fn reset_listed(planes: &mut Planes, index: &[u32], which: Reset)
     requires { IsIndex index.now planes.old.cells }
-    ensures reset { planes.new ≡ record planes.old { cells = ruled (length planes.old.cells)
-        (λ p. after_reset which (cell_at planes.old.cells p)) } }
+    ensures reset { planes.new ≡ record planes.old {
+      cells = ruled (length planes.old.cells)
+          (λ p. after_reset which (cell_at planes.old.cells p));
+    } }
 {
     'listed: for i in 0..index.len() {
         let cell = reset_cell(which, &planes.cell(index[i]));
@@ -149,6 +179,13 @@ impl Cells for PlaneCells {
             .extend_from_slice(other.index.as_slice())
             .unwrap();
         self.planes.copy_from(&other.planes);
+    }
+
+    fn put_text(&mut self, b: u32, run: &[u8]) -> u32 {
+        let n = self.planes.len();
+        let steps = run.len().min(n as usize) as u32;
+        cut_round(&mut self.index, n, b, steps);
+        write_round(&mut self.planes, b, run)
     }
 
     fn repeat(&mut self, b: u32, stop: u32, character: Char) {

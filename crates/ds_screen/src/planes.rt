@@ -1,6 +1,6 @@
 //! The cells of a buffer in two planes: a code for each position, and what the code is.
 
-ghost use Rattle.std.specs.Prelude.{◌≡◌, ◌≤◌, ◌&&◌, ℕ, length, slice_index_or, nat_le, nat_lt, if◌then◌else◌};
+ghost use Rattle.std.specs.Prelude.{◌≡◌, ◌≤◌, ◌+◌, ◌-◌, ◌&&◌, ℕ, length, slice_index, slice_index_or, nat_le, nat_lt, if◌then◌else◌};
 
 use crate::stored::{Kind, Stored, cell_of, cell_stored, character_stored};
 use ds_codec::{Cell, Char};
@@ -42,11 +42,26 @@ fn fill_part<T: Copy>(items: &mut [T], from: usize, to: usize, value: T)
     }
 }
 
+/// Stores so many bytes of a run, from one of its indexes on, in order.
+fn copy_part(items: &mut [u8], at: usize, run: &[u8], from: usize, count: usize)
+    requires inside { at + count ≤ length items.old }
+    requires within { from + count ≤ length run.now }
+    ensures each { (p : ℕ) (d : ℕ) → slice_index_or items.new p d
+        ≡ (if nat_le at p && nat_lt p (at + count) then slice_index run.now (from + (p - at)) else slice_index_or items.old p d) }
+    ensures whole { length items.new ≡ length items.old }
+{
+    'indexes: for i in 0..count {
+        items[at + i] = run[from + i];
+    }
+}
+
 impl Planes {
-    ghost use Rattle.std.specs.Prelude.{◌≡◌, ◌≤◌, ◌<◌, [], IfOk, length, replicate, slice_set};
+    ghost use Rattle.std.specs.Prelude.{◌≡◌, ◌≤◌, ◌<◌, ◌+◌, [], IfOk, true, length, replicate, slice_set};
     ghost use Rattle.ds_screen.specs.Picture.{blank, cell_at, ruled};
     ghost use Rattle.ds_screen.specs.Fields.{is_attribute};
-    ghost use Rattle.ds_screen.specs.Planes.{filled_cell};
+    ghost use Rattle.std.specs.List.{list_all};
+    ghost use Rattle.ds_codec.specs.Character.{is_text};
+    ghost use Rattle.ds_screen.specs.Planes.{filled_cell, written_cell};
 
     /// No position, and room for as many as this.
     pub(crate) fn reserved(alloc: Global, most: u32) -> Result<Planes, AllocError>
@@ -116,12 +131,33 @@ impl Planes {
     pub(crate) fn fill(&mut self, from: u32, to: u32, character: Char)
         requires order { from ≤ to }
         requires inside { to ≤ length self.old.cells }
-        ensures filled { self.new ≡ record self.old { cells = ruled (length self.old.cells)
-            (filled_cell self.old.cells from to character) } }
+        ensures filled { self.new ≡ record self.old {
+          cells = ruled (length self.old.cells)
+              (filled_cell self.old.cells from to character);
+        } }
     {
         let stored = character_stored(character);
         fill_part(&mut self.codes, from as usize, to as usize, stored.code);
         fill_part(&mut self.kinds, from as usize, to as usize, stored.kind);
+    }
+
+    /// Stores so many characters of a run of text from a position on, never round the end.
+    pub(crate) fn write(&mut self, at: u32, run: &[u8], from: usize, count: u32)
+        requires inside { at + count ≤ length self.old.cells }
+        requires within { from + count ≤ length run.now }
+        requires characters { list_all is_text run.now ≡ true }
+        ensures written { self.new ≡ record self.old {
+          cells = ruled (length self.old.cells)
+              (written_cell self.old.cells at run.now from count);
+        } }
+    {
+        copy_part(&mut self.codes, at as usize, run, from, count as usize);
+        fill_part(
+            &mut self.kinds,
+            at as usize,
+            (at + count) as usize,
+            Kind::Plain,
+        );
     }
 
     /// Makes the cells those of other planes.

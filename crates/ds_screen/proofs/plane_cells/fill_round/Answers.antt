@@ -1,5 +1,4 @@
-use Rattle.std.proofs.Common.{◌≡◌, ◌+◌, ◌-◌, ◌≤◌, ℕ, length, sym, ◌∙◌, ap, arith}
-use Rattle.ds_codec.specs.declared.cell.Cell.TheVariants.{Char}
+use Rattle.std.proofs.Common.{◌≡◌, ◌+◌, ◌-◌, ℕ, length, ◌∙◌, ap, arith}
 use Rattle.ds_screen.specs.Picture.{ruled}
 use Rattle.ds_screen.specs.Planes.{Held, filled_cell}
 use Rattle.ds_screen.proofs.RuledLaws.{length-ruled}
@@ -17,7 +16,9 @@ returns-else-steps-left c =
     let first : Held = record { cells = ruled (length old) (filled_cell old c.args.b (c.args.b + left) c.args.character); room = c.args.planes.now.room } in
     let before : c.fill-else-steps-left.new.self ≡ first = c.fill-else-steps-left.ensures.filled in
     let cells = round_both old c.args.b c.args.steps left c.args.character c.requires.inside c.requires.few (omega (arith, c.len.ensures.count)) (omega (arith, c.if-steps-left.false)) in
-    record { filled =
-      c.fill-else-steps-left-2.ensures.filled
-      ∙ ap (λ (u : Held). let h : Held = record { cells = ruled (length u.cells) (filled_cell u.cells 0 (c.args.steps - left) c.args.character); room = u.room } in h) before
-      ∙ ap (λ l. let h : Held = record { cells = l; room = c.args.planes.now.room } in h) cells }
+    record {
+      filled =
+          c.fill-else-steps-left-2.ensures.filled
+          ∙ ap (λ (u : Held). let h : Held = record { cells = ruled (length u.cells) (filled_cell u.cells 0 (c.args.steps - left) c.args.character); room = u.room } in h) before
+          ∙ ap (λ l. let h : Held = record { cells = l; room = c.args.planes.now.room } in h) cells;
+    }

@@ -3,7 +3,7 @@ use Rattle.std.proofs.lemmas.Bool.{cond-false, le-ltb}
 use Rattle.std.proofs.lemmas.List.{length-set}
 use Rattle.ds_screen.specs.Picture.{cell_at}
 use Rattle.ds_screen.specs.Reset.{after_reset}
-use Rattle.ds_screen.specs.Planes.{Held, IsIndex}
+use Rattle.ds_screen.specs.Planes.{Held}
 use Rattle.ds_screen.specs.Picture.{ruled}
 use Rattle.ds_screen.proofs.HalvingLaws.{here_held}
 use Rattle.ds_screen.proofs.IndexLaws.{bound, reset_below, reset_reads, reset_more, reset_all}
@@ -42,6 +42,8 @@ returns c =
     let end : c.listed.i ≡ length xs = omega (arith, c.listed-test.false, c.listed.auto.i-end) in
     let cells = reset_all xs old c.listed.planes.cells c.args.which c.requires c.listed.invariant.whole
     (λ p lt. c.listed.invariant.each p lt ∙ ap (λ k. reset_below c.args.which old (bound xs k) p) end) in
-    record { reset =
-      ap (λ l. let h : Held = record { cells = l; room = c.listed.planes.room } in h) cells
-      ∙ ap (λ r. let h : Held = record { cells = ruled (length old) (λ p. after_reset c.args.which (cell_at old p)); room = r } in h) c.listed.invariant.room }
+    record {
+      reset =
+          ap (λ l. let h : Held = record { cells = l; room = c.listed.planes.room } in h) cells
+          ∙ ap (λ r. let h : Held = record { cells = ruled (length old) (λ p. after_reset c.args.which (cell_at old p)); room = r } in h) c.listed.invariant.room;
+    }

@@ -1,4 +1,4 @@
-use Rattle.std.proofs.Common.{◌≡◌, ◌&&◌, cond, leb, ltb, get_or, ◌∙◌, ap, arith}
+use Rattle.std.proofs.Common.{◌&&◌, cond, leb, ltb, get_or, ◌∙◌, ap, arith}
 use Rattle.ds_screen.proofs.PlaneLaws.{part_none, part_more}
 use Rattle.ds_screen.proofs.planes.fill_part.Goals as goal
 

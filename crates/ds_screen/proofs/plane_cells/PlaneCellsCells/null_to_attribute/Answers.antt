@@ -1,7 +1,7 @@
-use Rattle.std.proofs.Common.{◌≡◌, ◌≤◌, ◌<◌, ℕ, length, sym, ◌∙◌, ap, subst, arith}
+use Rattle.std.proofs.Common.{length, sym, ◌∙◌, ap, subst, arith}
 use Rattle.std.specs.Option.{unwrap_or}
 use Rattle.ds_places.specs.Nearest.{IsFirstFrom}
-use Rattle.ds_screen.specs.Picture.{cell_at, ruled}
+use Rattle.ds_screen.specs.Picture.{ruled}
 use Rattle.ds_screen.specs.Fields.{is_attribute}
 use Rattle.ds_screen.specs.Orders.{nulled_cell, first_from}
 use Rattle.ds_screen.specs.Planes.{Held, itself, IsIndex, filled_cell}

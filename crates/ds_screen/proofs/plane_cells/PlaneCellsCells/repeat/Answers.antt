@@ -1,4 +1,4 @@
-use Rattle.std.proofs.Common.{◌≡◌, ◌≤◌, ◌<◌, ℕ, length, cond, eqb, refl, sym, ◌∙◌, ap, subst, arith}
+use Rattle.std.proofs.Common.{length, cond, eqb, refl, sym, ◌∙◌, ap, subst, arith}
 use Rattle.ds_codec.specs.declared.cell.Cell.TheVariants.{Char}
 use Rattle.ds_places.specs.Places.{is_round}
 use Rattle.ds_screen.specs.Ring.{ring_distance}

@@ -1,4 +1,4 @@
-use Rattle.std.proofs.Common.{◌≡◌, length, sym, ◌∙◌, ap, subst, arith}
+use Rattle.std.proofs.Common.{length, sym, ◌∙◌, ap, subst, arith}
 use Rattle.ds_screen.specs.Planes.{Held, IsIndex}
 use Rattle.ds_screen.proofs.RuledLaws.{length-ruled}
 use Rattle.ds_screen.proofs.IndexLaws.{reset_index}

@@ -1,4 +1,4 @@
-use Rattle.std.proofs.Common.{◌≡◌, ◌≤◌, ◌<◌, ℕ, true, false, length, get_or, sym, ◌∙◌, ap, subst, arith}
+use Rattle.std.proofs.Common.{◌≡◌, ◌<◌, true, false, length, get_or, sym, ◌∙◌, ap, subst, arith}
 use Rattle.ds_places.proofs.SearchLaws.{Parts}
 use Rattle.std.proofs.lemmas.List.{get_or_default}
 use Rattle.ds_screen.specs.Ring.{ring_on}

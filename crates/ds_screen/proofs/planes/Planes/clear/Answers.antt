@@ -21,6 +21,8 @@ returns c =
     let zeros : c.resize.new.self.items ≡ replicate c.args.n 0 = search rules in
     let plain : c.resize-2.new.self.items ≡ replicate c.args.n Plain = search rules in
     let cells = planes_blank c.resize.new.self.items c.resize-2.new.self.items c.args.n zeros plain in
-    record { nulls =
-      ap (λ l. let h : Held = record { cells = l; room = c.self.inside.limit } in h) cells
-      ∙ ap (λ r. let h : Held = record { cells = replicate c.args.n blank; room = r } in h) (ap (λ (u : Held). u.room) c.self.view_is) }
+    record {
+      nulls =
+          ap (λ l. let h : Held = record { cells = l; room = c.self.inside.limit } in h) cells
+          ∙ ap (λ r. let h : Held = record { cells = replicate c.args.n blank; room = r } in h) (ap (λ (u : Held). u.room) c.self.view_is);
+    }

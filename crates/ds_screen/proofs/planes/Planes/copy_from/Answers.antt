@@ -7,16 +7,31 @@ use Rattle.ds_screen.proofs.planes.Planes.copy_from.Goals as goal
 pub unwrap-requires : goal.unwrap-requires
 unwrap-requires c =
     c.extend_from_slice.ensures.succeeds
-    (omega (arith, counted c.other.inside.codes.items c.other.inside.kinds.items c.other.inside.limit c.args.other.now c.other.view_is,
-    ap length c.as_slice.ensures.value, c.clear.ensures.len, c.clear.ensures.capacity, c.requires, c.self.invariant.2,
-    ap (λ (u : Held). u.room) c.self.view_is))
+    (omega (
+      arith,
+      counted c.other.inside.codes.items c.other.inside.kinds.items c.other.inside.limit c.args.other.now c.other.view_is,
+      ap length c.as_slice.ensures.value,
+      c.clear.ensures.len,
+      c.clear.ensures.capacity,
+      c.requires,
+      c.self.invariant.2,
+      ap (λ (u : Held). u.room) c.self.view_is,
+    ))
 
 pub unwrap-requires-2 : goal.unwrap-requires-2
 unwrap-requires-2 c =
     c.extend_from_slice-2.ensures.succeeds
-    (omega (arith, counted c.other.inside.codes.items c.other.inside.kinds.items c.other.inside.limit c.args.other.now c.other.view_is, c.other.invariant.0.same,
-    ap length c.as_slice-2.ensures.value, c.clear-2.ensures.len, c.clear-2.ensures.capacity, c.requires, c.self.invariant.3,
-    ap (λ (u : Held). u.room) c.self.view_is))
+    (omega (
+      arith,
+      counted c.other.inside.codes.items c.other.inside.kinds.items c.other.inside.limit c.args.other.now c.other.view_is,
+      c.other.invariant.0.same,
+      ap length c.as_slice-2.ensures.value,
+      c.clear-2.ensures.len,
+      c.clear-2.ensures.capacity,
+      c.requires,
+      c.self.invariant.3,
+      ap (λ (u : Held). u.room) c.self.view_is,
+    ))
 
 pub invariant_of-self : goal.invariant_of-self
 invariant_of-self c =

@@ -1,6 +1,4 @@
-use Rattle.std.proofs.Common.{◌≡◌, ℕ, List, length, get_or, cond, ◌&&◌, leb, ltb, take, drop, ◌++◌, sym, ◌∙◌, ap, subst, arith}
-use Rattle.ds_codec.specs.declared.cell.Cell.{Cell}
-use Rattle.ds_screen.specs.declared.stored.Kind.{Kind}
+use Rattle.std.proofs.Common.{◌≡◌, length, get_or, cond, ◌&&◌, leb, ltb, take, drop, ◌++◌, sym, ◌∙◌, ap, subst, arith}
 use Rattle.ds_screen.specs.Picture.{ruled}
 use Rattle.ds_screen.specs.Planes.{Held, ArePlanes, plane_cells, filled_cell}
 use Rattle.ds_screen.proofs.PlaneLaws.{counted, given_back, filled_storable, planes_filled}
@@ -12,8 +10,13 @@ fill_part-requires-clause-inside c =
 
 pub fill_part-requires-2-clause-inside : goal.fill_part-requires-2-clause-inside
 fill_part-requires-2-clause-inside c =
-    omega (arith, c.requires.inside, ap length c.deref_mut-2.ensures.value, c.self.invariant.0.same,
-    counted c.self.inside.codes.items c.self.inside.kinds.items c.self.inside.limit c.args.self.now c.self.view_is)
+    omega (
+      arith,
+      c.requires.inside,
+      ap length c.deref_mut-2.ensures.value,
+      c.self.invariant.0.same,
+      counted c.self.inside.codes.items c.self.inside.kinds.items c.self.inside.limit c.args.self.now c.self.view_is,
+    )
 
 pub invariant_of-self : goal.invariant_of-self
 invariant_of-self c =
@@ -52,7 +55,9 @@ returns c =
     (λ q d. c.fill_part.ensures.each q d ∙ ap (λ l. cond (leb c.args.from q && ltb q c.args.to) c.character_stored-stored.result.code (get_or l q d)) c.deref_mut.ensures.value)
     (λ q d. c.fill_part-2.ensures.each q d ∙ ap (λ l. cond (leb c.args.from q && ltb q c.args.to) c.character_stored-stored.result.kind (get_or l q d)) c.deref_mut-2.ensures.value)
     ∙ ap (λ (u : Held). ruled (length u.cells) (filled_cell u.cells c.args.from c.args.to c.args.character)) c.self.view_is in
-    record { filled =
-      ap (λ l. let h : Held = record { cells = l; room = c.self.inside.limit } in h) cells
-      ∙ ap (λ r. let h : Held = record { cells = ruled (length c.args.self.now.cells) (filled_cell c.args.self.now.cells c.args.from c.args.to c.args.character); room = r } in h)
-      (ap (λ (u : Held). u.room) c.self.view_is) }
+    record {
+      filled =
+          ap (λ l. let h : Held = record { cells = l; room = c.self.inside.limit } in h) cells
+          ∙ ap (λ r. let h : Held = record { cells = ruled (length c.args.self.now.cells) (filled_cell c.args.self.now.cells c.args.from c.args.to c.args.character); room = r } in h)
+          (ap (λ (u : Held). u.room) c.self.view_is);
+    }

@@ -18,6 +18,8 @@ returns c =
     planes_set c.self.inside.codes.items c.self.inside.kinds.items c.args.p c.cell_stored-stored.result.code c.cell_stored-stored.result.kind c.self.invariant.0.same lt
     ∙ ap (set (plane_cells c.self.inside.codes.items c.self.inside.kinds.items) c.args.p) c.cell_stored-stored.ensures.same
     ∙ ap (λ (u : Held). set u.cells c.args.p c.args.cell) c.self.view_is in
-    record { stored =
-      ap (λ l. let h : Held = record { cells = l; room = c.self.inside.limit } in h) cells
-      ∙ ap (λ r. let h : Held = record { cells = set c.args.self.now.cells c.args.p c.args.cell; room = r } in h) (ap (λ (u : Held). u.room) c.self.view_is) }
+    record {
+      stored =
+          ap (λ l. let h : Held = record { cells = l; room = c.self.inside.limit } in h) cells
+          ∙ ap (λ r. let h : Held = record { cells = set c.args.self.now.cells c.args.p c.args.cell; room = r } in h) (ap (λ (u : Held). u.room) c.self.view_is);
+    }
