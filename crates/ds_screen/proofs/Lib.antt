@@ -20,4 +20,5 @@ pub mod OutlineFieldLaws
 pub mod PlaneLaws
 pub mod HalvingLaws
 pub mod IndexLaws
+pub mod StretchLaws
 pub mod Rows

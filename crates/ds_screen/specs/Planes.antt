@@ -7,7 +7,9 @@ use Rattle.ds_codec.specs.Character.{Glyph, is_text, is_graphic, glyph}
 use Rattle.ds_places.specs.Places.{at_place, IsRising}
 use Rattle.ds_screen.specs.declared.stored.Kind.{Kind}
 use Rattle.ds_screen.specs.declared.stored.Kind.TheVariants.{Attribute, Plain, Alternate}
+use Rattle.ds_screen.specs.Ring.{ring_on}
 use Rattle.ds_screen.specs.Picture.{cell_at, ruled}
+use Rattle.ds_screen.specs.Fields.{is_attribute}
 
 -- the cell that a kind and a code stand for
 abbrev pub stored_cell : Kind → ℕ → Cell
@@ -67,6 +69,10 @@ spot_if p false = None
 pub record IsIndex (index : List ℕ) (cells : List Cell) : Type 0 where
   pub rising : IsRising itself index
   pub each : (p : ℕ) → at_place itself index p ≡ spot_of p (cell_at cells p)
+
+-- no attribute stands at so many positions from one on, round the buffer
+abbrev pub HasNone : List Cell → ℕ → ℕ → Type 0
+HasNone cells at steps = (d : ℕ) → d < steps → is_attribute (cell_at cells (ring_on (length cells) at d)) ≡ false
 
 -- an index that is looked at, and how many looks that took
 pub record Probing : Type 0 where

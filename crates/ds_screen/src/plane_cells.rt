@@ -16,9 +16,10 @@ use crate::planes::Planes;
 use crate::probed::Probed;
 use crate::ranges::reach;
 use crate::records::{Reset, reset_cell};
-use crate::ring::next;
+use crate::ring::{distance, forward, next, previous};
+use crate::ruling::ruled_on;
 use crate::tab::is_unprotected_field;
-use ds_codec::{Cell, Char};
+use ds_codec::{Attr, Cell, Char};
 use ds_places::{cut, cut_round, first_from, rank, store};
 use std::alloc::{AllocError, Global};
 use std::marker::Model;
@@ -118,8 +119,11 @@ fn reset_listed(planes: &mut Planes, index: &[u32], which: Reset)
 }
 
 impl PlaneCells {
-    ghost use Rattle.std.specs.Prelude.{◌≡◌};
-    ghost use Rattle.ds_screen.specs.Planes.{IsIndex};
+    ghost use Rattle.std.specs.Prelude.{◌≡◌, ◌<◌, ◌≤◌, true, length};
+    ghost use Rattle.ds_screen.specs.Ring.{ring_on};
+    ghost use Rattle.ds_screen.specs.Picture.{cell_at};
+    ghost use Rattle.ds_screen.specs.Fields.{is_attribute, ruling_bits, first_open};
+    ghost use Rattle.ds_screen.specs.Planes.{IsIndex, HasNone};
 
     /// The index of the attributes, with a count of looks that begins at 0.
     pub fn probed(&self) -> Probed<'_>
@@ -128,6 +132,59 @@ impl PlaneCells {
     {
         let _places = self.planes.len();
         Probed::new(self.index.as_slice())
+    }
+
+    /// The attribute that rules a position; 00, an unprotected one, in a buffer without attributes.
+    fn ruling_at(&self, p: u32) -> Attr
+        requires { p < length self.now.cells }
+        ensures { result ≡ ruling_bits self.now.cells p }
+    {
+        match self.attr_before(p) {
+            Some(q) => ruled_on(Attr::new(0), &self.planes.cell(q)),
+            None => Attr::new(0),
+        }
+    }
+
+    /// How many characters stand from a position on before the next attribute round the buffer, at most so many.
+    fn characters_from(&self, at: u32, most: u32) -> u32
+        requires inside { at < length self.now.cells }
+        requires few { most ≤ length self.now.cells }
+        ensures within { result ≤ most }
+        ensures characters { HasNone self.now.cells at result }
+        ensures ends { result < most → is_attribute
+            (cell_at self.now.cells (ring_on (length self.now.cells) at result)) ≡ true }
+    {
+        match self.attr_from(at) {
+            Some(q) => distance(self.planes.len(), at, q).min(most),
+            None => most,
+        }
+    }
+
+    /// The open position at the least distance going on, `from` itself first; 0 where there is none.
+    fn open_from(&self, from: u32) -> u32
+        requires { from < length self.now.cells }
+        ensures first { result ≡ first_open self.now.cells from }
+        ensures inside { result < length self.now.cells }
+    {
+        let n = self.planes.len();
+        let mut bits = self.ruling_at(previous(n, from));
+        let mut at = from;
+        let mut gone = 0;
+        'runs: while gone < n {
+            let run = self.characters_from(at, n - gone);
+            if 0 < run && !bits.protected() {
+                return at;
+            }
+            gone += run;
+            if gone == n {
+                return 0;
+            }
+            let stop = forward(n, at, run);
+            bits = ruled_on(bits, &self.planes.cell(stop));
+            gone += 1;
+            at = next(n, stop);
+        }
+        0
     }
 }
 
@@ -216,5 +273,9 @@ impl Cells for PlaneCells {
 
     fn reset_modified(&mut self, which: Reset) {
         reset_listed(&mut self.planes, &self.index, which);
+    }
+
+    fn first_open(&self, from: u32) -> u32 {
+        self.open_from(from)
     }
 }
