@@ -7,9 +7,9 @@ use Rattle.ds_codec.specs.Character.{Glyph, is_text, is_graphic, glyph}
 use Rattle.ds_places.specs.Places.{at_place, IsRising}
 use Rattle.ds_screen.specs.declared.stored.Kind.{Kind}
 use Rattle.ds_screen.specs.declared.stored.Kind.TheVariants.{Attribute, Plain, Alternate}
-use Rattle.ds_screen.specs.Ring.{ring_on}
-use Rattle.ds_screen.specs.Picture.{cell_at, ruled}
-use Rattle.ds_screen.specs.Fields.{is_attribute}
+use Rattle.ds_screen.specs.Ring.{ring_on, ring_distance}
+use Rattle.ds_screen.specs.Picture.{blank, cell_at, ruled}
+use Rattle.ds_screen.specs.Fields.{is_attribute, is_open}
 
 -- the cell that a kind and a code stand for
 abbrev pub stored_cell : Kind → ℕ → Cell
@@ -73,6 +73,15 @@ pub record IsIndex (index : List ℕ) (cells : List Cell) : Type 0 where
 -- no attribute stands at so many positions from one on, round the buffer
 abbrev pub HasNone : List Cell → ℕ → ℕ → Type 0
 HasNone cells at steps = (d : ℕ) → d < steps → is_attribute (cell_at cells (ring_on (length cells) at d)) ≡ false
+
+-- where this is asked for, so many positions from one on round the buffer hold nulls, the others what they held
+abbrev pub stretch_cell : List Cell → ℕ → ℕ → Bool → ℕ → Cell
+stretch_cell cells at run asked p = if asked && nat_lt (ring_distance (length cells) at p) run then blank else cell_at cells p
+
+-- what is open of so many positions from one on is nulled
+abbrev pub erased_for : List Cell → ℕ → ℕ → ℕ → Cell
+erased_for cells b steps p =
+    if nat_lt (ring_distance (length cells) b p) steps then (if is_open cells p then blank else cell_at cells p) else cell_at cells p
 
 -- an index that is looked at, and how many looks that took
 pub record Probing : Type 0 where

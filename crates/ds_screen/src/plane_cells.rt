@@ -119,11 +119,12 @@ fn reset_listed(planes: &mut Planes, index: &[u32], which: Reset)
 }
 
 impl PlaneCells {
-    ghost use Rattle.std.specs.Prelude.{◌≡◌, ◌<◌, ◌≤◌, true, length};
+    ghost use Rattle.std.specs.Prelude.{◌≡◌, ◌<◌, ◌≤◌, true, not, length};
+    ghost use Rattle.ds_codec.specs.Attribute.{is_protected};
     ghost use Rattle.ds_screen.specs.Ring.{ring_on};
-    ghost use Rattle.ds_screen.specs.Picture.{cell_at};
+    ghost use Rattle.ds_screen.specs.Picture.{cell_at, ruled};
     ghost use Rattle.ds_screen.specs.Fields.{is_attribute, ruling_bits, first_open};
-    ghost use Rattle.ds_screen.specs.Planes.{IsIndex, HasNone};
+    ghost use Rattle.ds_screen.specs.Planes.{IsIndex, HasNone, stretch_cell, erased_for};
 
     /// The index of the attributes, with a count of looks that begins at 0.
     pub fn probed(&self) -> Probed<'_>
@@ -185,6 +186,44 @@ impl PlaneCells {
             at = next(n, stop);
         }
         0
+    }
+
+    /// Nulls a stretch of characters that an attribute rules, unless it protects.
+    fn null_stretch(&mut self, at: u32, run: u32, bits: Attr)
+        requires inside { at < length self.old.cells }
+        requires few { run ≤ length self.old.cells }
+        requires characters { HasNone self.old.cells at run }
+        ensures nulled { self.new ≡ record self.old { cells = ruled (length self.old.cells)
+            (stretch_cell self.old.cells at run (not (is_protected bits))) } }
+    {
+        if !bits.protected() {
+            fill_round(&mut self.planes, at, run, Char::null());
+        }
+    }
+
+    /// Nulls what is open of so many positions from one on, round the buffer.
+    fn erase_for(&mut self, b: u32, steps: u32)
+        requires inside { b < length self.old.cells }
+        requires few { steps ≤ length self.old.cells }
+        ensures erased { self.new ≡ record self.old { cells = ruled (length self.old.cells)
+            (erased_for self.old.cells b steps) } }
+    {
+        let n = self.planes.len();
+        let mut bits = self.ruling_at(previous(n, b));
+        let mut at = b;
+        let mut gone = 0;
+        'runs: while gone < steps {
+            let run = self.characters_from(at, steps - gone);
+            self.null_stretch(at, run, bits);
+            gone += run;
+            if gone == steps {
+                return;
+            }
+            let stop = forward(n, at, run);
+            bits = ruled_on(bits, &self.cell(stop));
+            gone += 1;
+            at = next(n, stop);
+        }
     }
 }
 
@@ -250,6 +289,11 @@ impl Cells for PlaneCells {
         let steps = reach(n, b, stop);
         fill_round(&mut self.planes, b, steps, character);
         cut_round(&mut self.index, n, b, steps);
+    }
+
+    fn erase(&mut self, b: u32, stop: u32) {
+        let steps = reach(self.planes.len(), b, stop);
+        self.erase_for(b, steps);
     }
 
     fn null_to_attribute(&mut self, b: u32) -> u32 {
