@@ -193,8 +193,10 @@ impl PlaneCells {
         requires inside { at < length self.old.cells }
         requires few { run ≤ length self.old.cells }
         requires characters { HasNone self.old.cells at run }
-        ensures nulled { self.new ≡ record self.old { cells = ruled (length self.old.cells)
-            (stretch_cell self.old.cells at run (not (is_protected bits))) } }
+        ensures nulled { self.new ≡ record self.old {
+          cells = ruled (length self.old.cells)
+              (stretch_cell self.old.cells at run (not (is_protected bits)));
+        } }
     {
         if !bits.protected() {
             fill_round(&mut self.planes, at, run, Char::null());
@@ -205,8 +207,10 @@ impl PlaneCells {
     fn erase_for(&mut self, b: u32, steps: u32)
         requires inside { b < length self.old.cells }
         requires few { steps ≤ length self.old.cells }
-        ensures erased { self.new ≡ record self.old { cells = ruled (length self.old.cells)
-            (erased_for self.old.cells b steps) } }
+        ensures erased { self.new ≡ record self.old {
+          cells = ruled (length self.old.cells)
+              (erased_for self.old.cells b steps);
+        } }
     {
         let n = self.planes.len();
         let mut bits = self.ruling_at(previous(n, b));

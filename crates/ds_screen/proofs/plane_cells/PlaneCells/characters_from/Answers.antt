@@ -1,6 +1,6 @@
-use Rattle.std.proofs.Common.{◌≡◌, ◌<◌, ℕ, length, Some, ◌∙◌, ap, subst, arith}
+use Rattle.std.proofs.Common.{◌≡◌, length, ◌∙◌, ap, arith}
 use Rattle.ds_screen.specs.Planes.{Held}
-use Rattle.ds_screen.proofs.StretchLaws.{IsStretch, stretch_to, stretch_whole}
+use Rattle.ds_screen.proofs.StretchLaws.{stretch_to, stretch_whole}
 use Rattle.ds_screen.proofs.plane_cells.PlaneCells.characters_from.Goals as goal
 
 pub returns-in-Some-clause-characters : goal.returns-in-Some-clause-characters

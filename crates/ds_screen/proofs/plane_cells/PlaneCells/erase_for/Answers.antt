@@ -1,15 +1,15 @@
-use Rattle.std.proofs.Common.{◌≡◌, ◌<◌, ◌≤◌, ◌+◌, ◌-◌, ℕ, not, true, List, length, refl, sym, ◌∙◌, ap, arith}
+use Rattle.std.proofs.Common.{◌≡◌, ◌<◌, ◌≤◌, ◌+◌, ℕ, not, true, List, length, refl, sym, ◌∙◌, ap, arith}
 use Rattle.ds_codec.specs.declared.cell.Cell.{Cell}
 use Rattle.ds_codec.specs.Attribute.{is_protected}
 use Rattle.ds_screen.specs.Ring.{ring_on, ring_back}
 use Rattle.ds_screen.specs.Picture.{cell_at, ruled}
 use Rattle.ds_screen.specs.Fields.{is_attribute, ruling_bits, ruling_after}
 use Rattle.ds_screen.specs.Planes.{Held, HasNone, stretch_cell, erased_for}
-use Rattle.ds_screen.proofs.RingLaws.{on-zero, on_lt}
+use Rattle.ds_screen.proofs.RingLaws.{on-zero}
 use Rattle.ds_screen.proofs.RuledLaws.{length-ruled, walked_cell, walk_none, length_walked, place_more, place_before}
 use Rattle.ds_screen.proofs.EraseLaws.{nulled_open}
 use Rattle.ds_screen.proofs.FieldLaws.{ruling_more}
-use Rattle.ds_screen.proofs.StretchLaws.{on_sum, own_rule, nulled_attribute, nulled_same, stretch_before, nulled_more, nulled_one, stretch_stored}
+use Rattle.ds_screen.proofs.StretchLaws.{on_sum, own_rule, nulled_attribute, nulled_same, stretch_before, nulled_one, stretch_stored}
 use Rattle.ds_screen.proofs.plane_cells.PlaneCells.erase_for.Goals as goal
 
 pub runs-init : goal.runs-init
@@ -50,10 +50,12 @@ returns-then-gone-steps c =
     stretch_stored cells c.runs.self.cells c.null_stretch.new.self.cells c.args.b c.runs.gone c.runs.at run c.runs.bits c.requires.inside (omega (arith, c.requires.few, c.runs-test.true)) few
     c.runs.invariant.at c.runs.invariant.stored none c.runs.invariant.ruled_by (ap (λ (u : Held). u.cells) c.null_stretch.ensures.nulled) in
     let room = ap (λ (u : Held). u.room) c.null_stretch.ensures.nulled ∙ c.runs.invariant.room in
-    record { erased =
-      ap (λ l. let h : Held = record { cells = l; room = c.null_stretch.new.self.room } in h)
-      (stored ∙ ap (λ k. ruled n (walked_cell cells c.args.b k (nulled_open cells))) c.if-gone-steps.true)
-      ∙ ap (λ r. let h : Held = record { cells = ruled n (erased_for cells c.args.b c.args.steps); room = r } in h) room }
+    record {
+      erased =
+          ap (λ l. let h : Held = record { cells = l; room = c.null_stretch.new.self.room } in h)
+          (stored ∙ ap (λ k. ruled n (walked_cell cells c.args.b k (nulled_open cells))) c.if-gone-steps.true)
+          ∙ ap (λ r. let h : Held = record { cells = ruled n (erased_for cells c.args.b c.args.steps); room = r } in h) room;
+    }
 
 pub forward-stop-requires-clause-inside : goal.forward-stop-requires-clause-inside
 forward-stop-requires-clause-inside c =
@@ -116,7 +118,9 @@ returns c =
     let cells : List Cell = c.args.self.now.cells in
     let n : ℕ = length cells in
     let all : c.runs.gone ≡ c.args.steps = omega (arith, c.runs-test.false, c.runs.invariant.few) in
-    record { erased =
-      ap (λ l. let h : Held = record { cells = l; room = c.runs.self.room } in h)
-      (c.runs.invariant.stored ∙ ap (λ k. ruled n (walked_cell cells c.args.b k (nulled_open cells))) all)
-      ∙ ap (λ r. let h : Held = record { cells = ruled n (erased_for cells c.args.b c.args.steps); room = r } in h) c.runs.invariant.room }
+    record {
+      erased =
+          ap (λ l. let h : Held = record { cells = l; room = c.runs.self.room } in h)
+          (c.runs.invariant.stored ∙ ap (λ k. ruled n (walked_cell cells c.args.b k (nulled_open cells))) all)
+          ∙ ap (λ r. let h : Held = record { cells = ruled n (erased_for cells c.args.b c.args.steps); room = r } in h) c.runs.invariant.room;
+    }

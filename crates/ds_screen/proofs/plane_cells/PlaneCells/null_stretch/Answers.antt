@@ -1,4 +1,4 @@
-use Rattle.std.proofs.Common.{◌≡◌, not, true, false, length, sym, ◌∙◌, ap, subst, arith, cond, refl}
+use Rattle.std.proofs.Common.{not, length, sym, ◌∙◌, ap, subst, arith, cond}
 use Rattle.ds_codec.specs.declared.cell.Cell.TheVariants.{Char}
 use Rattle.ds_codec.specs.Attribute.{is_protected}
 use Rattle.ds_places.specs.Places.{is_round}
@@ -29,13 +29,17 @@ returns-then-not-protected c =
     let after =
     ap (λ g. ruled (length cells) (λ p. cond (is_round (length cells) c.args.at c.args.run p) (Char g) (cell_at cells p))) c.null.ensures
     ∙ stretch_filled cells c.args.at c.args.run (not (is_protected c.args.bits)) free (omega (arith, c.requires.inside, len)) (omega (arith, c.requires.few, len)) in
-    record { nulled =
-      c.fill_round.ensures.filled
-      ∙ ap (λ l. let h : Held = record { cells = l; room = c.self.inside.planes.room } in h) after
-      ∙ ap (λ (u : Held). let h : Held = record { cells = ruled (length u.cells) (stretch_cell u.cells c.args.at c.args.run (not (is_protected c.args.bits))); room = u.room } in h) c.self.view_is }
+    record {
+      nulled =
+          c.fill_round.ensures.filled
+          ∙ ap (λ l. let h : Held = record { cells = l; room = c.self.inside.planes.room } in h) after
+          ∙ ap (λ (u : Held). let h : Held = record { cells = ruled (length u.cells) (stretch_cell u.cells c.args.at c.args.run (not (is_protected c.args.bits))); room = u.room } in h) c.self.view_is;
+    }
 
 pub returns-else-not-protected : goal.returns-else-not-protected
 returns-else-not-protected c =
     let shut = ap not (sym c.protected.ensures ∙ c.if-not-protected.false) in
-    record { nulled = ap (λ l. let h : Held = record { cells = l; room = c.args.self.now.room } in h)
-      (stretch_left c.args.self.now.cells c.args.at c.args.run (not (is_protected c.args.bits)) shut) }
+    record {
+      nulled = ap (λ l. let h : Held = record { cells = l; room = c.args.self.now.room } in h)
+          (stretch_left c.args.self.now.cells c.args.at c.args.run (not (is_protected c.args.bits)) shut);
+    }

@@ -1,4 +1,4 @@
-use Rattle.std.proofs.Common.{◌≡◌, cond, eqb, length, ◌∙◌, ap}
+use Rattle.std.proofs.Common.{cond, eqb, length, ◌∙◌, ap}
 use Rattle.ds_screen.specs.Ring.{ring_distance}
 use Rattle.ds_screen.specs.Planes.{Held, erased_for}
 use Rattle.ds_screen.proofs.RuledLaws.{length-ruled}
