@@ -7,19 +7,19 @@ use anyhow::{Context, Result};
 use ds_codec::Record;
 use ds_inbound::write_inbound;
 use ds_keys::{key_of_line, press};
-use ds_screen::{Lock, PlainCells, Screen};
+use ds_screen::{Lock, PlaneCells, Screen};
 use scr_layout::Layout;
 use std::alloc::Global;
 use test_words::{number, push_length, push_number};
 
-fn show(screen: &mut Screen<PlainCells>, bytes: &[u8]) -> Result<()> {
+fn show(screen: &mut Screen<PlaneCells>, bytes: &[u8]) -> Result<()> {
     let record = Record::read(screen.geometry().mode(), bytes)?;
     let _effect = screen.apply(&record)?;
     Ok(())
 }
 
 /// A new terminal of the layout's geometry after the records.
-fn opened(alloc: Global, layout: &Layout, records: &[Vec<u8>]) -> Result<Screen<PlainCells>> {
+fn opened(alloc: Global, layout: &Layout, records: &[Vec<u8>]) -> Result<Screen<PlaneCells>> {
     let mut screen = Screen::new(alloc, layout.geometry())?;
     for bytes in records {
         show(&mut screen, bytes.as_slice())?;
@@ -28,25 +28,25 @@ fn opened(alloc: Global, layout: &Layout, records: &[Vec<u8>]) -> Result<Screen<
 }
 
 /// The same of the setup's records.
-fn opened_after(alloc: Global, setup: &Setup, layout: &Layout) -> Result<Screen<PlainCells>> {
+fn opened_after(alloc: Global, setup: &Setup, layout: &Layout) -> Result<Screen<PlaneCells>> {
     let records = records_of(alloc, setup.after.as_str())?;
     opened(alloc, layout, records.as_slice())
 }
 
-fn press_line(screen: &mut Screen<PlainCells>, line: &str) -> Result<()> {
+fn press_line(screen: &mut Screen<PlaneCells>, line: &str) -> Result<()> {
     let key = key_of_line(line).context("a key")?;
     let _told = press(screen, key);
     Ok(())
 }
 
-fn press_often(screen: &mut Screen<PlainCells>, line: &str, times: u32) -> Result<()> {
+fn press_often(screen: &mut Screen<PlaneCells>, line: &str, times: u32) -> Result<()> {
     for _ in 0..times {
         press_line(screen, line)?;
     }
     Ok(())
 }
 
-fn press_lines(screen: &mut Screen<PlainCells>, keys: &str) -> Result<()> {
+fn press_lines(screen: &mut Screen<PlaneCells>, keys: &str) -> Result<()> {
     for part in keys.split(", ") {
         if let Some((times, line)) = part.split_once(' ') {
             press_often(screen, line, number(times)?)?;
@@ -56,7 +56,7 @@ fn press_lines(screen: &mut Screen<PlainCells>, keys: &str) -> Result<()> {
 }
 
 /// The keys in turn, Reset where they end in an error, and Enter.
-fn press_all(screen: &mut Screen<PlainCells>, keys: &str) -> Result<()> {
+fn press_all(screen: &mut Screen<PlaneCells>, keys: &str) -> Result<()> {
     press_lines(screen, keys)?;
     if screen.lock() == Lock::Error {
         press_line(screen, "reset")?;

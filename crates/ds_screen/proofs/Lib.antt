@@ -17,4 +17,8 @@ pub mod PrintLaws
 pub mod MarkLaws
 pub mod OutlineLaws
 pub mod OutlineFieldLaws
+pub mod PlaneLaws
+pub mod HalvingLaws
+pub mod IndexLaws
+pub mod StretchLaws
 pub mod Rows

@@ -368,7 +368,7 @@ after_text n b k inside =
     ∙ ap (λ x. x % n) (omega arith) ∙ mod-add-mod k n b ∙ ap (λ x. x % n) (omega arith)
 
 -- ---- the first attribute that doesn't protect
-not_unprotected : (c : Cell) → is_attribute c ≡ false → is_unprotected_attribute c ≡ false
+pub not_unprotected : (c : Cell) → is_attribute c ≡ false → is_unprotected_attribute c ≡ false
 not_unprotected (Field bits) none = absurd cc
 not_unprotected (Char c) none = refl
 
@@ -419,7 +419,7 @@ free_never v cells from at marked found misses =
     ])
 
 -- ---- what rules the positions between attributes
-keeps : (before : ℕ) (c : Cell) → is_attribute c ≡ false → ruling_after before c ≡ before
+pub keeps : (before : ℕ) (c : Cell) → is_attribute c ≡ false → ruling_after before c ≡ before
 keeps before (Field bits) none = absurd cc
 keeps before (Char c) none = refl
 
@@ -476,14 +476,14 @@ nothing_rules v cells marked none some =
 abbrev pub NoneOpen : List Cell → ℕ → Type 0
 NoneOpen cells place = (q : ℕ) → q < place → is_open cells q ≡ false
 
-open_shut : (cells : List Cell) (q before : ℕ) → ruling_bits cells q ≡ before → is_protected before ≡ true → is_open cells q ≡ false
+pub open_shut : (cells : List Cell) (q before : ℕ) → ruling_bits cells q ≡ before → is_protected before ≡ true → is_open cells q ≡ false
 open_shut cells q before ruled shut = ap (λ r. is_character (cell_at cells q) && not (is_protected r)) ruled ∙ ap (λ t. is_character (cell_at cells q) && not t) shut ∙ none (is_character (cell_at cells q))
   where
     none : (t : Bool) → (t && false) ≡ false
     none true = refl
     none false = refl
 
-open_free : (cells : List Cell) (q before : ℕ) → ruling_bits cells q ≡ before → is_attribute (cell_at cells q) ≡ false → is_protected before ≡ false → is_open cells q ≡ true
+pub open_free : (cells : List Cell) (q before : ℕ) → ruling_bits cells q ≡ before → is_attribute (cell_at cells q) ≡ false → is_protected before ≡ false → is_open cells q ≡ true
 open_free cells q before ruled none free = ap (λ t. not t && not (is_protected (ruling_bits cells q))) none ∙ ap (λ r. not (is_protected r)) ruled ∙ ap not free
 
 open_mark : (cells : List Cell) (q bits : ℕ) → cell_at cells q ≡ Field bits → is_open cells q ≡ false

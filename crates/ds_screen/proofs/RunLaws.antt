@@ -27,11 +27,11 @@ mod_next n x some =
 abbrev pub run_cell : List Cell → ℕ → List ℕ → ℕ → ℕ → Cell
 run_cell cells b run k p = byte_cell cells run p (greatest k (λ i. eqb ((b + i) % length cells) p))
 
-greatest_hit : (k : ℕ) (test : ℕ → Bool) → test k ≡ true → greatest (k + 1) test ≡ Some k
+pub greatest_hit : (k : ℕ) (test : ℕ → Bool) → test k ≡ true → greatest (k + 1) test ≡ Some k
 unfolding greatest
 greatest_hit k test hit = rw add-one (cond-true (test k) _ _ hit)
 
-greatest_miss : (k : ℕ) (test : ℕ → Bool) → test k ≡ false → greatest (k + 1) test ≡ greatest k test
+pub greatest_miss : (k : ℕ) (test : ℕ → Bool) → test k ≡ false → greatest (k + 1) test ≡ greatest k test
 unfolding greatest
 greatest_miss k test miss = rw add-one (cond-false (test k) _ _ miss)
 

@@ -2,6 +2,7 @@
 #![tactic(auto)]
 
 mod cells;
+mod counted;
 mod effect;
 mod field;
 mod fields;
@@ -13,6 +14,9 @@ mod orders;
 mod outline;
 mod outline_fields;
 mod plain;
+mod plane_cells;
+mod planes;
+mod probed;
 mod ranges;
 mod records;
 mod refused;
@@ -23,11 +27,13 @@ mod ruling;
 mod screen;
 mod shown;
 mod state;
+mod stored;
 mod surface;
 mod tab;
 mod wcc;
 
 pub use cells::Cells;
+pub use counted::attr_before_counted;
 pub use effect::Effect;
 pub use field::FieldAt;
 pub use fields::Fields;
@@ -39,5 +45,7 @@ pub use lock::Lock;
 pub use outline::Outline;
 pub use outline_fields::OutlineFields;
 pub use plain::PlainCells;
+pub use plane_cells::PlaneCells;
+pub use probed::Probed;
 pub use refused::{Refused, Why};
 pub use screen::Screen;

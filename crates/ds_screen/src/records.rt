@@ -48,7 +48,7 @@ fn run_orders<S: Surface>(
 
 /// Which attributes are made unmodified.
 #[derive(Clone, Copy, Debug, PartialEq, Eq)]
-pub(crate) enum Reset {
+pub enum Reset {
     /// All of them (bit 01 of the write control character).
     Every,
     /// Those that do not protect (Erase All Unprotected).
@@ -67,26 +67,12 @@ pub(crate) fn reset_attribute(which: Reset, attribute: Attr) -> Attr
 }
 
 /// What a cell becomes when modified data tags are reset.
-fn reset_cell(which: Reset, cell: &Cell) -> Cell
+pub(crate) fn reset_cell(which: Reset, cell: &Cell) -> Cell
     ensures { result ≡ after_reset which cell.now }
 {
     match cell {
         Cell::Char(character) => Cell::Char(*character),
         Cell::Field(attribute) => Cell::Field(reset_attribute(which, *attribute)),
-    }
-}
-
-/// Resets modified data tags, in one pass over the buffer.
-pub(crate) fn reset_modified<C: Cells>(cells: &mut C, which: Reset)
-    ensures stored { C.content cells.new
-        ≡ ruled (length (C.content cells.old))
-        (λ p. after_reset which (cell_at (C.content cells.old) p)) }
-    ensures whole { length (C.content cells.new) ≡ length (C.content cells.old) }
-    ensures room { C.capacity cells.new ≡ C.capacity cells.old }
-{
-    'places: for p in 0..cells.len() {
-        let cell = reset_cell(which, &cells.cell(p));
-        cells.put(p, cell);
     }
 }
 

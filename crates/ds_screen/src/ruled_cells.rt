@@ -3,7 +3,7 @@
 use crate::cells::Cells;
 use crate::ring::{next, previous};
 use crate::ruled_cell::RuledCell;
-use crate::ruling::{ruled_cell, ruling};
+use crate::ruling::ruled_cell;
 use ds_codec::Attr;
 use std::marker::Model;
 
@@ -43,7 +43,7 @@ impl<'a, C: Cells> RuledCells<'a, C> {
         RuledCells {
             cells,
             at: from,
-            before: ruling(cells, previous(cells.len(), from)),
+            before: cells.ruling(previous(cells.len(), from)),
             left: count,
         }
     }

@@ -9,7 +9,7 @@ use crate::fields::Fields;
 use crate::lock::Lock;
 use crate::records::{Base, clear_unprotected, prepare, write_orders};
 use crate::refused::{Refused, Why};
-use crate::ruling::{first_open_from, is_open_at};
+use crate::ruling::is_open_at;
 use crate::shown::row_text;
 use crate::wcc::{aid_after, lock_after, told};
 use ds_codec::{Aid, Attr, Cell, Char, Command, Geometry, Record, Size};
@@ -207,7 +207,7 @@ impl<C: Cells> Screen<C> {
         ensures first { result ≡ first_open self.now.cells from }
         ensures inside { result < length self.now.cells }
     {
-        first_open_from(&self.cells, from)
+        self.cells.first_open(from)
     }
 
     /// Nulls the open characters, resets the modified data tags of unprotected attributes, and puts the

@@ -13,9 +13,7 @@ ghost use Rattle.ds_screen.specs.Surface.{Becomes, Tells};
 
 use crate::cells::Cells;
 use crate::ranges;
-use crate::records::{Reset, reset_modified};
-use crate::ruling::first_open_from;
-use crate::tab::{null_to_attribute, stop_from};
+use crate::records::Reset;
 use ds_codec::{Attr, Cell, Char};
 
 /// What orders work on. No method takes memory.
@@ -152,30 +150,30 @@ impl<C: Cells> Surface for C {
     }
 
     fn store_text(&mut self, b: u32, run: &[u8]) -> u32 {
-        ranges::put_run(self, b, run)
+        C::put_text(self, b, run)
     }
 
     fn repeat(&mut self, b: u32, stop: u32, character: Char) {
-        ranges::repeat(self, b, stop, character);
+        C::repeat(self, b, stop, character);
     }
 
     fn erase(&mut self, b: u32, stop: u32) {
-        ranges::erase(self, b, stop);
+        C::erase(self, b, stop);
     }
 
     fn null_to_attribute(&mut self, b: u32) -> u32 {
-        null_to_attribute(self, b)
+        C::null_to_attribute(self, b)
     }
 
     fn stop_from(&self, from: u32) -> u32 {
-        stop_from(self, from)
+        C::stop_from(self, from)
     }
 
     fn reset_modified(&mut self, which: Reset) {
-        reset_modified(self, which);
+        C::reset_modified(self, which);
     }
 
     fn first_open(&self) -> u32 {
-        first_open_from(self, 0)
+        C::first_open(self, 0)
     }
 }

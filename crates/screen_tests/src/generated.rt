@@ -6,7 +6,7 @@ use ds_screen::{FieldAt, Outline, PlainCells, Screen};
 use std::alloc::{AllocError, Global};
 
 /// The next number, below `bound`, of a sequence that its seed determines.
-fn draw(seed: &mut u32, bound: u32) -> u32 {
+pub(crate) fn draw(seed: &mut u32, bound: u32) -> u32 {
     *seed = seed.wrapping_mul(1_664_525).wrapping_add(1_013_904_223);
     (*seed >> 16) % bound.max(1)
 }
@@ -16,7 +16,7 @@ fn draw_byte(seed: &mut u32, bound: u32) -> u8 {
 }
 
 /// One of some bytes.
-fn draw_from(seed: &mut u32, bytes: &[u8]) -> u8 {
+pub(crate) fn draw_from(seed: &mut u32, bytes: &[u8]) -> u8 {
     let index = usize::try_from(draw(seed, 16)).unwrap_or(0);
     bytes.get(index).copied().unwrap_or(0xC2)
 }
@@ -70,7 +70,7 @@ fn push_order(bytes: &mut Vec<u8>, seed: &mut u32) -> Result<(), AllocError> {
 }
 
 /// A record of any command and up to nine orders.
-fn record_of(alloc: Global, seed: &mut u32) -> Result<Vec<u8>, AllocError> {
+pub(crate) fn record_of(alloc: Global, seed: &mut u32) -> Result<Vec<u8>, AllocError> {
     let mut bytes = Vec::new(alloc);
     let command = draw_from(seed, &[0xF5, 0x7E, 0x6F, 0xF1, 0xF1, 0xF1, 0xF1, 0xF1]);
     bytes.push(if command == 0xC2 { 0xF1 } else { command })?;

@@ -7,7 +7,7 @@ use crate::script::bytes_of;
 use anyhow::{Context, Result};
 use ds_codec::{Aid, Char, Mode};
 use ds_inbound::{Inbound, chars, write_buffer, write_inbound};
-use ds_screen::{PlainCells, Screen};
+use ds_screen::{Cells, Screen};
 use std::alloc::{AllocError, Global};
 use test_words::{
     byte, cut_word, number, push_bytes, push_hex, push_length, push_word_hex, push_word_number,
@@ -79,10 +79,10 @@ fn push_codes(out: &mut String, raw: &[u8]) -> Result<(), AllocError> {
     Ok(())
 }
 
-fn push_modified(
+fn push_modified<C: Cells>(
     alloc: Global,
     out: &mut String,
-    screen: &Screen<PlainCells>,
+    screen: &Screen<C>,
     all: bool,
 ) -> Result<()> {
     let bytes = write_inbound(alloc, screen, all)?;
@@ -90,10 +90,10 @@ fn push_modified(
 }
 
 /// What a screen answers to Read Modified and to Read Modified All, after a key and more records.
-fn push_sent(alloc: Global, setup: &Setup, out: &mut String, words: &str) -> Result<()> {
+fn push_sent<C: Cells>(alloc: Global, setup: &Setup, out: &mut String, words: &str) -> Result<()> {
     let (aid, records) = words.split_once(' ').unwrap_or((words, ""));
     let aid = Aid::from_byte(byte(aid)?).context("an attention identifier")?;
-    let mut screen = screen_after(alloc, setup, records)?;
+    let mut screen = screen_after::<C>(alloc, setup, records)?;
     screen.set_aid(aid);
     push_modified(alloc, out, &screen, false)?;
     out.push_str(" all ")?;
@@ -101,13 +101,13 @@ fn push_sent(alloc: Global, setup: &Setup, out: &mut String, words: &str) -> Res
 }
 
 /// What a screen answers to Read Buffer.
-fn push_buffer(alloc: Global, out: &mut String, screen: &Screen<PlainCells>) -> Result<()> {
+fn push_buffer<C: Cells>(alloc: Global, out: &mut String, screen: &Screen<C>) -> Result<()> {
     let bytes = write_buffer(alloc, screen)?;
     Ok(push_bytes(out, bytes.as_slice())?)
 }
 
 /// Adds what a verb answers; whether it is one of these.
-pub(crate) fn push_answer(
+pub(crate) fn push_answer<C: Cells>(
     alloc: Global,
     setup: &Setup,
     out: &mut String,
@@ -117,8 +117,8 @@ pub(crate) fn push_answer(
     match verb {
         "answer" => push_read(alloc, out, words)?,
         "characters" => push_codes(out, bytes_of(alloc, words)?.as_slice())?,
-        "sent" => push_sent(alloc, setup, out, words)?,
-        "buffer" => push_buffer(alloc, out, &screen_after(alloc, setup, words)?)?,
+        "sent" => push_sent::<C>(alloc, setup, out, words)?,
+        "buffer" => push_buffer(alloc, out, &screen_after::<C>(alloc, setup, words)?)?,
         _ => return Ok(false),
     }
     Ok(true)

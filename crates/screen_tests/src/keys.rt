@@ -4,7 +4,7 @@ use crate::Setup;
 use crate::screens::{opened, push_all, push_cells};
 use anyhow::{Context, Result};
 use ds_keys::{Pressed, key_of_line, press};
-use ds_screen::{PlainCells, Screen};
+use ds_screen::{Cells, Screen};
 use std::alloc::{AllocError, Global};
 use test_words::{between_bars, push_word_hex, push_word_number};
 
@@ -18,20 +18,20 @@ fn push_pressed(out: &mut String, told: Pressed, cursor: u32) -> Result<(), Allo
 }
 
 /// Presses the key of a line.
-fn press_line(screen: &mut Screen<PlainCells>, line: &str) -> Result<Pressed> {
+fn press_line<C: Cells>(screen: &mut Screen<C>, line: &str) -> Result<Pressed> {
     let key = key_of_line(line).context("a key")?;
     Ok(press(screen, key))
 }
 
 /// What is answered to a key line, with the cursor.
-fn push_key(out: &mut String, screen: &mut Screen<PlainCells>, line: &str) -> Result<()> {
+fn push_key<C: Cells>(out: &mut String, screen: &mut Screen<C>, line: &str) -> Result<()> {
     let told = press_line(screen, line)?;
     push_pressed(out, told, screen.cursor())?;
     Ok(out.push_str(", ")?)
 }
 
 /// Presses keys, and adds what is answered to each.
-fn push_keys(out: &mut String, screen: &mut Screen<PlainCells>, lines: &str) -> Result<()> {
+fn push_keys<C: Cells>(out: &mut String, screen: &mut Screen<C>, lines: &str) -> Result<()> {
     for line in lines.split(", ") {
         if !line.is_empty() {
             push_key(out, screen, line)?;
@@ -41,7 +41,7 @@ fn push_keys(out: &mut String, screen: &mut Screen<PlainCells>, lines: &str) -> 
 }
 
 /// Presses keys.
-fn press_all(screen: &mut Screen<PlainCells>, lines: &str) -> Result<()> {
+fn press_all<C: Cells>(screen: &mut Screen<C>, lines: &str) -> Result<()> {
     for line in lines.split(", ") {
         if !line.is_empty() {
             let _told = press_line(screen, line)?;
@@ -51,27 +51,27 @@ fn press_all(screen: &mut Screen<PlainCells>, lines: &str) -> Result<()> {
 }
 
 /// A new screen after some keys.
-fn pressed(alloc: Global, setup: &Setup, lines: &str) -> Result<Screen<PlainCells>> {
-    let mut screen = opened(alloc, setup)?;
+fn pressed<C: Cells>(alloc: Global, setup: &Setup, lines: &str) -> Result<Screen<C>> {
+    let mut screen = opened::<C>(alloc, setup)?;
     press_all(&mut screen, lines)?;
     Ok(screen)
 }
 
 /// The answers to keys, each on a screen of its own that took some keys before, which a bar ends.
-fn push_each(alloc: Global, setup: &Setup, out: &mut String, words: &str) -> Result<()> {
+fn push_each<C: Cells>(alloc: Global, setup: &Setup, out: &mut String, words: &str) -> Result<()> {
     let (before, lines) = words.split_once("|").unwrap_or(("", words));
     for line in lines.split(", ") {
-        let mut screen = pressed(alloc, setup, before)?;
+        let mut screen = pressed::<C>(alloc, setup, before)?;
         push_key(out, &mut screen, line)?;
     }
     Ok(())
 }
 
 /// The cells, and the bits of the fields.
-fn push_typed(
+fn push_typed<C: Cells>(
     alloc: Global,
     out: &mut String,
-    screen: &Screen<PlainCells>,
+    screen: &Screen<C>,
 ) -> Result<(), AllocError> {
     push_cells(alloc, out, screen)?;
     for field in screen.fields() {
@@ -81,8 +81,13 @@ fn push_typed(
 }
 
 /// The answers to keys, and the whole screen after them.
-fn push_screen(alloc: Global, setup: &Setup, out: &mut String, lines: &str) -> Result<()> {
-    let mut screen = opened(alloc, setup)?;
+fn push_screen<C: Cells>(
+    alloc: Global,
+    setup: &Setup,
+    out: &mut String,
+    lines: &str,
+) -> Result<()> {
+    let mut screen = opened::<C>(alloc, setup)?;
     push_keys(out, &mut screen, lines)?;
     Ok(push_all(alloc, out, &screen)?)
 }
@@ -94,7 +99,7 @@ fn push_word(out: &mut String, words: &str) -> Result<()> {
 }
 
 /// Adds what a verb answers; whether it is one of these.
-pub(crate) fn push_answer(
+pub(crate) fn push_answer<C: Cells>(
     alloc: Global,
     setup: &Setup,
     out: &mut String,
@@ -102,10 +107,10 @@ pub(crate) fn push_answer(
     words: &str,
 ) -> Result<bool> {
     match verb {
-        "keys" => push_keys(out, &mut opened(alloc, setup)?, words)?,
-        "each" => push_each(alloc, setup, out, words)?,
-        "typed" => push_typed(alloc, out, &pressed(alloc, setup, words)?)?,
-        "pressed" => push_screen(alloc, setup, out, words)?,
+        "keys" => push_keys(out, &mut opened::<C>(alloc, setup)?, words)?,
+        "each" => push_each::<C>(alloc, setup, out, words)?,
+        "typed" => push_typed(alloc, out, &pressed::<C>(alloc, setup, words)?)?,
+        "pressed" => push_screen::<C>(alloc, setup, out, words)?,
         "word" => push_word(out, words)?,
         _ => return Ok(false),
     }

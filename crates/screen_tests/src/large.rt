@@ -6,6 +6,7 @@ use crate::script::bytes_of;
 use anyhow::{Context, Result};
 use ds_codec::{Aid, Mode};
 use ds_inbound::{Inbound, chars, write_buffer, write_inbound};
+use ds_screen::Cells;
 use std::alloc::{AllocError, Global};
 use test_words::{cut_word, number, push_length, push_number, push_word_number};
 
@@ -21,31 +22,36 @@ fn push_same(out: &mut String, bytes: &[u8], wanted: &[u8]) -> Result<(), AllocE
 }
 
 /// What a screen answers to Read Modified after Enter and some records.
-fn modified_after(alloc: Global, setup: &Setup, records: &str) -> Result<Vec<u8>> {
-    let mut screen = screen_after(alloc, setup, records)?;
+fn modified_after<C: Cells>(alloc: Global, setup: &Setup, records: &str) -> Result<Vec<u8>> {
+    let mut screen = screen_after::<C>(alloc, setup, records)?;
     screen.set_aid(Aid::enter());
     Ok(write_inbound(alloc, &screen, false)?)
 }
 
 /// The same of Read Buffer.
-fn buffer_after(alloc: Global, setup: &Setup, records: &str) -> Result<Vec<u8>> {
-    let mut screen = screen_after(alloc, setup, records)?;
+fn buffer_after<C: Cells>(alloc: Global, setup: &Setup, records: &str) -> Result<Vec<u8>> {
+    let mut screen = screen_after::<C>(alloc, setup, records)?;
     screen.set_aid(Aid::enter());
     Ok(write_buffer(alloc, &screen)?)
 }
 
 /// Whether a screen answers these bytes to Read Modified, after Enter and some records.
-fn push_sends(alloc: Global, setup: &Setup, out: &mut String, words: &str) -> Result<()> {
+fn push_sends<C: Cells>(alloc: Global, setup: &Setup, out: &mut String, words: &str) -> Result<()> {
     let (records, wanted) = words.split_once(" = ").context("records and bytes")?;
-    let bytes = modified_after(alloc, setup, records)?;
+    let bytes = modified_after::<C>(alloc, setup, records)?;
     let wanted = bytes_of(alloc, wanted)?;
     Ok(push_same(out, bytes.as_slice(), wanted.as_slice())?)
 }
 
 /// The same of Read Buffer.
-fn push_buffers(alloc: Global, setup: &Setup, out: &mut String, words: &str) -> Result<()> {
+fn push_buffers<C: Cells>(
+    alloc: Global,
+    setup: &Setup,
+    out: &mut String,
+    words: &str,
+) -> Result<()> {
     let (records, wanted) = words.split_once(" = ").context("records and bytes")?;
-    let bytes = buffer_after(alloc, setup, records)?;
+    let bytes = buffer_after::<C>(alloc, setup, records)?;
     let wanted = bytes_of(alloc, wanted)?;
     Ok(push_same(out, bytes.as_slice(), wanted.as_slice())?)
 }
@@ -74,7 +80,7 @@ fn push_counted(alloc: Global, out: &mut String, words: &str) -> Result<()> {
 }
 
 /// Adds what a verb answers; whether it is one of these.
-pub(crate) fn push_answer(
+pub(crate) fn push_answer<C: Cells>(
     alloc: Global,
     setup: &Setup,
     out: &mut String,
@@ -82,8 +88,8 @@ pub(crate) fn push_answer(
     words: &str,
 ) -> Result<bool> {
     match verb {
-        "sends" => push_sends(alloc, setup, out, words)?,
-        "buffers" => push_buffers(alloc, setup, out, words)?,
+        "sends" => push_sends::<C>(alloc, setup, out, words)?,
+        "buffers" => push_buffers::<C>(alloc, setup, out, words)?,
         "counted" => push_counted(alloc, out, words)?,
         _ => return Ok(false),
     }

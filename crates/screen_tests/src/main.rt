@@ -9,6 +9,7 @@
 //! printed for a hundred equal ones. Lines of `#` say what comes.
 #![tactic(auto)]
 
+mod both;
 mod codec;
 mod codes;
 mod generated;
@@ -26,6 +27,7 @@ mod words;
 
 use anyhow::{Context, Result};
 use ds_codec::Size;
+use ds_screen::{Cells, PlainCells, PlaneCells};
 use std::alloc::Global;
 use test_words::is_row;
 
@@ -63,8 +65,8 @@ fn take_line(alloc: Global, setup: &mut Setup, line: &str) -> Result<bool> {
     Ok(true)
 }
 
-/// Adds what a verb answers that begins with a screen; whether it is one.
-fn push_screen_answer(
+/// Adds what a verb answers that begins with a screen of one kind; whether it is one.
+fn push_screen_answer<C: Cells>(
     alloc: Global,
     setup: &Setup,
     out: &mut String,
@@ -72,14 +74,33 @@ fn push_screen_answer(
     words: &str,
 ) -> Result<bool> {
     Ok(
-        screens::push_answer(alloc, setup, out, verb, words)?
-            || outlines::push_answer(alloc, setup, out, verb, words)?
-            || searches::push_answer(alloc, setup, out, verb, words)?
-            || keys::push_answer(alloc, setup, out, verb, words)?
-            || terminal::push_answer(alloc, setup, out, verb, words)?
-            || inbound::push_answer(alloc, setup, out, verb, words)?
-            || large::push_answer(alloc, setup, out, verb, words)?,
+        screens::push_answer::<C>(alloc, setup, out, verb, words)?
+            || searches::push_answer::<C>(alloc, setup, out, verb, words)?
+            || keys::push_answer::<C>(alloc, setup, out, verb, words)?
+            || terminal::push_answer::<C>(alloc, setup, out, verb, words)?
+            || inbound::push_answer::<C>(alloc, setup, out, verb, words)?
+            || large::push_answer::<C>(alloc, setup, out, verb, words)?,
     )
+}
+
+/// Adds what a verb answers with either way of keeping a buffer, and both answers where they differ; whether it is one.
+fn push_either_answer(
+    alloc: Global,
+    setup: &Setup,
+    out: &mut String,
+    verb: &str,
+    words: &str,
+) -> Result<bool> {
+    let mut planes = String::new(alloc);
+    let is_verb = push_screen_answer::<PlaneCells>(alloc, setup, &mut planes, verb, words)?;
+    let mut plain = String::new(alloc);
+    let _same = push_screen_answer::<PlainCells>(alloc, setup, &mut plain, verb, words)?;
+    out.push_str(plain.as_str())?;
+    if plain.as_str() != planes.as_str() {
+        out.push_str(" but planes ")?;
+        out.push_str(planes.as_str())?;
+    }
+    Ok(is_verb)
 }
 
 /// Adds what any other verb answers; whether it is one.
@@ -96,7 +117,9 @@ fn push_plain_answer(alloc: Global, out: &mut String, verb: &str, words: &str) -
 fn push_answer(alloc: Global, setup: &Setup, out: &mut String, line: &str) -> Result<()> {
     let (verb, words) = line.split_once(' ').unwrap_or((line, ""));
     if push_plain_answer(alloc, out, verb, words)?
-        || push_screen_answer(alloc, setup, out, verb, words)?
+        || both::push_answer(alloc, setup, out, verb, words)?
+        || outlines::push_answer(alloc, setup, out, verb, words)?
+        || push_either_answer(alloc, setup, out, verb, words)?
     {
         return Ok(());
     }

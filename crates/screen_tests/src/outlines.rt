@@ -7,7 +7,7 @@ use crate::screens::{opened, push_field, push_state};
 use crate::script::bytes_of;
 use anyhow::Result;
 use ds_codec::{Geometry, Mode, Record, last_attr};
-use ds_screen::Outline;
+use ds_screen::{Outline, PlainCells};
 use std::alloc::{AllocError, Global};
 use test_words::{number, push_hex, push_number};
 
@@ -58,7 +58,7 @@ fn push_after(alloc: Global, setup: &Setup, out: &mut String, records: &str) -> 
 /// After how many generated records an outline and a screen are alike.
 fn push_alike(alloc: Global, setup: &Setup, out: &mut String, words: &str) -> Result<()> {
     let mut outline = blank(alloc, setup)?;
-    let mut screen = opened(alloc, setup)?;
+    let mut screen = opened::<PlainCells>(alloc, setup)?;
     let count = number(words)?;
     let alike = count_alike(alloc, &mut outline, &mut screen, count)?;
     push_number(out, alike)?;

@@ -5,14 +5,14 @@ use crate::refusals::push_apply_refused;
 use crate::script::bytes_of;
 use anyhow::{Context, Result};
 use ds_codec::{Aid, Attr, Char, Geometry, Mode, Record, Size};
-use ds_screen::{Effect, FieldAt, Lock, PlainCells, Screen};
+use ds_screen::{Cells, Effect, FieldAt, Lock, Screen};
 use std::alloc::{AllocError, Global};
 use test_words::{
     byte, cut_word, number, push_bool, push_letters, push_number, push_word_hex, push_word_number,
 };
 
 /// A new screen of the setup's sizes after its records.
-pub(crate) fn opened(alloc: Global, setup: &Setup) -> Result<Screen<PlainCells>> {
+pub(crate) fn opened<C: Cells>(alloc: Global, setup: &Setup) -> Result<Screen<C>> {
     let geometry = Geometry::new(setup.default, setup.alternate, Mode::Bits14)?;
     let mut screen = Screen::new(alloc, geometry)?;
     write_all(alloc, &mut screen, setup.after.as_str())?;
@@ -20,27 +20,27 @@ pub(crate) fn opened(alloc: Global, setup: &Setup) -> Result<Screen<PlainCells>>
 }
 
 /// The same after some more records.
-pub(crate) fn screen_after(
+pub(crate) fn screen_after<C: Cells>(
     alloc: Global,
     setup: &Setup,
     records: &str,
-) -> Result<Screen<PlainCells>> {
-    let mut screen = opened(alloc, setup)?;
+) -> Result<Screen<C>> {
+    let mut screen = opened::<C>(alloc, setup)?;
     write_all(alloc, &mut screen, records)?;
     Ok(screen)
 }
 
 /// Applies a record.
-fn write(alloc: Global, screen: &mut Screen<PlainCells>, text: &str) -> Result<Effect> {
+fn write<C: Cells>(alloc: Global, screen: &mut Screen<C>, text: &str) -> Result<Effect> {
     let bytes = bytes_of(alloc, text)?;
     let record = Record::read(Mode::Bits14, bytes.as_slice())?;
     Ok(screen.apply(&record)?)
 }
 
 /// Applies records that are parted by semicolons.
-pub(crate) fn write_all(
+pub(crate) fn write_all<C: Cells>(
     alloc: Global,
-    screen: &mut Screen<PlainCells>,
+    screen: &mut Screen<C>,
     records: &str,
 ) -> Result<()> {
     for text in records.split(';') {
@@ -52,7 +52,7 @@ pub(crate) fn write_all(
 }
 
 /// All rows, one after the other.
-fn rows_of(alloc: Global, screen: &Screen<PlainCells>) -> Result<String, AllocError> {
+fn rows_of<C: Cells>(alloc: Global, screen: &Screen<C>) -> Result<String, AllocError> {
     let mut text = String::new(alloc);
     let size = screen.size();
     for row in 0..size.rows {
@@ -63,10 +63,10 @@ fn rows_of(alloc: Global, screen: &Screen<PlainCells>) -> Result<String, AllocEr
 }
 
 /// All rows, one after the other, and the cursor.
-pub(crate) fn push_cells(
+pub(crate) fn push_cells<C: Cells>(
     alloc: Global,
     out: &mut String,
-    screen: &Screen<PlainCells>,
+    screen: &Screen<C>,
 ) -> Result<(), AllocError> {
     let rows = rows_of(alloc, screen)?;
     push_letters(out, rows.as_str())?;
@@ -87,10 +87,10 @@ fn push_size(out: &mut String, size: Size) -> Result<(), AllocError> {
 }
 
 /// The cells with the size, the keyboard and the attention identifier.
-pub(crate) fn push_all(
+pub(crate) fn push_all<C: Cells>(
     alloc: Global,
     out: &mut String,
-    screen: &Screen<PlainCells>,
+    screen: &Screen<C>,
 ) -> Result<(), AllocError> {
     push_cells(alloc, out, screen)?;
     out.push(' ')?;
@@ -108,7 +108,7 @@ pub(crate) fn push_field(out: &mut String, field: FieldAt) -> Result<(), AllocEr
     push_word_number(out, " ", field.length)
 }
 
-fn push_fields(out: &mut String, screen: &Screen<PlainCells>) -> Result<(), AllocError> {
+fn push_fields<C: Cells>(out: &mut String, screen: &Screen<C>) -> Result<(), AllocError> {
     out.push_str("fields")?;
     for field in screen.fields() {
         push_field(out, field)?;
@@ -117,9 +117,9 @@ fn push_fields(out: &mut String, screen: &Screen<PlainCells>) -> Result<(), Allo
 }
 
 /// Applies a record; why it is refused.
-fn push_applied(
+fn push_applied<C: Cells>(
     out: &mut String,
-    screen: &mut Screen<PlainCells>,
+    screen: &mut Screen<C>,
     record: &Record<'_>,
 ) -> Result<(), AllocError> {
     match screen.apply(record) {
@@ -129,8 +129,13 @@ fn push_applied(
 }
 
 /// Why a record is refused, and the cells after it.
-fn push_refused(alloc: Global, setup: &Setup, out: &mut String, text: &str) -> Result<()> {
-    let mut screen = opened(alloc, setup)?;
+fn push_refused<C: Cells>(
+    alloc: Global,
+    setup: &Setup,
+    out: &mut String,
+    text: &str,
+) -> Result<()> {
+    let mut screen = opened::<C>(alloc, setup)?;
     let bytes = bytes_of(alloc, text)?;
     let record = Record::read(Mode::Bits14, bytes.as_slice())?;
     push_applied(out, &mut screen, &record)?;
@@ -152,10 +157,10 @@ pub(crate) fn push_state(
 }
 
 /// What a record does besides, with the size, the cursor and the keyboard after it.
-fn push_effect(
+fn push_effect<C: Cells>(
     out: &mut String,
     effect: Effect,
-    screen: &Screen<PlainCells>,
+    screen: &Screen<C>,
 ) -> Result<(), AllocError> {
     out.push_str("alarm ")?;
     push_bool(out, effect.alarm)?;
@@ -167,8 +172,13 @@ fn push_effect(
 }
 
 /// What records do besides, one after the other.
-fn push_effects(alloc: Global, setup: &Setup, out: &mut String, records: &str) -> Result<()> {
-    let mut screen = opened(alloc, setup)?;
+fn push_effects<C: Cells>(
+    alloc: Global,
+    setup: &Setup,
+    out: &mut String,
+    records: &str,
+) -> Result<()> {
+    let mut screen = opened::<C>(alloc, setup)?;
     for text in records.split(';') {
         let effect = write(alloc, &mut screen, text)?;
         push_effect(out, effect, &screen)?;
@@ -177,8 +187,13 @@ fn push_effects(alloc: Global, setup: &Setup, out: &mut String, records: &str) -
 }
 
 /// A copy, once records came to the screen, and once they came to the copy too.
-fn push_copy(alloc: Global, setup: &Setup, out: &mut String, records: &str) -> Result<()> {
-    let mut screen = opened(alloc, setup)?;
+fn push_copy<C: Cells>(
+    alloc: Global,
+    setup: &Setup,
+    out: &mut String,
+    records: &str,
+) -> Result<()> {
+    let mut screen = opened::<C>(alloc, setup)?;
     screen.set_aid(Aid::enter());
     let mut copy = screen.copied(alloc)?;
     write_all(alloc, &mut screen, records)?;
@@ -194,11 +209,11 @@ fn push_copy(alloc: Global, setup: &Setup, out: &mut String, records: &str) -> R
 }
 
 /// The screen once a character was put at a place and the cursor moved there.
-fn push_put(alloc: Global, setup: &Setup, out: &mut String, words: &str) -> Result<()> {
+fn push_put<C: Cells>(alloc: Global, setup: &Setup, out: &mut String, words: &str) -> Result<()> {
     let (place, code) = cut_word(words)?;
     let (place, code) = (number(place)?, byte(code)?);
     let character = Char::new(code, false).context("a character")?;
-    let mut screen = opened(alloc, setup)?;
+    let mut screen = opened::<C>(alloc, setup)?;
     if place < screen.size().cells() {
         screen.put_char(place, character);
         screen.move_cursor(place);
@@ -207,10 +222,10 @@ fn push_put(alloc: Global, setup: &Setup, out: &mut String, words: &str) -> Resu
 }
 
 /// The fields once the attribute before a place was set.
-fn push_set(alloc: Global, setup: &Setup, out: &mut String, words: &str) -> Result<()> {
+fn push_set<C: Cells>(alloc: Global, setup: &Setup, out: &mut String, words: &str) -> Result<()> {
     let (place, bits) = cut_word(words)?;
     let (place, bits) = (number(place)?, byte(bits)?);
-    let mut screen = opened(alloc, setup)?;
+    let mut screen = opened::<C>(alloc, setup)?;
     if place < screen.size().cells() {
         if let Some(at) = screen.attr_before(place) {
             screen.set_attr(at, Attr::new(bits));
@@ -220,8 +235,8 @@ fn push_set(alloc: Global, setup: &Setup, out: &mut String, words: &str) -> Resu
 }
 
 /// The screen in error and with Enter, then erased.
-fn push_erased(alloc: Global, setup: &Setup, out: &mut String) -> Result<()> {
-    let mut screen = opened(alloc, setup)?;
+fn push_erased<C: Cells>(alloc: Global, setup: &Setup, out: &mut String) -> Result<()> {
+    let mut screen = opened::<C>(alloc, setup)?;
     screen.set_lock(Lock::Error);
     screen.set_aid(Aid::enter());
     push_all(alloc, out, &screen)?;
@@ -231,8 +246,13 @@ fn push_erased(alloc: Global, setup: &Setup, out: &mut String) -> Result<()> {
 }
 
 /// The cells and the fields once all that is unprotected was cleared.
-fn push_cleared(alloc: Global, setup: &Setup, out: &mut String, records: &str) -> Result<()> {
-    let mut screen = screen_after(alloc, setup, records)?;
+fn push_cleared<C: Cells>(
+    alloc: Global,
+    setup: &Setup,
+    out: &mut String,
+    records: &str,
+) -> Result<()> {
+    let mut screen = screen_after::<C>(alloc, setup, records)?;
     screen.clear_unprotected();
     push_all(alloc, out, &screen)?;
     out.push(' ')?;
@@ -240,7 +260,7 @@ fn push_cleared(alloc: Global, setup: &Setup, out: &mut String, records: &str) -
 }
 
 /// Adds what a verb answers that changes its screen; whether it is one of these.
-fn push_changed(
+fn push_changed<C: Cells>(
     alloc: Global,
     setup: &Setup,
     out: &mut String,
@@ -248,19 +268,19 @@ fn push_changed(
     words: &str,
 ) -> Result<bool> {
     match verb {
-        "put" => push_put(alloc, setup, out, words)?,
-        "set" => push_set(alloc, setup, out, words)?,
-        "erase" => push_erased(alloc, setup, out)?,
-        "clear" => push_cleared(alloc, setup, out, words)?,
-        "effects" => push_effects(alloc, setup, out, words)?,
-        "copy" => push_copy(alloc, setup, out, words)?,
+        "put" => push_put::<C>(alloc, setup, out, words)?,
+        "set" => push_set::<C>(alloc, setup, out, words)?,
+        "erase" => push_erased::<C>(alloc, setup, out)?,
+        "clear" => push_cleared::<C>(alloc, setup, out, words)?,
+        "effects" => push_effects::<C>(alloc, setup, out, words)?,
+        "copy" => push_copy::<C>(alloc, setup, out, words)?,
         _ => return Ok(false),
     }
     Ok(true)
 }
 
 /// Adds what a verb answers; whether it is one of these.
-pub(crate) fn push_answer(
+pub(crate) fn push_answer<C: Cells>(
     alloc: Global,
     setup: &Setup,
     out: &mut String,
@@ -268,11 +288,11 @@ pub(crate) fn push_answer(
     words: &str,
 ) -> Result<bool> {
     match verb {
-        "cells" => push_cells(alloc, out, &screen_after(alloc, setup, words)?)?,
-        "all" => push_all(alloc, out, &screen_after(alloc, setup, words)?)?,
-        "fields" => push_fields(out, &screen_after(alloc, setup, words)?)?,
-        "refused" => push_refused(alloc, setup, out, words)?,
-        _ => return push_changed(alloc, setup, out, verb, words),
+        "cells" => push_cells(alloc, out, &screen_after::<C>(alloc, setup, words)?)?,
+        "all" => push_all(alloc, out, &screen_after::<C>(alloc, setup, words)?)?,
+        "fields" => push_fields(out, &screen_after::<C>(alloc, setup, words)?)?,
+        "refused" => push_refused::<C>(alloc, setup, out, words)?,
+        _ => return push_changed::<C>(alloc, setup, out, verb, words),
     }
     Ok(true)
 }

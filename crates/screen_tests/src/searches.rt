@@ -4,7 +4,7 @@ use crate::Setup;
 use crate::screens::opened;
 use anyhow::{Context, Result};
 use ds_codec::{Attr, Cell, Char};
-use ds_screen::{Cells, PlainCells, Screen};
+use ds_screen::{Cells, Screen};
 use std::alloc::{AllocError, Global};
 use test_words::{number, push_bool, push_hex, push_number, push_word_hex, push_word_number};
 
@@ -17,7 +17,7 @@ fn push_found(out: &mut String, place: Option<u32>) -> Result<(), AllocError> {
 }
 
 /// The attribute that governs a place, and the next one from there on.
-fn push_around(out: &mut String, screen: &Screen<PlainCells>, place: u32) -> Result<()> {
+fn push_around<C: Cells>(out: &mut String, screen: &Screen<C>, place: u32) -> Result<()> {
     if place >= screen.size().cells() {
         return None.context("a place inside");
     }
@@ -27,7 +27,7 @@ fn push_around(out: &mut String, screen: &Screen<PlainCells>, place: u32) -> Res
 }
 
 /// Whether a place is open, and the first open one from there on.
-fn push_open(out: &mut String, screen: &Screen<PlainCells>, place: u32) -> Result<()> {
+fn push_open<C: Cells>(out: &mut String, screen: &Screen<C>, place: u32) -> Result<()> {
     if place >= screen.size().cells() {
         return None.context("a place inside");
     }
@@ -53,7 +53,7 @@ fn push_cell(out: &mut String, cell: Cell) -> Result<(), AllocError> {
 }
 
 /// The cell at a place.
-fn push_cell_at(out: &mut String, screen: &Screen<PlainCells>, place: u32) -> Result<()> {
+fn push_cell_at<C: Cells>(out: &mut String, screen: &Screen<C>, place: u32) -> Result<()> {
     if place >= screen.size().cells() {
         return None.context("a place inside");
     }
@@ -61,7 +61,7 @@ fn push_cell_at(out: &mut String, screen: &Screen<PlainCells>, place: u32) -> Re
 }
 
 /// The length of a buffer, its last cell, and whether it has no attribute.
-fn push_buffer(out: &mut String, cells: &PlainCells) -> Result<(), AllocError> {
+fn push_buffer<C: Cells>(out: &mut String, cells: &C) -> Result<(), AllocError> {
     let length = cells.len();
     push_number(out, length)?;
     out.push(' ')?;
@@ -74,14 +74,14 @@ fn push_buffer(out: &mut String, cells: &PlainCells) -> Result<(), AllocError> {
 }
 
 /// A buffer of so many nulls.
-fn push_reserved(alloc: Global, out: &mut String, count: u32) -> Result<()> {
-    let mut cells = PlainCells::reserved(alloc, count)?;
+fn push_reserved<C: Cells>(alloc: Global, out: &mut String, count: u32) -> Result<()> {
+    let mut cells = C::reserved(alloc, count)?;
     cells.clear(count);
     Ok(push_buffer(out, &cells)?)
 }
 
 /// Adds what a verb answers; whether it is one of these.
-pub(crate) fn push_answer(
+pub(crate) fn push_answer<C: Cells>(
     alloc: Global,
     setup: &Setup,
     out: &mut String,
@@ -89,10 +89,10 @@ pub(crate) fn push_answer(
     words: &str,
 ) -> Result<bool> {
     match verb {
-        "around" => push_around(out, &opened(alloc, setup)?, number(words)?)?,
-        "open" => push_open(out, &opened(alloc, setup)?, number(words)?)?,
-        "cell" => push_cell_at(out, &opened(alloc, setup)?, number(words)?)?,
-        "reserved" => push_reserved(alloc, out, number(words)?)?,
+        "around" => push_around(out, &opened::<C>(alloc, setup)?, number(words)?)?,
+        "open" => push_open(out, &opened::<C>(alloc, setup)?, number(words)?)?,
+        "cell" => push_cell_at(out, &opened::<C>(alloc, setup)?, number(words)?)?,
+        "reserved" => push_reserved::<C>(alloc, out, number(words)?)?,
         _ => return Ok(false),
     }
     Ok(true)

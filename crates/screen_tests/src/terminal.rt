@@ -6,7 +6,7 @@ use crate::script::bytes_of;
 use anyhow::{Context, Result};
 use ds_codec::{Geometry, Mode};
 use ds_keys::key_of_line;
-use ds_screen::{Effect, PlainCells, Screen};
+use ds_screen::{Cells, Effect, Screen};
 use ds_terminal::{
     KeyReply, RecordReply, Refused, Terminal, apply_record, read_record, take_record,
 };
@@ -14,14 +14,14 @@ use std::alloc::{AllocError, Global};
 use test_words::{push_bool, push_bytes, push_length, push_number, push_word_number};
 
 /// Shows a record.
-fn show(alloc: Global, terminal: &mut Terminal<PlainCells>, text: &str) -> Result<()> {
+fn show<C: Cells>(alloc: Global, terminal: &mut Terminal<C>, text: &str) -> Result<()> {
     let bytes = bytes_of(alloc, text)?;
     let _effect = terminal.show(bytes.as_slice())?;
     Ok(())
 }
 
 /// Shows records that are parted by semicolons.
-fn show_all(alloc: Global, terminal: &mut Terminal<PlainCells>, records: &str) -> Result<()> {
+fn show_all<C: Cells>(alloc: Global, terminal: &mut Terminal<C>, records: &str) -> Result<()> {
     for text in records.split(';') {
         if !text.is_empty() {
             show(alloc, terminal, text)?;
@@ -31,7 +31,7 @@ fn show_all(alloc: Global, terminal: &mut Terminal<PlainCells>, records: &str) -
 }
 
 /// A terminal of the setup's sizes after its records.
-fn opened(alloc: Global, setup: &Setup) -> Result<Terminal<PlainCells>> {
+fn opened<C: Cells>(alloc: Global, setup: &Setup) -> Result<Terminal<C>> {
     let geometry = Geometry::new(setup.default, setup.alternate, Mode::Bits14)?;
     let mut terminal = Terminal::new(alloc, geometry)?;
     show_all(alloc, &mut terminal, setup.after.as_str())?;
@@ -71,10 +71,10 @@ fn push_key_reply(out: &mut String, reply: &KeyReply) -> Result<(), AllocError> 
 }
 
 /// Receives a record, and adds the reply.
-fn push_received(
+fn push_received<C: Cells>(
     alloc: Global,
     out: &mut String,
-    terminal: &mut Terminal<PlainCells>,
+    terminal: &mut Terminal<C>,
     text: &str,
 ) -> Result<()> {
     let bytes = bytes_of(alloc, text)?;
@@ -84,15 +84,20 @@ fn push_received(
 }
 
 /// The replies to records, and the cursor at last.
-fn push_replies(alloc: Global, setup: &Setup, out: &mut String, records: &str) -> Result<()> {
-    let mut terminal = opened(alloc, setup)?;
+fn push_replies<C: Cells>(
+    alloc: Global,
+    setup: &Setup,
+    out: &mut String,
+    records: &str,
+) -> Result<()> {
+    let mut terminal = opened::<C>(alloc, setup)?;
     for text in records.split(';') {
         push_received(alloc, out, &mut terminal, text)?;
     }
     Ok(push_word_number(out, "cursor ", terminal.screen().cursor())?)
 }
 
-fn count_fields(screen: &Screen<PlainCells>) -> u32 {
+fn count_fields<C: Cells>(screen: &Screen<C>) -> u32 {
     let mut count = 0u32;
     for _field in screen.fields() {
         count = count.saturating_add(1);
@@ -101,10 +106,10 @@ fn count_fields(screen: &Screen<PlainCells>) -> u32 {
 }
 
 /// Presses the key of a line, and adds the reply.
-fn push_key(
+fn push_key<C: Cells>(
     alloc: Global,
     out: &mut String,
-    terminal: &mut Terminal<PlainCells>,
+    terminal: &mut Terminal<C>,
     line: &str,
 ) -> Result<()> {
     let key = key_of_line(line).context("a key")?;
@@ -113,10 +118,10 @@ fn push_key(
     Ok(out.push_str("; ")?)
 }
 
-fn push_keys(
+fn push_keys<C: Cells>(
     alloc: Global,
     out: &mut String,
-    terminal: &mut Terminal<PlainCells>,
+    terminal: &mut Terminal<C>,
     keys: &str,
 ) -> Result<()> {
     for line in keys.split(", ") {
@@ -126,10 +131,10 @@ fn push_keys(
 }
 
 /// How many cells, fields and which cursor a screen has, and how many fields another one.
-fn push_counts(
+fn push_counts<C: Cells>(
     out: &mut String,
-    screen: &Screen<PlainCells>,
-    before: &Screen<PlainCells>,
+    screen: &Screen<C>,
+    before: &Screen<C>,
 ) -> Result<(), AllocError> {
     push_word_number(out, "cells ", screen.size().cells())?;
     push_word_number(out, " fields ", count_fields(screen))?;
@@ -139,8 +144,13 @@ fn push_counts(
 
 /// The replies to keys, then how many cells, fields and which cursor the terminal has, and how many fields a copy from
 /// before has.
-fn push_pressed(alloc: Global, setup: &Setup, out: &mut String, keys: &str) -> Result<()> {
-    let mut terminal = opened(alloc, setup)?;
+fn push_pressed<C: Cells>(
+    alloc: Global,
+    setup: &Setup,
+    out: &mut String,
+    keys: &str,
+) -> Result<()> {
+    let mut terminal = opened::<C>(alloc, setup)?;
     let before = terminal.copied(alloc)?;
     push_keys(alloc, out, &mut terminal, keys)?;
     Ok(push_counts(out, terminal.screen(), before.screen())?)
@@ -156,8 +166,13 @@ fn push_parts(out: &mut String, refused: Refused) -> Result<(), AllocError> {
 }
 
 /// Why a terminal does not show a record, by its parts.
-fn push_unshown(alloc: Global, setup: &Setup, out: &mut String, record: &str) -> Result<()> {
-    let mut terminal = opened(alloc, setup)?;
+fn push_unshown<C: Cells>(
+    alloc: Global,
+    setup: &Setup,
+    out: &mut String,
+    record: &str,
+) -> Result<()> {
+    let mut terminal = opened::<C>(alloc, setup)?;
     let bytes = bytes_of(alloc, record)?;
     match terminal.show(bytes.as_slice()) {
         Ok(_) => Ok(out.push_str("shown")?),
@@ -187,9 +202,9 @@ fn push_restored(out: &mut String, effect: Effect, cursor: u32) -> Result<(), Al
 }
 
 /// A record that a screen takes at once; whether it does.
-fn push_taken(
+fn push_taken<C: Cells>(
     out: &mut String,
-    screen: &mut Screen<PlainCells>,
+    screen: &mut Screen<C>,
     bytes: &[u8],
 ) -> Result<bool, AllocError> {
     match take_record(screen, bytes) {
@@ -205,9 +220,9 @@ fn push_taken(
 }
 
 /// A record that a screen reads and then applies.
-fn push_read_applied(
+fn push_read_applied<C: Cells>(
     out: &mut String,
-    screen: &mut Screen<PlainCells>,
+    screen: &mut Screen<C>,
     bytes: &[u8],
 ) -> Result<(), AllocError> {
     let record = match read_record(screen, bytes) {
@@ -221,10 +236,10 @@ fn push_read_applied(
 }
 
 /// A record that a screen takes at once, and one that it reads and then applies.
-fn push_two(alloc: Global, setup: &Setup, out: &mut String, records: &str) -> Result<()> {
+fn push_two<C: Cells>(alloc: Global, setup: &Setup, out: &mut String, records: &str) -> Result<()> {
     let (first, second) = records.split_once(';').context("two records")?;
     let geometry = Geometry::new(setup.default, setup.alternate, Mode::Bits14)?;
-    let mut screen = Screen::<PlainCells>::new(alloc, geometry)?;
+    let mut screen = Screen::<C>::new(alloc, geometry)?;
     let first = bytes_of(alloc, first)?;
     let second = bytes_of(alloc, second)?;
     if push_taken(out, &mut screen, first.as_slice())? {
@@ -234,7 +249,7 @@ fn push_two(alloc: Global, setup: &Setup, out: &mut String, records: &str) -> Re
 }
 
 /// Adds what a verb answers; whether it is one of these.
-pub(crate) fn push_answer(
+pub(crate) fn push_answer<C: Cells>(
     alloc: Global,
     setup: &Setup,
     out: &mut String,
@@ -242,10 +257,10 @@ pub(crate) fn push_answer(
     words: &str,
 ) -> Result<bool> {
     match verb {
-        "receive" => push_replies(alloc, setup, out, words)?,
-        "reply" => push_pressed(alloc, setup, out, words)?,
-        "show" => push_unshown(alloc, setup, out, words)?,
-        "take" => push_two(alloc, setup, out, words)?,
+        "receive" => push_replies::<C>(alloc, setup, out, words)?,
+        "reply" => push_pressed::<C>(alloc, setup, out, words)?,
+        "show" => push_unshown::<C>(alloc, setup, out, words)?,
+        "take" => push_two::<C>(alloc, setup, out, words)?,
         _ => return Ok(false),
     }
     Ok(true)

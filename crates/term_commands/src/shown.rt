@@ -3,11 +3,11 @@
 ghost use Rattle.term_commands.specs.Held.{ShowsAll};
 
 use crate::fault::Fault;
-use ds_screen::PlainCells;
+use ds_screen::PlaneCells;
 use ds_terminal::Terminal;
 
 /// Shows the records in turn, up to the first that is refused.
-pub fn show_all(terminal: &mut Terminal<PlainCells>, records: &[Vec<u8>]) -> Result<(), Fault>
+pub fn show_all(terminal: &mut Terminal<PlaneCells>, records: &[Vec<u8>]) -> Result<(), Fault>
     ensures { ShowsAll terminal.old terminal.new records.now result }
 {
     for (index, bytes) in records.iter().enumerate() {

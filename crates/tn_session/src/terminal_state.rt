@@ -1,7 +1,7 @@
 //! What a terminal keeps during a run over a line.
 
 use crate::terminal::TermCore;
-use ds_screen::PlainCells;
+use ds_screen::PlaneCells;
 use ds_terminal::Terminal;
 
 /// A terminal's run, the keys that are left aside.
@@ -10,7 +10,7 @@ pub(crate) struct TerminalState {
     /// The session.
     pub(crate) core: TermCore,
     /// The screen and keyboard.
-    pub(crate) terminal: Terminal<PlainCells>,
+    pub(crate) terminal: Terminal<PlaneCells>,
     /// The sequence number of the next answer.
     pub(crate) sequence: u16,
     /// The keyboard has been free.

@@ -20,7 +20,7 @@ use crate::output::bytes::push_sent;
 use crate::shown::show_all;
 use crate::status::Status;
 use ds_keys::Key;
-use ds_screen::PlainCells;
+use ds_screen::PlaneCells;
 use ds_terminal::{KeyReply, Terminal};
 use std::alloc::{AllocError, Global};
 use std::io::{Read, Write};
@@ -47,7 +47,7 @@ fn push_reply(
 fn push_key(
     alloc: Global,
     out: &mut String,
-    terminal: &mut Terminal<PlainCells>,
+    terminal: &mut Terminal<PlaneCells>,
     key: Key,
 ) -> Result<(), AllocError>
     ensures line { OnOk result (string_bytes out.new ≡ string_bytes out.old
@@ -62,7 +62,7 @@ fn push_key(
 fn push_keys(
     alloc: Global,
     out: &mut String,
-    terminal: &mut Terminal<PlainCells>,
+    terminal: &mut Terminal<PlaneCells>,
     keys: &[Key],
 ) -> Result<(), AllocError>
     ensures { OnOk result
@@ -86,7 +86,7 @@ fn press_keys<R: Read, K: Read>(
 {
     let told = read_records(alloc, reader, SizeLine::Allowed)?;
     let named = read_keys(alloc, keys)?;
-    let mut terminal = Terminal::<PlainCells>::new(alloc, told.geometry)?;
+    let mut terminal = Terminal::<PlaneCells>::new(alloc, told.geometry)?;
     show_all(&mut terminal, told.records.as_slice())?;
     let mut text = String::new(alloc);
     push_keys(alloc, &mut text, &mut terminal, named.keys.as_slice())?;

@@ -13,7 +13,7 @@ use crate::output::answer::{Answer, finish};
 use crate::output::screen::screen_text;
 use crate::shown::show_all;
 use crate::status::Status;
-use ds_screen::PlainCells;
+use ds_screen::PlaneCells;
 use ds_terminal::Terminal;
 use std::alloc::Global;
 use std::io::{Read, Write};
@@ -22,7 +22,7 @@ fn show<R: Read>(alloc: Global, reader: &mut R) -> Result<Answer, CommandError>
     ensures { IfSome (R.remaining reader.old) (λ input. Gives answer_seen result (show input)) }
 {
     let told = read_records(alloc, reader, SizeLine::Allowed)?;
-    let mut terminal = Terminal::<PlainCells>::new(alloc, told.geometry)?;
+    let mut terminal = Terminal::<PlaneCells>::new(alloc, told.geometry)?;
     show_all(&mut terminal, told.records.as_slice())?;
     Ok(Answer {
         text: screen_text(alloc, terminal.screen())?,

@@ -13,7 +13,7 @@ use crate::shown::show_all;
 use ds_codec::Aid;
 use ds_inbound::write_inbound;
 use ds_keys::Key;
-use ds_screen::PlainCells;
+use ds_screen::PlaneCells;
 use ds_terminal::Terminal;
 use scr_check::{Demo, Finding};
 use scr_layout::Layout;
@@ -29,7 +29,7 @@ pub enum Demos {
 /// Presses a key so many times.
 fn press_times(
     alloc: Global,
-    terminal: &mut Terminal<PlainCells>,
+    terminal: &mut Terminal<PlaneCells>,
     key: &Key,
     times: u32,
 ) -> Result<(), AllocError>
@@ -52,7 +52,7 @@ fn enter() -> Key
 /// Presses the keys of a demo.
 fn press_demo(
     alloc: Global,
-    terminal: &mut Terminal<PlainCells>,
+    terminal: &mut Terminal<PlaneCells>,
     demo: Demo,
 ) -> Result<(), AllocError>
     ensures { OnOk result (terminal.new ≡ after terminal.old (demo_keys demo)) }
@@ -67,7 +67,7 @@ fn press_demo(
 /// What the terminal sends once the keys of a demo are pressed.
 fn replay(
     alloc: Global,
-    terminal: &mut Terminal<PlainCells>,
+    terminal: &mut Terminal<PlaneCells>,
     demo: Demo,
 ) -> Result<Vec<u8>, AllocError>
     ensures { IfOk result (λ bytes. bytes.items ≡ bytes_replayed terminal.old demo) }
@@ -83,14 +83,14 @@ pub fn demo_terminal(
     layout: &Layout,
     records: &[Vec<u8>],
     demos: Demos,
-) -> Result<Option<Terminal<PlainCells>>, AllocError>
+) -> Result<Option<Terminal<PlaneCells>>, AllocError>
     ensures { IfOk result (λ terminal. terminal ≡ asked demos (shown_on layout.now (map (λ bytes.
         bytes.items) records.now))) }
 {
     if demos == Demos::Omitted {
         return Ok(None);
     }
-    let mut terminal = Terminal::<PlainCells>::new(alloc, layout.geometry())?;
+    let mut terminal = Terminal::<PlaneCells>::new(alloc, layout.geometry())?;
     match show_all(&mut terminal, records) {
         Ok(()) => Ok(Some(terminal)),
         Err(_) => Ok(None),
@@ -101,7 +101,7 @@ pub fn demo_terminal(
 pub fn push_sends(
     alloc: Global,
     out: &mut String,
-    terminal: Option<&Terminal<PlainCells>>,
+    terminal: Option<&Terminal<PlaneCells>>,
     finding: Finding,
 ) -> Result<(), AllocError>
     ensures { OnOk result (string_bytes out.new ≡ string_bytes out.old

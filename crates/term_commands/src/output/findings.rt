@@ -6,7 +6,7 @@ ghost use Rattle.std.specs.List.{flat_map};
 ghost use Rattle.term_commands.specs.DemoLines.{finding_lines};
 
 use crate::output::demo::push_sends;
-use ds_screen::PlainCells;
+use ds_screen::PlaneCells;
 use ds_terminal::Terminal;
 use scr_check::Finding;
 use scr_layout::Layout;
@@ -17,7 +17,7 @@ fn push_lines(
     alloc: Global,
     out: &mut String,
     layout: &Layout,
-    terminal: Option<&Terminal<PlainCells>>,
+    terminal: Option<&Terminal<PlaneCells>>,
     finding: Finding,
 ) -> Result<(), AllocError>
     ensures { OnOk result (string_bytes out.new ≡ string_bytes out.old
@@ -33,7 +33,7 @@ pub fn push_findings(
     alloc: Global,
     out: &mut String,
     layout: &Layout,
-    terminal: Option<&Terminal<PlainCells>>,
+    terminal: Option<&Terminal<PlaneCells>>,
     findings: &[Finding],
 ) -> Result<(), AllocError>
     ensures { OnOk result (string_bytes out.new ≡ string_bytes out.old

@@ -6,7 +6,7 @@ ghost use Rattle.std.specs.List.{flat_map, range_with_len};
 ghost use Rattle.ds_screen.specs.Fields.{fields_of};
 ghost use Rattle.term_commands.specs.Screen.{lock_word, header_line, field_line, row_line, screen_text};
 
-use ds_screen::{FieldAt, Lock, PlainCells, Screen};
+use ds_screen::{FieldAt, Lock, PlaneCells, Screen};
 use order_lines::push_hex;
 use std::alloc::{AllocError, Global};
 
@@ -20,7 +20,7 @@ fn word_of(lock: Lock) -> &'static str
     }
 }
 
-fn push_header(out: &mut String, screen: &Screen<PlainCells>) -> Result<(), AllocError>
+fn push_header(out: &mut String, screen: &Screen<PlaneCells>) -> Result<(), AllocError>
     ensures { OnOk result (string_bytes out.new ≡ string_bytes out.old ++ header_line screen.now) }
 {
     let size = screen.size();
@@ -50,7 +50,7 @@ fn push_field(out: &mut String, field: FieldAt) -> Result<(), AllocError>
     write!(out, " place {place} length {length}\n")
 }
 
-fn push_fields(out: &mut String, screen: &Screen<PlainCells>) -> Result<(), AllocError>
+fn push_fields(out: &mut String, screen: &Screen<PlaneCells>) -> Result<(), AllocError>
     ensures { OnOk result (string_bytes out.new ≡ string_bytes out.old
         ++ flat_map field_line (fields_of screen.now.cells)) }
 {
@@ -63,7 +63,7 @@ fn push_fields(out: &mut String, screen: &Screen<PlainCells>) -> Result<(), Allo
 fn push_row(
     alloc: Global,
     out: &mut String,
-    screen: &Screen<PlainCells>,
+    screen: &Screen<PlaneCells>,
     row: u16,
 ) -> Result<(), AllocError>
     requires { row < screen.now.size.rows }
@@ -73,7 +73,7 @@ fn push_row(
     write!(out, "|{text}|\n")
 }
 
-fn push_rows(alloc: Global, out: &mut String, screen: &Screen<PlainCells>) -> Result<(), AllocError>
+fn push_rows(alloc: Global, out: &mut String, screen: &Screen<PlaneCells>) -> Result<(), AllocError>
     ensures { OnOk result (string_bytes out.new ≡ string_bytes out.old
         ++ flat_map (row_line screen.now) (range_with_len 0 screen.now.size.rows)) }
 {
@@ -85,7 +85,7 @@ fn push_rows(alloc: Global, out: &mut String, screen: &Screen<PlainCells>) -> Re
 }
 
 /// The screen's text.
-pub fn screen_text(alloc: Global, screen: &Screen<PlainCells>) -> Result<String, AllocError>
+pub fn screen_text(alloc: Global, screen: &Screen<PlaneCells>) -> Result<String, AllocError>
     ensures { IfOk result (λ text. string_bytes text ≡ screen_text screen.now) }
 {
     let mut out = String::new(alloc);

@@ -1,0 +1,410 @@
+-- What is done to the cells of planes, and to the index of their attributes.
+use Rattle.std.proofs.Common.{◌≡◌, ℕ, zero, suc, ◌+◌, ◌-◌, ◌%◌, min, ◌<◌, ◌≤◌, ◌&&◌, ◌||◌, Bool, true, false, cond, eqb, leb, ltb, List, [], ◌∷◌, length, get_or, set, Option, Some, None, refl, sym, ◌∙◌, ap, subst, arith, inl, inr, get_or-set_same, get_or-set_other}
+use Rattle.std.specs.Option.{unwrap_or, option_map}
+use Rattle.std.proofs.Math.Nat.{mod-add-mod, mod-eq_of_lt, mod_self}
+use Rattle.std.proofs.lemmas.Bool.{cond-true, cond-false, cases_Bool, cases_lt, cases_eq, eqb-true, eq-eqb, ne_eqb, leb-true, ltb-true, lt-ltb, le-ltb, le-leb, lt-leb}
+use Rattle.ds_codec.specs.declared.cell.Cell.{Cell}
+use Rattle.ds_codec.specs.declared.cell.Cell.TheVariants.{Field, Char}
+use Rattle.ds_codec.specs.Character.{Glyph, glyph, null}
+use Rattle.ds_places.specs.Places.{at_place, IsRising, IsWithin, is_round}
+use Rattle.ds_places.specs.Nearest.{IsFirstFrom}
+use Rattle.ds_places.proofs.ListLaws.{rises_order}
+use Rattle.ds_places.proofs.SearchLaws.{Parts}
+use Rattle.ds_screen.specs.declared.records.Reset.{Reset}
+use Rattle.ds_screen.specs.declared.records.Reset.TheVariants.{Every, Unprotected}
+use Rattle.ds_screen.specs.declared.mark.Mark.{Mark}
+use Rattle.ds_screen.specs.Ring.{ring_on, ring_distance, greatest}
+use Rattle.ds_screen.specs.Picture.{blank, cell_at, ruled}
+use Rattle.ds_screen.specs.Fields.{is_attribute}
+use Rattle.ds_screen.specs.Orders.{byte_cell, text_cell, repeated_cell, nulled_cell, is_reached, first_from, is_unprotected_attribute, behind, tab_stop}
+use Rattle.ds_screen.specs.Reset.{after_reset}
+use Rattle.ds_screen.specs.Marks.{mark_of}
+use Rattle.ds_screen.specs.Planes.{filled_cell, written_cell, itself, spot_of, IsIndex}
+use Rattle.ds_screen.proofs.RuledLaws.{length-ruled, cell_at-ruled, ruled_same, as_ruled}
+use Rattle.ds_screen.proofs.TabLaws.{first_hit, first_miss}
+use Rattle.ds_screen.proofs.EraseLaws.{reaches}
+use Rattle.ds_screen.proofs.MarkLaws.{past_blank, round_distance, not_unprotected, text_each}
+use Rattle.ds_screen.proofs.RunLaws.{run_cell, greatest_hit, greatest_miss}
+use Rattle.ds_screen.proofs.PlaneLaws.{both_ends}
+use Rattle.ds_screen.proofs.HalvingLaws.{held_attribute, none_held, gap, here_held}
+
+-- ---- an index of cells that a rule says
+pub listed_ruled : (index : List ℕ) (n : ℕ) (rule : ℕ → Cell) → IsRising itself index → IsWithin itself n index
+    → ((p : ℕ) → p < n → at_place itself index p ≡ spot_of p (rule p)) → IsIndex index (ruled n rule)
+listed_ruled index n rule rising within each =
+    record {
+      rising = rising;
+      each = λ p. elim (cases_lt p n) [
+        | inl lt ↦ each p lt ∙ ap (spot_of p) (sym (cell_at-ruled n rule p lt))
+        | inr far ↦ within p far ∙ ap (spot_of p) (sym (past_blank (ruled n rule) p (omega (arith, length-ruled n rule))))
+      ];
+    }
+
+pub within_listed : (index : List ℕ) (cells : List Cell) → IsIndex index cells → IsWithin itself (length cells) index
+within_listed index cells listed q far = listed.each q ∙ ap (spot_of q) (past_blank cells q far)
+
+-- ---- a character in so many positions
+spot_char : (t : Bool) (q : ℕ) (c : Glyph) (cell : Cell) → cond t None (spot_of q cell) ≡ spot_of q (cond t (Char c) cell)
+spot_char true q c cell = refl
+spot_char false q c cell = refl
+
+round_reached : (n b stop steps q : ℕ) → b < n → q < n → steps ≤ n → steps ≡ cond (eqb b stop) n (ring_distance n b stop) → is_round n b steps q ≡ is_reached n b stop q
+round_reached n b stop steps q inside lt most is = round_distance n b steps q inside lt most ∙ reaches n b stop q steps inside lt is
+
+pub repeat_cells : (cells : List Cell) (n b stop steps : ℕ) (c : Glyph) → n ≡ length cells → b < n → steps ≤ n → steps ≡ cond (eqb b stop) n (ring_distance n b stop)
+    → ruled n (λ p. cond (is_round n b steps p) (Char c) (cell_at cells p)) ≡ ruled (length cells) (repeated_cell cells b stop c)
+unfolding repeated_cell
+repeat_cells cells n b stop steps c len inside most is =
+    ap (λ m. ruled m (λ p. cond (is_round n b steps p) (Char c) (cell_at cells p))) len
+    ∙ ruled_same (length cells) _ _
+    (λ p lt. ap (λ t. cond t (Char c) (cell_at cells p))
+    (round_reached n b stop steps p inside (omega arith) most is ∙ ap (λ m. is_reached m b stop p) len))
+
+pub repeat_listed : (index now : List ℕ) (cells : List Cell) (n b steps : ℕ) (c : Glyph) → IsIndex index cells → n ≡ length cells → IsRising itself now → IsWithin itself n now
+    → ((q : ℕ) → at_place itself now q ≡ cond (is_round n b steps q) None (at_place itself index q))
+    → IsIndex now (ruled n (λ p. cond (is_round n b steps p) (Char c) (cell_at cells p)))
+repeat_listed index now cells n b steps c listed len rising within cut =
+    listed_ruled now n (λ p. cond (is_round n b steps p) (Char c) (cell_at cells p)) rising within
+    (λ p lt. cut p ∙ ap (cond (is_round n b steps p) None) (listed.each p) ∙ spot_char (is_round n b steps p) p c (cell_at cells p))
+
+-- ---- nulls up to an attribute
+pub null_place : (index : List ℕ) (cells : List Cell) (n b : ℕ) (o : Option ℕ) → IsIndex index cells → n ≡ length cells → IsFirstFrom itself index b o
+    → (unwrap_or o n ≡ unwrap_or (first_from is_attribute cells b) (length cells))
+    × ((p : ℕ) → b ≤ p → p < unwrap_or o n → is_attribute (cell_at cells p) ≡ false)
+null_place index cells n b None listed len found = (
+  len ∙ sym (ap (λ o. unwrap_or o (length cells)) (first_miss is_attribute cells b (λ q from lt. none_held index cells q listed (found q from)))),
+  λ p from below. none_held index cells p listed (found p from),
+)
+null_place index cells n b (Some q) listed len found =
+    let there = held_attribute index cells q q listed found.1 in (
+      sym (ap (λ o. unwrap_or o (length cells)) (first_hit is_attribute cells b q
+          (record { ahead = found.0; inside = there.2; misses = λ r from below. none_held index cells r listed (found.2 r from below); hit = there.0 }))),
+      λ p from below. none_held index cells p listed (found.2 p from below),
+    )
+
+pub null_listed : (index : List ℕ) (cells : List Cell) (b stop : ℕ) (c : Glyph) → IsIndex index cells → ((p : ℕ) → b ≤ p → p < stop → is_attribute (cell_at cells p) ≡ false)
+    → IsIndex index (ruled (length cells) (filled_cell cells b stop c))
+null_listed index cells b stop c listed misses =
+    listed_ruled index (length cells) (filled_cell cells b stop c) listed.rising (within_listed index cells listed)
+    (λ p lt. listed.each p ∙ same p)
+  where
+    no_spot : (p : ℕ) (cell : Cell) → is_attribute cell ≡ false → spot_of p cell ≡ None
+    no_spot p (Field bits) e = absurd cc
+    no_spot p (Char x) e = refl
+
+    chosen : (p : ℕ) (t u : Bool) (cell : Cell) → (t ≡ true → u ≡ true → is_attribute cell ≡ false) → spot_of p cell ≡ spot_of p (cond (t && u) (Char c) cell)
+    chosen p true true cell h = no_spot p cell (h refl refl)
+    chosen p true false cell h = refl
+    chosen p false u cell h = refl
+
+    same : (p : ℕ) → spot_of p (cell_at cells p) ≡ spot_of p (filled_cell cells b stop c p)
+    same p = chosen p (leb b p) (ltb p stop) (cell_at cells p) (λ low high. misses p (leb-true b p low) (ltb-true p stop high))
+
+pub null_cells : (cells : List Cell) (b stop : ℕ) → ruled (length cells) (filled_cell cells b stop null) ≡ ruled (length cells) (nulled_cell cells b stop)
+unfolding nulled_cell
+null_cells cells b stop = refl
+
+-- ---- the entries of an index
+pub place_index : (xs : List ℕ) (q r : ℕ) → at_place itself xs q ≡ Some r → (k : ℕ) × (k < length xs) × (get_or xs k 0 ≡ q)
+place_index [] q r held = absurd (let e = held in cc)
+place_index (x ∷ xs) q r held =
+    elim (cases_Bool (eqb x q)) [
+      | inl same ↦ (0, omega arith, eqb-true x q same)
+      | inr apart ↦
+          let more = place_index xs q r (sym (cond-false (eqb x q) (Some x) (at_place itself xs q) apart) ∙ held) in
+          (suc more.0, omega (arith, more.1), more.2)
+    ]
+
+spot_there : (q : ℕ) (cell : Cell) → is_attribute cell ≡ true → spot_of q cell ≡ Some q
+spot_there q (Field bits) e = refl
+spot_there q (Char c) e = absurd cc
+
+-- an attribute from a place on is one of the entries from the place's rank on
+pub entry_from : (index : List ℕ) (cells : List Cell) (from start r : ℕ) → IsIndex index cells → Parts itself index from start → from ≤ r → is_attribute (cell_at cells r) ≡ true
+    → (k : ℕ) × (start ≤ k) × (k < length index) × (get_or index k 0 ≡ r)
+entry_from index cells from start r listed parts above there =
+    let found = place_index index r r (listed.each r ∙ spot_there r (cell_at cells r) there) in (
+      found.0,
+      elim (cases_lt found.0 start) [
+        | inl early ↦ let small : get_or index found.0 0 < from = parts.0 found.0 0 (omega (arith, found.1)) early in absurd (omega (arith, small, found.2, above))
+        | inr late ↦ late
+      ],
+      found.1,
+      found.2,
+    )
+
+-- none of the entries up to i is unprotected
+abbrev pub NoneOfThese : List ℕ → List Cell → ℕ → ℕ → Type 0
+NoneOfThese index cells start i = (k : ℕ) → start ≤ k → k < i → is_unprotected_attribute (cell_at cells (get_or index k 0)) ≡ false
+
+entry_below : (index : List ℕ) (k i : ℕ) → IsRising itself index → k < length index → i < length index → get_or index k 0 < get_or index i 0 → k < i
+entry_below index k i rising lk li less =
+    elim (cases_lt k i) [
+      | inl lt ↦ lt
+      | inr ge ↦ elim (cases_eq k i) [
+        | inl same ↦ absurd (omega (arith, less, ap (λ z. get_or index z 0) same))
+        | inr apart ↦ let more = rises_order itself 0 index rising i k 0 (omega arith) lk in absurd (omega (arith, more, less))
+      ]
+    ]
+
+pub stop_found : (index : List ℕ) (cells : List Cell) (from start i : ℕ) → IsIndex index cells → Parts itself index from start → start ≤ i → i < length index
+    → NoneOfThese index cells start i → is_unprotected_attribute (cell_at cells (get_or index i 0)) ≡ true
+    → ring_on (length cells) (get_or index i 0) 1 ≡ tab_stop cells from
+stop_found index cells from start i listed parts order lt misses hit =
+    let q : ℕ = get_or index i 0 in
+    sym (ap (behind (length cells)) (first_hit is_unprotected_attribute cells from q
+    (record {
+      ahead = parts.1 i 0 order lt;
+      inside = (here_held index cells i listed lt).1;
+      misses = λ r low below. elim (cases_Bool (is_attribute (cell_at cells r))) [
+        | inl there ↦
+            let found = entry_from index cells from start r listed parts low there in
+            ap (λ z. is_unprotected_attribute (cell_at cells z)) (sym found.3)
+            ∙ misses found.0 found.1 (entry_below index found.0 i listed.rising found.2 lt (omega (arith, found.3, below)))
+        | inr none ↦ not_unprotected (cell_at cells r) none
+      ];
+      hit = hit;
+    })))
+
+pub stop_nowhere : (index : List ℕ) (cells : List Cell) (from start : ℕ) → IsIndex index cells → Parts itself index from start
+    → NoneOfThese index cells start (length index) → 0 ≡ tab_stop cells from
+stop_nowhere index cells from start listed parts misses =
+    sym (ap (behind (length cells)) (first_miss is_unprotected_attribute cells from
+    (λ r low lt. elim (cases_Bool (is_attribute (cell_at cells r))) [
+      | inl there ↦
+          let found = entry_from index cells from start r listed parts low there in
+          ap (λ z. is_unprotected_attribute (cell_at cells z)) (sym found.3) ∙ misses found.0 found.1 found.2
+      | inr none ↦ not_unprotected (cell_at cells r) none
+    ])))
+
+pub stop_more : (index : List ℕ) (cells : List Cell) (start i : ℕ) → NoneOfThese index cells start i → is_unprotected_attribute (cell_at cells (get_or index i 0)) ≡ false
+    → NoneOfThese index cells start (i + 1)
+stop_more index cells start i misses shut k from below =
+    elim (cases_eq k i) [
+      | inl same ↦ ap (λ z. is_unprotected_attribute (cell_at cells (get_or index z 0))) same ∙ shut
+      | inr apart ↦ misses k from (omega arith)
+    ]
+
+-- ---- the tags of the attributes that are listed
+-- the place after the entries up to i
+abbrev pub bound : List ℕ → ℕ → ℕ
+bound index i = cond (eqb i 0) 0 (get_or index (i - 1) 0 + 1)
+
+-- the cells of the places below a bound are reset
+abbrev pub reset_below : Reset → List Cell → ℕ → ℕ → Cell
+reset_below which cells low p = cond (ltb p low) (after_reset which (cell_at cells p)) (cell_at cells p)
+
+keep_char : (which : Reset) (c : Cell) → is_attribute c ≡ false → after_reset which c ≡ c
+keep_char Every (Field bits) e = absurd cc
+keep_char Every (Char c) e = refl
+keep_char Unprotected (Field bits) e = absurd cc
+keep_char Unprotected (Char c) e = refl
+
+-- no attribute lies between two entries
+quiet : (index : List ℕ) (cells : List Cell) (i p : ℕ) → IsIndex index cells → i ≤ length index → bound index i ≤ p → (i < length index → p < get_or index i 0) → is_attribute (cell_at cells p) ≡ false
+quiet index cells i p listed within low high =
+    gap index cells p listed (λ k lk same. elim (cases_lt k i) [
+      | inl early ↦
+          let last : bound index i ≡ get_or index (i - 1) 0 + 1 = cond-false (eqb i 0) 0 (get_or index (i - 1) 0 + 1) (not_zero i early) in
+          elim (cases_eq k (i - 1)) [
+            | inl one ↦ omega (arith, last, low, same, ap (λ z. get_or index z 0) one)
+            | inr less ↦ let rise = rises_order itself 0 index listed.rising k (i - 1) 0 (omega arith) (omega arith) in omega (arith, last, low, same, rise)
+          ]
+      | inr late ↦
+          let li : i < length index = omega arith in
+          let up = high li in
+          elim (cases_eq k i) [
+            | inl one ↦ omega (arith, up, same, ap (λ z. get_or index z 0) one)
+            | inr more ↦ let rise = rises_order itself 0 index listed.rising i k 0 (omega arith) lk in omega (arith, rise, up, same)
+          ]
+    ])
+  where
+    not_zero : (i : ℕ) {k : ℕ} → k < i → eqb i 0 ≡ false
+    not_zero i lt = ne_eqb i 0 (λ same. omega (arith, same))
+
+pub bound_next : (index : List ℕ) (i : ℕ) → bound index (i + 1) ≡ get_or index i 0 + 1
+bound_next index i =
+    let back : i + 1 - 1 ≡ i = omega arith in
+    cond-false (eqb (i + 1) 0) 0 (get_or index (i + 1 - 1) 0 + 1) (ne_eqb (i + 1) 0 (λ same. omega (arith, same))) ∙ ap (λ k. get_or index k 0 + 1) back
+
+bound_low : (index : List ℕ) (i : ℕ) → IsRising itself index → i < length index → bound index i ≤ get_or index i 0
+bound_low index zero rising lt = omega arith
+bound_low index (suc i) rising lt =
+    let next : bound index (i + 1) ≡ get_or index i 0 + 1 = bound_next index i in
+    let one : suc i ≡ i + 1 = omega arith in
+    let rise = rises_order itself 0 index rising i (suc i) 0 (omega arith) lt in
+    omega (arith, next, rise, ap (bound index) one)
+
+pub reset_reads : (index : List ℕ) (cells now : List Cell) (which : Reset) (i : ℕ) → IsIndex index cells → i < length index
+    → ((p : ℕ) → p < length cells → cell_at now p ≡ reset_below which cells (bound index i) p) → cell_at now (get_or index i 0) ≡ cell_at cells (get_or index i 0)
+reset_reads index cells now which i listed lt each =
+    each (get_or index i 0) (here_held index cells i listed lt).1
+    ∙ cond-false (ltb (get_or index i 0) (bound index i)) _ _ (le-ltb _ _ (bound_low index i listed.rising lt))
+
+pub reset_more : (index : List ℕ) (cells now : List Cell) (which : Reset) (i : ℕ) (cell : Cell) → IsIndex index cells → i < length index → length now ≡ length cells
+    → cell ≡ after_reset which (cell_at cells (get_or index i 0))
+    → ((p : ℕ) → p < length cells → cell_at now p ≡ reset_below which cells (bound index i) p)
+    → (p : ℕ) → p < length cells → cell_at (set now (get_or index i 0) cell) p ≡ reset_below which cells (bound index (i + 1)) p
+reset_more index cells now which i cell listed lt len is each p below =
+    let q : ℕ = get_or index i 0 in
+    let next : bound index (i + 1) ≡ q + 1 = bound_next index i in
+    let low = bound_low index i listed.rising lt in
+    elim (cases_eq p q) [
+      | inl same ↦
+          ap (λ k. get_or (set now q cell) k blank) same ∙ get_or-set_same now q cell blank (omega (arith, (here_held index cells i listed lt).1, len)) ∙ is
+          ∙ ap (λ k. after_reset which (cell_at cells k)) (sym same)
+          ∙ sym (cond-true (ltb p (bound index (i + 1))) _ _ (lt-ltb _ _ (omega (arith, next, same))))
+      | inr apart ↦
+          get_or-set_other now q p cell blank apart ∙ each p below
+          ∙ (elim (cases_lt p (bound index i)) [
+            | inl early ↦
+                cond-true (ltb p (bound index i)) _ _ (lt-ltb _ _ early)
+                ∙ sym (cond-true (ltb p (bound index (i + 1))) _ _ (lt-ltb _ _ (omega (arith, next, low, early))))
+            | inr late ↦ elim (cases_lt p q) [
+              | inl less ↦
+                  cond-false (ltb p (bound index i)) _ _ (le-ltb _ _ late)
+                  ∙ sym (keep_char which (cell_at cells p) (quiet index cells i p listed (omega arith) late (λ _. less)))
+                  ∙ sym (cond-true (ltb p (bound index (i + 1))) _ _ (lt-ltb _ _ (omega (arith, next, less))))
+              | inr more ↦
+                  cond-false (ltb p (bound index i)) _ _ (le-ltb _ _ late)
+                  ∙ sym (cond-false (ltb p (bound index (i + 1))) _ _ (le-ltb _ _ (omega (arith, next, more, apart))))
+            ]
+          ])
+    ]
+
+pub reset_all : (index : List ℕ) (cells now : List Cell) (which : Reset) → IsIndex index cells → length now ≡ length cells
+    → ((p : ℕ) → p < length cells → cell_at now p ≡ reset_below which cells (bound index (length index)) p)
+    → now ≡ ruled (length cells) (λ p. after_reset which (cell_at cells p))
+reset_all index cells now which listed len each =
+    as_ruled now (length cells) (λ p. after_reset which (cell_at cells p)) len
+    (λ p lt. each p lt ∙ (elim (cases_lt p (bound index (length index))) [
+      | inl early ↦ cond-true (ltb p (bound index (length index))) _ _ (lt-ltb _ _ early)
+      | inr late ↦
+          cond-false (ltb p (bound index (length index))) _ _ (le-ltb _ _ late)
+          ∙ sym (keep_char which (cell_at cells p) (quiet index cells (length index) p listed (omega arith) late (λ more. absurd (omega arith))))
+    ]))
+
+spot_reset : (which : Reset) (p : ℕ) (c : Cell) → spot_of p c ≡ spot_of p (after_reset which c)
+spot_reset Every p (Field bits) = refl
+spot_reset Every p (Char c) = refl
+spot_reset Unprotected p (Field bits) = refl
+spot_reset Unprotected p (Char c) = refl
+
+pub reset_index : (index : List ℕ) (cells : List Cell) (which : Reset) → IsIndex index cells → IsIndex index (ruled (length cells) (λ p. after_reset which (cell_at cells p)))
+reset_index index cells which listed =
+    listed_ruled index (length cells) (λ p. after_reset which (cell_at cells p)) listed.rising (within_listed index cells listed)
+    (λ p lt. listed.each p ∙ spot_reset which p (cell_at cells p))
+
+-- ---- a part that runs round the end
+pub round_both : (cells : List Cell) (b steps left : ℕ) (c : Glyph) → b < length cells → steps ≤ length cells → left ≡ length cells - b → left < steps
+    → ruled (length (ruled (length cells) (filled_cell cells b (b + left) c))) (filled_cell (ruled (length cells) (filled_cell cells b (b + left) c)) 0 (steps - left) c)
+    ≡ ruled (length cells) (λ p. cond (is_round (length cells) b steps p) (Char c) (cell_at cells p))
+round_both cells b steps left c inside few is some =
+    let n : ℕ = length cells in
+    let first : List Cell = ruled n (filled_cell cells b (b + left) c) in
+    ap (λ m. ruled m (filled_cell first 0 (steps - left) c)) (length-ruled n (filled_cell cells b (b + left) c))
+    ∙ ruled_same n (filled_cell first 0 (steps - left) c) (λ p. cond (is_round n b steps p) (Char c) (cell_at cells p))
+    (λ p lt.
+    let begins : filled_cell first 0 (steps - left) c p ≡ cond (ltb p (steps - left)) (Char c) (cell_at first p) =
+    ap (λ t. cond (t && ltb p (steps - left)) (Char c) (cell_at first p)) (le-leb 0 p (omega arith)) in
+    let there : cell_at first p ≡ filled_cell cells b (b + left) c p = cell_at-ruled n (filled_cell cells b (b + left) c) p lt in
+    begins ∙ ap (cond (ltb p (steps - left)) (Char c)) there
+    ∙ (elim (cases_lt p b) [
+      | inl less ↦
+          ap (λ t. cond (ltb p (steps - left)) (Char c) (cond (t && ltb p (b + left)) (Char c) (cell_at cells p))) (lt-leb b p less)
+          ∙ ap (λ t. cond t (Char c) (cell_at cells p)) (near p less)
+          ∙ sym (ap (λ t. cond ((t && ltb p (b + steps)) || ltb (p + n) (b + steps)) (Char c) (cell_at cells p)) (lt-leb b p less))
+      | inr more ↦
+          ap (λ t. cond (ltb p (steps - left)) (Char c) (cond (t && ltb p (b + left)) (Char c) (cell_at cells p))) (le-leb b p more)
+          ∙ ap (λ t. cond (ltb p (steps - left)) (Char c) (cond t (Char c) (cell_at cells p))) (lt-ltb p (b + left) (omega arith))
+          ∙ always (ltb p (steps - left))
+          ∙ sym (ap (λ t. cond ((t && ltb p (b + steps)) || ltb (p + n) (b + steps)) (Char c) (cell_at cells p)) (le-leb b p more)
+          ∙ ap (λ t. cond (t || ltb (p + n) (b + steps)) (Char c) (cell_at cells p)) (lt-ltb p (b + steps) (omega arith)))
+    ]))
+  where
+    always : (t : Bool) → cond t (Char c) (Char c) ≡ Char c
+    always true = refl
+    always false = refl
+
+    near : (p : ℕ) → p < b → ltb p (steps - left) ≡ ltb (p + length cells) (b + steps)
+    near p less = elim (cases_lt p (steps - left)) [
+      | inl lt ↦ lt-ltb p (steps - left) lt ∙ sym (lt-ltb (p + length cells) (b + steps) (omega arith))
+      | inr ge ↦ le-ltb p (steps - left) ge ∙ sym (le-ltb (p + length cells) (b + steps) (omega arith))
+    ]
+
+-- ---- a part of a run
+mod_part : (n x at c : ℕ) → at ≡ x % n → at + c < n → (x + c) % n ≡ at + c
+mod_part n x at c is lt = sym (mod-add-mod x n c) ∙ ap (λ r. (r + c) % n) (sym is) ∙ mod-eq_of_lt lt
+
+pub run_part : (cells : List Cell) (b : ℕ) (run : List ℕ) (k at count p : ℕ) → at ≡ (b + k) % length cells → at + count ≤ length cells
+    → cond (leb at p && ltb p (at + count)) (Char (glyph (get_or run (k + (p - at)) 0) false)) (run_cell cells b run k p) ≡ run_cell cells b run (k + count) p
+run_part cells b run k at zero p is fits =
+    let x : Cell = Char (glyph (get_or run (k + (p - at)) 0) false) in
+    let none : at + 0 ≡ at = omega arith in
+    let same : k ≡ k + 0 = omega arith in
+    ap (λ e. cond (leb at p && ltb p e) x (run_cell cells b run k p)) none ∙ nothing at p x (run_cell cells b run k p) ∙ ap (λ j. run_cell cells b run j p) same
+  where
+    nothing : (at p : ℕ) (x y : Cell) → cond (leb at p && ltb p at) x y ≡ y
+    nothing at p x y = elim (cases_lt p at) [
+      | inl less ↦ ap (λ t. cond (t && ltb p at) x y) (lt-leb at p less)
+      | inr more ↦ ap (λ t. cond (t && ltb p at) x y) (le-leb at p more) ∙ ap (λ t. cond t x y) (le-ltb p at more)
+    ]
+run_part cells b run k at (suc c) p is fits =
+    let n : ℕ = length cells in
+    let x : Cell = Char (glyph (get_or run (k + (p - at)) 0) false) in
+    let falls : (b + (k + c)) % n ≡ at + c = ap (λ y. y % n) (omega arith) ∙ mod_part n (b + k) at c is (omega arith) in
+    let more : k + suc c ≡ k + c + 1 = omega arith in
+    let next : at + suc c ≡ at + c + 1 = omega arith in
+    elim (cases_eq p (at + c)) [
+      | inl same ↦
+          let there : k + (p - at) ≡ k + c = omega (arith, same) in
+          ap (λ t. cond (t && ltb p (at + suc c)) x (run_cell cells b run k p)) (le-leb at p (omega (arith, same)))
+          ∙ ap (λ t. cond t x (run_cell cells b run k p)) (lt-ltb p (at + suc c) (omega (arith, same)))
+          ∙ ap (λ j. Char (glyph (get_or run j 0) false)) there
+          ∙ sym (ap (byte_cell cells run p) (ap (λ j. greatest j (λ i. eqb ((b + i) % n) p)) more
+          ∙ greatest_hit (k + c) (λ i. eqb ((b + i) % n) p) (eq-eqb _ _ (falls ∙ sym same))))
+      | inr apart ↦
+          ap (λ t. cond t x (run_cell cells b run k p)) (ap (λ e. leb at p && ltb p e) next ∙ both_ends at (at + c) p (omega arith) apart)
+          ∙ run_part cells b run k at c p is (omega arith)
+          ∙ sym (ap (byte_cell cells run p) (ap (λ j. greatest j (λ i. eqb ((b + i) % n) p)) more
+          ∙ greatest_miss (k + c) (λ i. eqb ((b + i) % n) p) (ne_eqb _ _ (λ same. apart (sym (sym falls ∙ same))))))
+    ]
+
+pub part_written : (cells now : List Cell) (b : ℕ) (run : List ℕ) (done at count : ℕ) → now ≡ ruled (length cells) (run_cell cells b run done) → at ≡ (b + done) % length cells → at + count ≤ length cells
+    → ruled (length now) (written_cell now at run done count) ≡ ruled (length cells) (run_cell cells b run (done + count))
+part_written cells now b run done at count stored is fits =
+    let n : ℕ = length cells in
+    let first : List Cell = ruled n (run_cell cells b run done) in
+    ap (λ l. ruled (length l) (written_cell l at run done count)) stored
+    ∙ ap (λ m. ruled m (written_cell first at run done count)) (length-ruled n (run_cell cells b run done))
+    ∙ ruled_same n (written_cell first at run done count) (run_cell cells b run (done + count))
+    (λ p lt. ap (cond (leb at p && ltb p (at + count)) (Char (glyph (get_or run (done + (p - at)) 0) false))) (cell_at-ruled n (run_cell cells b run done) p lt)
+    ∙ run_part cells b run done at count p is fits)
+
+-- where the next part begins
+pub part_next : (n b done at count : ℕ) → at ≡ (b + done) % n → at + count < n → at + count ≡ (b + (done + count)) % n
+part_next n b done at count is lt = sym (ap (λ x. x % n) (omega arith) ∙ mod_part n (b + done) at count is lt)
+
+pub part_round : (n b done at count : ℕ) → 0 < n → at ≡ (b + done) % n → at + count ≡ n → 0 ≡ (b + (done + count)) % n
+part_round n b done at count some is full =
+    sym (ap (λ x. x % n) (omega arith) ∙ sym (mod-add-mod (b + done) n count) ∙ ap (λ r. (r + count) % n) (sym is) ∙ ap (λ x. x % n) full ∙ mod_self n)
+
+-- ---- text overwrites attributes
+spot_of_mark : (q : ℕ) (c : Cell) → option_map (λ (m : Mark). m.at) (mark_of q c) ≡ spot_of q c
+spot_of_mark q (Field bits) = refl
+spot_of_mark q (Char c) = refl
+
+spot_cut : (t : Bool) (q : ℕ) (c : Cell) → option_map (λ (m : Mark). m.at) (cond t None (mark_of q c)) ≡ cond t None (spot_of q c)
+spot_cut true q c = refl
+spot_cut false q c = spot_of_mark q c
+
+pub text_listed : (index now : List ℕ) (cells : List Cell) (n b steps : ℕ) (run : List ℕ) → IsIndex index cells → n ≡ length cells → b < n → steps ≡ min (length run) n
+    → IsRising itself now → IsWithin itself n now → ((q : ℕ) → at_place itself now q ≡ cond (is_round n b steps q) None (at_place itself index q))
+    → IsIndex now (ruled (length cells) (text_cell cells b run))
+text_listed index now cells n b steps run listed len inside is rising within cut =
+    listed_ruled now (length cells) (text_cell cells b run) rising (subst (λ m. IsWithin itself m now) len within)
+    (λ p lt. cut p ∙ ap (λ m. cond (is_round m b steps p) None (at_place itself index p)) len ∙ ap (cond (is_round (length cells) b steps p) None) (listed.each p)
+    ∙ sym (spot_cut (is_round (length cells) b steps p) p (cell_at cells p))
+    ∙ ap (option_map (λ (m : Mark). m.at)) (text_each cells b run steps p (omega (arith, len)) lt (omega (arith, len)) (omega arith)
+    (elim (cases_lt (length run) n) [ inl less ↦ inl (omega arith) | inr more ↦ inr (omega (arith, len)) ]))
+    ∙ spot_of_mark p (text_cell cells b run p))

@@ -1,0 +1,16 @@
+use Rattle.std.proofs.Common.{length, sym, ◌∙◌, ap, subst, arith}
+use Rattle.ds_screen.specs.Planes.{Held, IsIndex}
+use Rattle.ds_screen.proofs.RuledLaws.{length-ruled}
+use Rattle.ds_screen.proofs.IndexLaws.{reset_index}
+use Rattle.ds_screen.proofs.plane_cells.PlaneCellsCells.reset_modified.Goals as goal
+
+pub invariant_of-self : goal.invariant_of-self
+invariant_of-self c = (
+  subst (IsIndex c.self.inside.index.items) (sym (ap (λ (u : Held). u.cells) c.reset_listed.ensures.reset))
+      (reset_index c.self.inside.index.items c.self.inside.planes.cells c.args.which c.self.invariant.0),
+  omega (arith, ap (λ (u : Held). u.room) c.reset_listed.ensures.reset, c.self.invariant.1),
+)
+
+pub returns-clause-whole : goal.returns-clause-whole
+returns-clause-whole c =
+    ap (λ (u : Held). length u.cells) c.reset_listed.ensures.reset ∙ length-ruled (length c.self.inside.planes.cells) _ ∙ ap (λ (u : Held). length u.cells) c.self.view_is

@@ -1,0 +1,63 @@
+use Rattle.std.proofs.Common.{◌≡◌, length, get_or, cond, ◌&&◌, leb, ltb, take, drop, ◌++◌, sym, ◌∙◌, ap, subst, arith}
+use Rattle.ds_screen.specs.Picture.{ruled}
+use Rattle.ds_screen.specs.Planes.{Held, ArePlanes, plane_cells, filled_cell}
+use Rattle.ds_screen.proofs.PlaneLaws.{counted, given_back, filled_storable, planes_filled}
+use Rattle.ds_screen.proofs.planes.Planes.fill.Goals as goal
+
+pub fill_part-requires-clause-inside : goal.fill_part-requires-clause-inside
+fill_part-requires-clause-inside c =
+    omega (arith, c.requires.inside, ap length c.deref_mut.ensures.value, counted c.self.inside.codes.items c.self.inside.kinds.items c.self.inside.limit c.args.self.now c.self.view_is)
+
+pub fill_part-requires-2-clause-inside : goal.fill_part-requires-2-clause-inside
+fill_part-requires-2-clause-inside c =
+    omega (
+      arith,
+      c.requires.inside,
+      ap length c.deref_mut-2.ensures.value,
+      c.self.invariant.0.same,
+      counted c.self.inside.codes.items c.self.inside.kinds.items c.self.inside.limit c.args.self.now c.self.view_is,
+    )
+
+pub invariant_of-self : goal.invariant_of-self
+invariant_of-self c =
+    let codes : take c.self.inside.codes.len (c.fill_part.new.items ++ drop (length c.fill_part.new.items) c.self.inside.codes.items) ≡ c.fill_part.new.items =
+    given_back c.self.inside.codes.items c.fill_part.new.items c.self.inside.codes.len (omega (arith, c.deref_mut.ensures.len, ap length c.deref_mut.ensures.value))
+    (c.fill_part.ensures.whole ∙ ap length c.deref_mut.ensures.value) in
+    let kinds : take c.self.inside.kinds.len (c.fill_part-2.new.items ++ drop (length c.fill_part-2.new.items) c.self.inside.kinds.items) ≡ c.fill_part-2.new.items =
+    given_back c.self.inside.kinds.items c.fill_part-2.new.items c.self.inside.kinds.len (omega (arith, c.deref_mut-2.ensures.len, ap length c.deref_mut-2.ensures.value))
+    (c.fill_part-2.ensures.whole ∙ ap length c.deref_mut-2.ensures.value) in
+    let planes : ArePlanes c.fill_part.new.items c.fill_part-2.new.items =
+    filled_storable c.self.inside.codes.items c.fill_part.new.items c.self.inside.kinds.items c.fill_part-2.new.items c.args.from c.args.to
+    c.character_stored-stored.result.code c.character_stored-stored.result.kind c.self.invariant.0 c.character_stored-stored.ensures.storable
+    (c.fill_part.ensures.whole ∙ ap length c.deref_mut.ensures.value) (c.fill_part-2.ensures.whole ∙ ap length c.deref_mut-2.ensures.value)
+    (λ q d. c.fill_part.ensures.each q d ∙ ap (λ l. cond (leb c.args.from q && ltb q c.args.to) c.character_stored-stored.result.code (get_or l q d)) c.deref_mut.ensures.value)
+    (λ q d. c.fill_part-2.ensures.each q d ∙ ap (λ l. cond (leb c.args.from q && ltb q c.args.to) c.character_stored-stored.result.kind (get_or l q d)) c.deref_mut-2.ensures.value) in (
+      subst (λ l. ArePlanes l (take c.self.inside.kinds.len (c.fill_part-2.new.items ++ drop (length c.fill_part-2.new.items) c.self.inside.kinds.items))) (sym codes) (subst (ArePlanes c.fill_part.new.items) (sym kinds) planes),
+      omega (arith, ap length codes, c.fill_part.ensures.whole, ap length c.deref_mut.ensures.value, c.self.invariant.1),
+      c.self.invariant.2,
+      c.self.invariant.3,
+    )
+
+pub returns : goal.returns
+returns c =
+    let codes : take c.self.inside.codes.len (c.fill_part.new.items ++ drop (length c.fill_part.new.items) c.self.inside.codes.items) ≡ c.fill_part.new.items =
+    given_back c.self.inside.codes.items c.fill_part.new.items c.self.inside.codes.len (omega (arith, c.deref_mut.ensures.len, ap length c.deref_mut.ensures.value))
+    (c.fill_part.ensures.whole ∙ ap length c.deref_mut.ensures.value) in
+    let kinds : take c.self.inside.kinds.len (c.fill_part-2.new.items ++ drop (length c.fill_part-2.new.items) c.self.inside.kinds.items) ≡ c.fill_part-2.new.items =
+    given_back c.self.inside.kinds.items c.fill_part-2.new.items c.self.inside.kinds.len (omega (arith, c.deref_mut-2.ensures.len, ap length c.deref_mut-2.ensures.value))
+    (c.fill_part-2.ensures.whole ∙ ap length c.deref_mut-2.ensures.value) in
+    let cells =
+    ap (λ l. plane_cells l (take c.self.inside.kinds.len (c.fill_part-2.new.items ++ drop (length c.fill_part-2.new.items) c.self.inside.kinds.items))) codes
+    ∙ ap (plane_cells c.fill_part.new.items) kinds
+    ∙ planes_filled c.self.inside.codes.items c.fill_part.new.items c.self.inside.kinds.items c.fill_part-2.new.items c.args.from c.args.to
+    c.character_stored-stored.result.code c.character_stored-stored.result.kind c.args.character c.character_stored-stored.ensures.same
+    (c.fill_part.ensures.whole ∙ ap length c.deref_mut.ensures.value)
+    (λ q d. c.fill_part.ensures.each q d ∙ ap (λ l. cond (leb c.args.from q && ltb q c.args.to) c.character_stored-stored.result.code (get_or l q d)) c.deref_mut.ensures.value)
+    (λ q d. c.fill_part-2.ensures.each q d ∙ ap (λ l. cond (leb c.args.from q && ltb q c.args.to) c.character_stored-stored.result.kind (get_or l q d)) c.deref_mut-2.ensures.value)
+    ∙ ap (λ (u : Held). ruled (length u.cells) (filled_cell u.cells c.args.from c.args.to c.args.character)) c.self.view_is in
+    record {
+      filled =
+          ap (λ l. let h : Held = record { cells = l; room = c.self.inside.limit } in h) cells
+          ∙ ap (λ r. let h : Held = record { cells = ruled (length c.args.self.now.cells) (filled_cell c.args.self.now.cells c.args.from c.args.to c.args.character); room = r } in h)
+          (ap (λ (u : Held). u.room) c.self.view_is);
+    }

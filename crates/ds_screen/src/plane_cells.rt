@@ -1,0 +1,329 @@
+//! A buffer kept in planes, with a sorted index of its attributes.
+
+ghost use Rattle.std.specs.Prelude.{◌≡◌, ◌≤◌, ◌<◌, ◌+◌, ◌%◌, ℕ, ◌==◌, true, if◌then◌else◌, length, vec_capacity};
+ghost use Rattle.std.specs.List.{list_all};
+ghost use Rattle.ds_codec.specs.declared.cell.Cell.{Cell};
+ghost use Rattle.ds_codec.specs.Character.{is_text};
+ghost use Rattle.ds_places.specs.Places.{IsRising, IsWithin, at_place, is_round};
+ghost use Rattle.ds_screen.specs.Picture.{cell_at, ruled};
+ghost use Rattle.ds_screen.specs.Orders.{text_cell};
+ghost use Rattle.ds_screen.specs.Reset.{after_reset};
+ghost use Rattle.ds_screen.specs.Planes.{itself, spot_if, IsIndex};
+
+use crate::cells::Cells;
+use crate::counted::attr_before_counted;
+use crate::planes::Planes;
+use crate::probed::Probed;
+use crate::ranges::reach;
+use crate::records::{Reset, reset_cell};
+use crate::ring::{distance, forward, next, previous};
+use crate::ruling::ruled_on;
+use crate::tab::is_unprotected_field;
+use ds_codec::{Attr, Cell, Char};
+use ds_places::{cut, cut_round, first_from, rank, store};
+use std::alloc::{AllocError, Global};
+use std::marker::Model;
+
+/// A code and its kind for each position, and the positions of the attributes in rising order. It costs what it
+/// looks at: a search goes over the attributes, by halving.
+#[derive(Drop)]
+pub struct PlaneCells {
+    planes: Planes,
+    index: Vec<u32>,
+}
+
+impl Model for PlaneCells {
+    ghost use Rattle.std.specs.Prelude.{◌≤◌, vec_capacity};
+    ghost use Rattle.ds_screen.specs.Planes.{Held, IsIndex};
+
+    ghost Value = { Held };
+
+    ghost view = { λ s. s.planes };
+
+    ghost invariant = { λ s. IsIndex s.index.items s.planes.cells
+        × (s.planes.room ≤ vec_capacity s.index) };
+}
+
+/// Notes whether a position holds an attribute from now on, where it is known whether it held one.
+fn note(index: &mut Vec<u32>, places: u32, p: u32, was: bool, is: bool)
+    requires rising { IsRising itself index.old.items }
+    requires inside { IsWithin itself places index.old.items }
+    requires below { p < places }
+    requires room { places ≤ vec_capacity index.old }
+    requires known { at_place itself index.old.items p ≡ spot_if p was }
+    ensures noted { (q : ℕ) → at_place itself index.new.items q
+        ≡ (if p == q then spot_if p is else at_place itself index.old.items q) }
+    ensures rising { IsRising itself index.new.items }
+    ensures room { vec_capacity index.new ≡ vec_capacity index.old }
+{
+    if is && !was {
+        store(index, places, p);
+    } else if was && !is {
+        cut(index, p, p + 1);
+    }
+}
+
+/// Stores a character in so many positions from one on, round the buffer.
+fn fill_round(planes: &mut Planes, b: u32, steps: u32, character: Char)
+    requires inside { b < length planes.old.cells }
+    requires few { steps ≤ length planes.old.cells }
+    ensures filled { planes.new ≡ record planes.old {
+      cells = ruled (length planes.old.cells)
+          (λ p. if is_round (length planes.old.cells) b steps p then Cell.Char character else cell_at planes.old.cells p);
+    } }
+{
+    let left = planes.len() - b;
+    if steps <= left {
+        planes.fill(b, b + steps, character);
+    } else {
+        planes.fill(b, b + left, character);
+        planes.fill(0, steps - left, character);
+    }
+}
+
+/// Stores a run of text round the buffer, and gives the position after it.
+fn write_round(planes: &mut Planes, b: u32, run: &[u8]) -> u32
+    requires inside { b < length planes.old.cells }
+    requires characters { list_all is_text run.now ≡ true }
+    ensures written { planes.new ≡ record planes.old {
+      cells = ruled (length planes.old.cells)
+          (text_cell planes.old.cells b run.now);
+    } }
+    ensures after { result ≡ (b + length run.now) % length planes.old.cells }
+    ensures inside { result < length planes.old.cells }
+{
+    let n = planes.len();
+    let mut at = b;
+    let mut done = 0;
+    'parts: while done < run.len() {
+        let count = (run.len() - done).min((n - at) as usize) as u32;
+        planes.write(at, run, done, count);
+        done += count as usize;
+        at = if at + count < n { at + count } else { 0 };
+    }
+    at
+}
+
+/// Resets the modified data tags of the attributes that are listed.
+fn reset_listed(planes: &mut Planes, index: &[u32], which: Reset)
+    requires { IsIndex index.now planes.old.cells }
+    ensures reset { planes.new ≡ record planes.old {
+      cells = ruled (length planes.old.cells)
+          (λ p. after_reset which (cell_at planes.old.cells p));
+    } }
+{
+    'listed: for i in 0..index.len() {
+        let cell = reset_cell(which, &planes.cell(index[i]));
+        planes.put(index[i], cell);
+    }
+}
+
+impl PlaneCells {
+    ghost use Rattle.std.specs.Prelude.{◌≡◌, ◌<◌, ◌≤◌, true, not, length};
+    ghost use Rattle.ds_codec.specs.Attribute.{is_protected};
+    ghost use Rattle.ds_screen.specs.Ring.{ring_on};
+    ghost use Rattle.ds_screen.specs.Picture.{cell_at, ruled};
+    ghost use Rattle.ds_screen.specs.Fields.{is_attribute, ruling_bits, first_open};
+    ghost use Rattle.ds_screen.specs.Planes.{IsIndex, HasNone, stretch_cell, erased_for};
+
+    /// The index of the attributes, with a count of looks that begins at 0.
+    pub fn probed(&self) -> Probed<'_>
+        ensures index { IsIndex result.positions self.now.cells }
+        ensures count { result.probes ≡ 0 }
+    {
+        let _places = self.planes.len();
+        Probed::new(self.index.as_slice())
+    }
+
+    /// The attribute that rules a position; 00, an unprotected one, in a buffer without attributes.
+    fn ruling_at(&self, p: u32) -> Attr
+        requires { p < length self.now.cells }
+        ensures { result ≡ ruling_bits self.now.cells p }
+    {
+        match self.attr_before(p) {
+            Some(q) => ruled_on(Attr::new(0), &self.planes.cell(q)),
+            None => Attr::new(0),
+        }
+    }
+
+    /// How many characters stand from a position on before the next attribute round the buffer, at most so many.
+    fn characters_from(&self, at: u32, most: u32) -> u32
+        requires inside { at < length self.now.cells }
+        requires few { most ≤ length self.now.cells }
+        ensures within { result ≤ most }
+        ensures characters { HasNone self.now.cells at result }
+        ensures ends { result < most → is_attribute
+            (cell_at self.now.cells (ring_on (length self.now.cells) at result)) ≡ true }
+    {
+        match self.attr_from(at) {
+            Some(q) => distance(self.planes.len(), at, q).min(most),
+            None => most,
+        }
+    }
+
+    /// The open position at the least distance going on, `from` itself first; 0 where there is none.
+    fn open_from(&self, from: u32) -> u32
+        requires { from < length self.now.cells }
+        ensures first { result ≡ first_open self.now.cells from }
+        ensures inside { result < length self.now.cells }
+    {
+        let n = self.planes.len();
+        let mut bits = self.ruling_at(previous(n, from));
+        let mut at = from;
+        let mut gone = 0;
+        'runs: while gone < n {
+            let run = self.characters_from(at, n - gone);
+            if 0 < run && !bits.protected() {
+                return at;
+            }
+            gone += run;
+            if gone == n {
+                return 0;
+            }
+            let stop = forward(n, at, run);
+            bits = ruled_on(bits, &self.planes.cell(stop));
+            gone += 1;
+            at = next(n, stop);
+        }
+        0
+    }
+
+    /// Nulls a stretch of characters that an attribute rules, unless it protects.
+    fn null_stretch(&mut self, at: u32, run: u32, bits: Attr)
+        requires inside { at < length self.old.cells }
+        requires few { run ≤ length self.old.cells }
+        requires characters { HasNone self.old.cells at run }
+        ensures nulled { self.new ≡ record self.old {
+          cells = ruled (length self.old.cells)
+              (stretch_cell self.old.cells at run (not (is_protected bits)));
+        } }
+    {
+        if !bits.protected() {
+            fill_round(&mut self.planes, at, run, Char::null());
+        }
+    }
+
+    /// Nulls what is open of so many positions from one on, round the buffer.
+    fn erase_for(&mut self, b: u32, steps: u32)
+        requires inside { b < length self.old.cells }
+        requires few { steps ≤ length self.old.cells }
+        ensures erased { self.new ≡ record self.old {
+          cells = ruled (length self.old.cells)
+              (erased_for self.old.cells b steps);
+        } }
+    {
+        let n = self.planes.len();
+        let mut bits = self.ruling_at(previous(n, b));
+        let mut at = b;
+        let mut gone = 0;
+        'runs: while gone < steps {
+            let run = self.characters_from(at, steps - gone);
+            self.null_stretch(at, run, bits);
+            gone += run;
+            if gone == steps {
+                return;
+            }
+            let stop = forward(n, at, run);
+            bits = ruled_on(bits, &self.cell(stop));
+            gone += 1;
+            at = next(n, stop);
+        }
+    }
+}
+
+impl Cells for PlaneCells {
+    ghost content = { λ s. s.cells };
+
+    ghost capacity = { λ s. s.room };
+
+    fn reserved(alloc: Global, most: u32) -> Result<PlaneCells, AllocError> {
+        let planes = Planes::reserved(alloc, most)?;
+        let index = Vec::with_capacity(alloc, most as usize)?;
+        Ok(PlaneCells { planes, index })
+    }
+
+    fn len(&self) -> u32 {
+        self.planes.len()
+    }
+
+    fn clear(&mut self, n: u32) {
+        self.index.clear();
+        self.planes.clear(n);
+    }
+
+    fn cell(&self, p: u32) -> Cell {
+        self.planes.cell(p)
+    }
+
+    fn put(&mut self, p: u32, cell: Cell) {
+        let was = self.planes.has_attribute(p);
+        self.planes.put(p, cell);
+        let is = self.planes.has_attribute(p);
+        note(&mut self.index, self.planes.len(), p, was, is);
+    }
+
+    fn attr_before(&self, p: u32) -> Option<u32> {
+        attr_before_counted(&mut self.probed(), p)
+    }
+
+    fn attr_from(&self, p: u32) -> Option<u32> {
+        if let Some(q) = first_from(&self.index, p) {
+            return Some(q);
+        }
+        first_from(&self.index, 0)
+    }
+
+    fn copy_from(&mut self, other: &PlaneCells) {
+        self.index.clear();
+        self.index
+            .extend_from_slice(other.index.as_slice())
+            .unwrap();
+        self.planes.copy_from(&other.planes);
+    }
+
+    fn put_text(&mut self, b: u32, run: &[u8]) -> u32 {
+        let n = self.planes.len();
+        let steps = run.len().min(n as usize) as u32;
+        cut_round(&mut self.index, n, b, steps);
+        write_round(&mut self.planes, b, run)
+    }
+
+    fn repeat(&mut self, b: u32, stop: u32, character: Char) {
+        let n = self.planes.len();
+        let steps = reach(n, b, stop);
+        fill_round(&mut self.planes, b, steps, character);
+        cut_round(&mut self.index, n, b, steps);
+    }
+
+    fn erase(&mut self, b: u32, stop: u32) {
+        let steps = reach(self.planes.len(), b, stop);
+        self.erase_for(b, steps);
+    }
+
+    fn null_to_attribute(&mut self, b: u32) -> u32 {
+        let n = self.planes.len();
+        let stop = first_from(&self.index, b).unwrap_or(n);
+        self.planes.fill(b, stop, Char::null());
+        stop
+    }
+
+    fn stop_from(&self, from: u32) -> u32 {
+        let n = self.planes.len();
+        let start = rank(&self.index, from);
+        'stops: for i in start..self.index.len() {
+            let q = self.index[i];
+            if is_unprotected_field(self.planes.cell(q)) {
+                return next(n, q);
+            }
+        }
+        0
+    }
+
+    fn reset_modified(&mut self, which: Reset) {
+        reset_listed(&mut self.planes, &self.index, which);
+    }
+
+    fn first_open(&self, from: u32) -> u32 {
+        self.open_from(from)
+    }
+}

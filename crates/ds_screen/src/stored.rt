@@ -1,0 +1,66 @@
+//! A cell as it is stored: a kind and a code.
+
+ghost use Rattle.std.specs.Prelude.{◌≡◌, true};
+ghost use Rattle.ds_screen.specs.Planes.{stored_cell, is_storable};
+
+use ds_codec::{Attr, Cell, Char};
+
+/// What the code of a position is.
+#[derive(Clone, Copy, Debug, PartialEq, Eq)]
+pub(crate) enum Kind {
+    /// The bits of an attribute.
+    Attribute,
+    /// A character.
+    Plain,
+    /// A character of the alternate set.
+    Alternate,
+}
+
+/// The kind and the code of a position.
+#[derive(Clone, Copy, Debug, PartialEq, Eq)]
+pub(crate) struct Stored {
+    pub kind: Kind,
+    pub code: u8,
+}
+
+/// The kind and the code of a character.
+pub(crate) fn character_stored(character: Char) -> Stored
+    ensures same { stored_cell result.kind result.code ≡ Cell.Char character }
+    ensures storable { is_storable result.kind result.code ≡ true }
+{
+    let kind = if character.alt() {
+        Kind::Alternate
+    } else {
+        Kind::Plain
+    };
+    Stored {
+        kind,
+        code: character.code(),
+    }
+}
+
+/// The kind and the code of a cell.
+pub(crate) fn cell_stored(cell: Cell) -> Stored
+    ensures same { stored_cell result.kind result.code ≡ cell }
+    ensures storable { is_storable result.kind result.code ≡ true }
+{
+    match cell {
+        Cell::Field(attribute) => Stored {
+            kind: Kind::Attribute,
+            code: attribute.bits(),
+        },
+        Cell::Char(character) => character_stored(character),
+    }
+}
+
+/// The cell of a kind and a code.
+pub(crate) fn cell_of(stored: Stored) -> Cell
+    requires { is_storable stored.kind stored.code ≡ true }
+    ensures { result ≡ stored_cell stored.kind stored.code }
+{
+    match stored.kind {
+        Kind::Attribute => Cell::Field(Attr::new(stored.code)),
+        Kind::Plain => Cell::Char(Char::new(stored.code, false).unwrap()),
+        Kind::Alternate => Cell::Char(Char::new(stored.code, true).unwrap()),
+    }
+}
