@@ -9,7 +9,7 @@ ghost use Rattle.tn_session.specs.Devices.{device_of};
 ghost use Rattle.term_sessions.specs.Attach.{Attaches};
 ghost use Rattle.term_sessions.specs.Prepare.{prepare};
 ghost use Rattle.term_sessions.specs.Serve.{Serves};
-ghost use Rattle.term3270.specs.Sessions.{AttachesNamed, HasFailed, ServesPrepared};
+ghost use Rattle.term3270.specs.Sessions.{a_socket, sockets, AttachesNamed, HasFailed, ServesPrepared};
 
 use crate::tcp::{Listening, Place, TcpLine};
 use ds_keys::Key;
@@ -45,7 +45,7 @@ fn serve_at<W: Write>(
     output: &mut W,
 ) -> Status
     ensures { Serves screen.now.layout (records_held screen.now.records.items) count
-        (W.contents output.old) (W.contents output.new) result
+        (sockets (W.contents output.old)) (sockets (W.contents output.new)) result
         ⊎ HasFailed (W.contents output.old) (W.contents output.new) result }
 {
     match Listening::at(rt, place) {
@@ -86,7 +86,7 @@ fn attach_at<W: Write>(
     keys: &[Key],
     output: &mut W,
 ) -> Status
-    ensures { Attaches device keys.now (W.contents output.old) (W.contents output.new) result
+    ensures { Attaches a_socket device keys.now (W.contents output.old) (W.contents output.new) result
         ⊎ HasFailed (W.contents output.old) (W.contents output.new) result }
 {
     match TcpLine::to(rt, place) {

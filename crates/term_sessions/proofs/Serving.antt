@@ -1,5 +1,5 @@
 -- Terminals one after the other: their sessions are one list, and their lines one text.
-use Rattle.std.proofs.Common.{◌≡◌, ◌∙◌, ◌≤◌, ◌+◌, ◌||◌, ℕ, Bool, true, false, List, [], ◌∷◌, ◌++◌, length, Option, Some, None, Result, sym, ap, subst, refl, append_assoc, append-nil, arith}
+use Rattle.std.proofs.Common.{◌≡◌, ◌∙◌, ◌≤◌, ◌+◌, ◌||◌, ℕ, Bool, true, false, List, [], ◌∷◌, ◌++◌, length, Option, Some, None, option_to_list, Result, Ok, Err, sym, ap, subst, refl, append_assoc, append-nil, arith}
 use Rattle.std.proofs.lemmas.List.{length-append}
 use Rattle.std.proofs.lemmas.List.Folds.{list_any-append}
 use Rattle.std.specs.Io.KnownBytes.{Appends}
@@ -9,8 +9,8 @@ use Rattle.term_commands.specs.Streams.{AppendsFront}
 use Rattle.term_commands.proofs.Prefixes.{appends_more}
 use Rattle.tn_session.specs.declared.fault.RunFault.{RunFault}
 use Rattle.tn_session.specs.HostLog.{Outcome}
-use Rattle.term_sessions.specs.Session.{session_lines, served_text, is_failed, IsHosted}
-use Rattle.term_sessions.specs.Serve.{AreHosted, some_failed, ServesAll, ServesSome}
+use Rattle.term_sessions.specs.Session.{FreshLine, session_lines, served_text, is_failed, IsHosted}
+use Rattle.term_sessions.specs.Serve.{Hands, HandsNext, AreHosted, some_failed, Serving, ServesAll, ServesSome}
 
 pub served_more : (entries : List Declared) (number : ℕ) (first others : List (Result Outcome RunFault))
     → served_text entries number (first ++ others) ≡ served_text entries number first ++ served_text entries (number + length first) others
@@ -21,10 +21,12 @@ served_more entries number (session ∷ sessions) others =
     ap (λ t. session_lines entries number session ++ t) (rest ∙ ap (λ (n : ℕ). served_text entries (number + 1) sessions ++ served_text entries n others) same)
     ∙ sym (append_assoc (session_lines entries number session) (served_text entries (number + 1) sessions) (served_text entries (number + length (session ∷ sessions)) others))
 
-pub hosted_more : (layout : Declaration) (records : List (List ℕ)) (first others : List (Result Outcome RunFault))
-    → AreHosted layout records first → AreHosted layout records others → AreHosted layout records (first ++ others)
-hosted_more layout records [] others a b = b
-hosted_more layout records (session ∷ sessions) others a b = (a.0, hosted_more layout records sessions others a.1 b)
+pub hosted_more : (layout : Declaration) (records : List (List ℕ)) (lines : List FreshLine) (first : List (Result Outcome RunFault)) (more : List FreshLine) (others : List (Result Outcome RunFault))
+    → AreHosted layout records lines first → AreHosted layout records more others → AreHosted layout records (lines ++ more) (first ++ others)
+hosted_more layout records [] [] more others a b = b
+hosted_more layout records [] (session ∷ sessions) more others a b = absurd a
+hosted_more layout records (line ∷ lines) [] more others a b = absurd a
+hosted_more layout records (line ∷ lines) (session ∷ sessions) more others a b = (a.0, hosted_more layout records lines sessions more others a.1 b)
 
 pub or_false : (b : Bool) → (b || false) ≡ b
 or_false false = refl
@@ -38,10 +40,51 @@ pub front_after : (old mid new : Option (List ℕ)) (first second : List ℕ) �
 front_after old mid new first second a b =
     (first ++ b.0, b.1, ap (λ t. first ++ t) b.2 ∙ sym (append_assoc first b.0 b.1), appends_more old mid new first b.0 a b.3)
 
-pub serves_none : (layout : Declaration) (records : List (List ℕ)) (number : ℕ) (known : Option (List ℕ)) → ServesAll layout records number 0 known known false
-serves_none layout records number known = record { sessions = []; all = refl; hosted = tt; any = refl; written = appends_none known }
+pub hands_none : (coming : Option (List FreshLine)) → Hands coming [] coming
+hands_none None = tt
+hands_none (Some lines) = refl
 
-pub serves_more : (layout : Declaration) (records : List (List ℕ)) (number count more : ℕ) (old mid new : Option (List ℕ)) (failed this : Bool)
+pub hands_more : (old mid new : Option (List FreshLine)) (first second : List FreshLine) → Hands old first mid → Hands mid second new → Hands old (first ++ second) new
+hands_more None mid new first second a b = tt
+hands_more (Some x) None new first second a b = absurd a
+hands_more (Some x) (Some y) None first second a b = absurd b
+hands_more (Some x) (Some y) (Some z) first second a b = a ∙ ap (λ l. first ++ l) b ∙ sym (append_assoc first second z)
+
+pub hands_next : {L : Type 0} (E : Type 0) (seen : L → FreshLine) (old : Option (List FreshLine)) (line : L) (new : Option (List FreshLine))
+    → HandsNext {E = E} seen old (Ok line) new → Hands old (seen line ∷ []) new
+hands_next E seen None line new a = tt
+hands_next E seen (Some coming) line new a = a
+
+pub hands_not : {L E : Type 0} (seen : L → FreshLine) (old : Option (List FreshLine)) (error : E) (new : Option (List FreshLine))
+    → HandsNext {L = L} seen old (Err error) new → Hands old [] new
+hands_not seen None error new a = tt
+hands_not seen (Some coming) error new a = a
+
+pub serves_none : (layout : Declaration) (records : List (List ℕ)) (number : ℕ) (now : Serving) → ServesAll layout records number 0 now now false
+serves_none layout records number now = record {
+  lines = [];
+  sessions = [];
+  all = refl;
+  hands = hands_none now.coming;
+  hosted = tt;
+  any = refl;
+  written = appends_none now.written;
+}
+
+-- nothing was written, and at most one line handed over
+pub serves_nothing : (layout : Declaration) (records : List (List ℕ)) (number count : ℕ) (old new : Serving) (last : Option FreshLine)
+    → Hands old.coming (option_to_list last) new.coming → new.written ≡ old.written → ServesSome layout records number count old new
+serves_nothing layout records number count old new last hands same = record {
+  lines = [];
+  last = last;
+  sessions = [];
+  few = omega arith;
+  hands = hands;
+  hosted = tt;
+  front = subst (λ (w : Option (List ℕ)). AppendsFront old.written w []) (sym same) ([], [], refl, appends_none old.written);
+}
+
+pub serves_more : (layout : Declaration) (records : List (List ℕ)) (number count more : ℕ) (old mid new : Serving) (failed this : Bool)
     → ServesAll layout records number count old mid failed → ServesAll layout records (number + count) more mid new this
     → ServesAll layout records number (count + more) old new (failed || this)
 serves_more layout records number count more old mid new failed this a b =
@@ -49,15 +92,17 @@ serves_more layout records number count more old mid new failed this a b =
     let text : served_text layout.entries number (a.sessions ++ b.sessions) ≡ served_text layout.entries number a.sessions ++ served_text layout.entries (number + count) b.sessions =
     served_more layout.entries number a.sessions b.sessions ∙ ap (λ (n : ℕ). served_text layout.entries number a.sessions ++ served_text layout.entries n b.sessions) same in
     record {
+      lines = a.lines ++ b.lines;
       sessions = a.sessions ++ b.sessions;
       all = length-append a.sessions b.sessions ∙ ap (λ (n : ℕ). n + length b.sessions) a.all ∙ ap (λ (n : ℕ). count + n) b.all;
-      hosted = hosted_more layout records a.sessions b.sessions a.hosted b.hosted;
+      hands = hands_more old.coming mid.coming new.coming a.lines b.lines a.hands b.hands;
+      hosted = hosted_more layout records a.lines a.sessions b.lines b.sessions a.hosted b.hosted;
       any = list_any-append is_failed a.sessions b.sessions ∙ ap (λ (x : Bool). x || some_failed b.sessions) a.any ∙ ap (λ (x : Bool). failed || x) b.any;
-      written = subst (Appends old new) (sym text)
-          (appends_more old mid new (served_text layout.entries number a.sessions) (served_text layout.entries (number + count) b.sessions) a.written b.written);
+      written = subst (Appends old.written new.written) (sym text)
+          (appends_more old.written mid.written new.written (served_text layout.entries number a.sessions) (served_text layout.entries (number + count) b.sessions) a.written b.written);
     }
 
-pub serves_some_more : (layout : Declaration) (records : List (List ℕ)) (number count more most : ℕ) (old mid new : Option (List ℕ)) (failed : Bool)
+pub serves_some_more : (layout : Declaration) (records : List (List ℕ)) (number count more most : ℕ) (old mid new : Serving) (failed : Bool)
     → count + more ≤ most
     → ServesAll layout records number count old mid failed → ServesSome layout records (number + count) more mid new
     → ServesSome layout records number most old new
@@ -66,28 +111,39 @@ serves_some_more layout records number count more most old mid new failed few a 
     let text : served_text layout.entries number (a.sessions ++ b.sessions) ≡ served_text layout.entries number a.sessions ++ served_text layout.entries (number + count) b.sessions =
     served_more layout.entries number a.sessions b.sessions ∙ ap (λ (n : ℕ). served_text layout.entries number a.sessions ++ served_text layout.entries n b.sessions) same in
     record {
+      lines = a.lines ++ b.lines;
+      last = b.last;
       sessions = a.sessions ++ b.sessions;
       few = rw (length-append a.sessions b.sessions) (omega (arith, a.all, b.few, few));
-      hosted = hosted_more layout records a.sessions b.sessions a.hosted b.hosted;
-      front = subst (AppendsFront old new) (sym text)
-          (front_after old mid new (served_text layout.entries number a.sessions) (served_text layout.entries (number + count) b.sessions) a.written b.front);
+      hands = subst (λ (l : List FreshLine). Hands old.coming l new.coming) (sym (append_assoc a.lines b.lines (option_to_list b.last)))
+          (hands_more old.coming mid.coming new.coming a.lines (b.lines ++ option_to_list b.last) a.hands b.hands);
+      hosted = hosted_more layout records a.lines a.sessions b.lines b.sessions a.hosted b.hosted;
+      front = subst (AppendsFront old.written new.written) (sym text)
+          (front_after old.written mid.written new.written (served_text layout.entries number a.sessions) (served_text layout.entries (number + count) b.sessions) a.written b.front);
     }
 
-pub serves_one : (layout : Declaration) (records : List (List ℕ)) (number : ℕ) (old new : Option (List ℕ)) (session : Result Outcome RunFault)
-    → IsHosted layout records session → Appends old new (session_lines layout.entries number session) → ServesAll layout records number 1 old new (is_failed session)
-serves_one layout records number old new session hosted written = record {
+pub serves_one : (line : FreshLine) (layout : Declaration) (records : List (List ℕ)) (number : ℕ) (old new : Serving) (session : Result Outcome RunFault)
+    → Hands old.coming (line ∷ []) new.coming → IsHosted line layout records session → Appends old.written new.written (session_lines layout.entries number session)
+    → ServesAll layout records number 1 old new (is_failed session)
+serves_one line layout records number old new session hands hosted written = record {
+  lines = line ∷ [];
   sessions = session ∷ [];
   all = refl;
+  hands = hands;
   hosted = (hosted, tt);
   any = or_false (is_failed session);
-  written = subst (Appends old new) (sym (append-nil (session_lines layout.entries number session))) written;
+  written = subst (Appends old.written new.written) (sym (append-nil (session_lines layout.entries number session))) written;
 }
 
-pub serves_part : (layout : Declaration) (records : List (List ℕ)) (number : ℕ) (old new : Option (List ℕ)) (session : Result Outcome RunFault)
-    → IsHosted layout records session → AppendsFront old new (session_lines layout.entries number session) → ServesSome layout records number 1 old new
-serves_part layout records number old new session hosted front = record {
+pub serves_part : (line : FreshLine) (layout : Declaration) (records : List (List ℕ)) (number : ℕ) (old new : Serving) (session : Result Outcome RunFault)
+    → Hands old.coming (line ∷ []) new.coming → IsHosted line layout records session → AppendsFront old.written new.written (session_lines layout.entries number session)
+    → ServesSome layout records number 1 old new
+serves_part line layout records number old new session hands hosted front = record {
+  lines = line ∷ [];
+  last = None;
   sessions = session ∷ [];
   few = omega arith;
+  hands = hands;
   hosted = (hosted, tt);
-  front = subst (AppendsFront old new) (sym (append-nil (session_lines layout.entries number session))) front;
+  front = subst (AppendsFront old.written new.written) (sym (append-nil (session_lines layout.entries number session))) front;
 }

@@ -1,5 +1,5 @@
 -- One terminal's session, as a host holds it, and its lines.
-use Rattle.std.specs.Prelude.{ℕ, ◌≡◌, ◌⊎◌, ◌+◌, Bool, true, false, List, [], ◌∷◌, ◌++◌, codes, None, Result, Ok, Err}
+use Rattle.std.specs.Prelude.{ℕ, ◌≡◌, ◌⊎◌, ◌+◌, Bool, true, false, List, [], ◌∷◌, ◌++◌, codes, Option, None, Result, Ok, Err}
 use Rattle.std.specs.List.{flat_map}
 use Rattle.std.specs.Fmt.{decimal}
 use Rattle.hex.specs.Hex.{encode_upper}
@@ -46,12 +46,21 @@ served_text entries number (session ∷ sessions) = session_lines entries number
 
 -- ---- what it is
 
--- nothing has passed over the line
-pub record IsFresh (wire : WireState) : Type 0 where
-  pub received : wire.received ≡ []
-  pub sent : wire.sent ≡ []
-  pub reads : wire.reads ≡ 0
-  pub stop : wire.stop ≡ None
+-- a line that is handed over: where it tells its bytes, those that it has left to read and those that it holds as written
+pub record FreshLine : Type 0 where
+  pub left : Option (List ℕ)
+  pub held : Option (List ℕ)
+
+-- this line, over which nothing has passed
+abbrev pub begun : FreshLine → WireState
+begun line = record {
+  received = [];
+  sent = [];
+  reads = 0;
+  stop = None;
+  left = line.left;
+  held = line.held;
+}
 
 -- What a run gave; or, where it had no fault, the line's, which did not take all that it held.
 abbrev pub IsLeft : {A : Type 0} → Result A RunFault → Result A RunFault → Type 0
@@ -62,11 +71,9 @@ abbrev pub session_seen : Result HostOutcome RunFault → Result Outcome RunFaul
 session_seen (Ok outcome) = Ok (outcome_view outcome)
 session_seen (Err why) = Err why
 
--- A host's run over a fresh line, with TN3270E and RESPONSES where the terminal takes them, gave this.
-pub record IsHosted (layout : Declaration) (records : List (List ℕ)) (session : Result Outcome RunFault) : Type 0 where
-  pub begun : WireState
+-- A host's run over this line from its beginning, with TN3270E and RESPONSES where the terminal takes them, gave this.
+pub record IsHosted (line : FreshLine) (layout : Declaration) (records : List (List ℕ)) (session : Result Outcome RunFault) : Type 0 where
   pub ended : WireState
   pub ran : Result HostOutcome RunFault
-  pub fresh : IsFresh begun
-  pub host : HostRan layout records true true begun ran ended
+  pub host : HostRan layout records true true (begun line) ran ended
   pub left : IsLeft (session_seen ran) session

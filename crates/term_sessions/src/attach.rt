@@ -22,7 +22,10 @@ fn terminal_session<L: Read + Write + Drop>(
     device: Device,
     keys: &[Key],
 ) -> Result<Report, RunFault>
-    ensures { IsAttached device keys.now result }
+    ensures { IsAttached (record {
+      left = L.remaining line;
+      held = L.contents line;
+    }) device keys.now result }
 {
     let mut wire = Wire::new(line);
     let ran = terminal_run(alloc, &mut wire, device, true, true, keys);
@@ -108,7 +111,10 @@ pub fn attach_on<L: Read + Write + Drop, W: Write>(
     keys: &[Key],
     writer: &mut W,
 ) -> Status
-    ensures { Attaches device keys.now (W.contents writer.old) (W.contents writer.new) result }
+    ensures { Attaches (record {
+      left = L.remaining line;
+      held = L.contents line;
+    }) device keys.now (W.contents writer.old) (W.contents writer.new) result }
 {
     let session = terminal_session(alloc, line, device, keys);
     print_session(alloc, session, writer)

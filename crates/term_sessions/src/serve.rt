@@ -2,7 +2,7 @@
 
 ghost use Rattle.std.specs.Prelude.{◌≡◌, ◌<◌, map, IfOk};
 ghost use Rattle.term_commands.specs.Held.{records_held};
-ghost use Rattle.term_sessions.specs.Serve.{ServesNext, ServesEach, Serves, WritesSession};
+ghost use Rattle.term_sessions.specs.Serve.{serving, ServesNext, ServesEach, Serves, WritesSession};
 ghost use Rattle.term_sessions.specs.Session.{is_failed, session_seen};
 
 use crate::screen::Screen;
@@ -66,7 +66,8 @@ fn serve_next<T: Terminals, W: Write>(
     writer: &mut W,
 ) -> Result<bool, Status>
     ensures { ServesNext layout.now (map (λ bytes. bytes.now) records.now) number
-        (W.contents writer.old) (W.contents writer.new) result }
+        (serving (T.lines terminals.old) (W.contents writer.old))
+        (serving (T.lines terminals.new) (W.contents writer.new)) result }
 {
     let line = match terminals.next_line() {
         Ok(line) => line,
@@ -93,7 +94,8 @@ fn serve_each<T: Terminals, W: Write>(
     writer: &mut W,
 ) -> Result<bool, Status>
     ensures { ServesEach layout.now (map (λ bytes. bytes.now) records.now) count
-        (W.contents writer.old) (W.contents writer.new) result }
+        (serving (T.lines terminals.old) (W.contents writer.old))
+        (serving (T.lines terminals.new) (W.contents writer.new)) result }
 {
     let mut failed = false;
     'terminals: for index in 0..count {
@@ -118,7 +120,8 @@ pub fn serve_on<T: Terminals, W: Write>(
     writer: &mut W,
 ) -> Status
     ensures { Serves screen.now.layout (records_held screen.now.records.items) count
-        (W.contents writer.old) (W.contents writer.new) result }
+        (serving (T.lines terminals.old) (W.contents writer.old))
+        (serving (T.lines terminals.new) (W.contents writer.new)) result }
 {
     let Ok(records) = lent(alloc, screen.records.as_slice()) else {
         return Status::NoMemory;

@@ -37,7 +37,10 @@ pub(crate) fn host_session<L: Read + Write + Drop>(
     layout: &Layout,
     records: &[&[u8]],
 ) -> Result<HostOutcome, RunFault>
-    ensures { IsHosted layout.now (map (λ bytes. bytes.now) records.now) (session_seen result) }
+    ensures { IsHosted (record {
+      left = L.remaining line;
+      held = L.contents line;
+    }) layout.now (map (λ bytes. bytes.now) records.now) (session_seen result) }
 {
     let mut wire = Wire::new(line);
     let ran = host_run(alloc, &mut wire, records, layout, true, true);
