@@ -8,22 +8,24 @@ use Rattle.term_commands.specs.Fault.{fault_line}
 use Rattle.term_commands.specs.Printed.{printed}
 use Rattle.term_commands.specs.Streams.{IsWantOrFailure, Prints}
 use Rattle.tn_session.specs.declared.device.Device.{Device}
+use Rattle.tn_session.specs.Wire.{WireState}
 use Rattle.term_sessions.specs.Attach.{Attaches}
 use Rattle.term_sessions.specs.Prepare.{Prepared, ready, stops}
-use Rattle.term_sessions.specs.Session.{FreshLine}
+use Rattle.term_sessions.specs.Session.{begun}
 use Rattle.term_sessions.specs.Serve.{Serves, Serving, serving}
 
 -- nothing was written, and the status is that of a failure
 abbrev pub HasFailed : Option (List ℕ) → Option (List ℕ) → Status → Type 0
 HasFailed old new status = IsWantOrFailure status × (new ≡ old)
 
--- a socket: no clause says what it gives or holds
-abbrev pub a_socket : FreshLine
-a_socket = record { left = None; held = None }
-
--- terminals over sockets, of which none is known before it comes
+-- terminals over sockets, of which none is known before it comes or once it has gone
 abbrev pub sockets : Option (List ℕ) → Serving
-sockets written = serving None written
+sockets written = serving None None written
+
+-- a session over a socket, from its beginning
+abbrev pub AttachesSocket : Device → List Key → Option (List ℕ) → Option (List ℕ) → Status → Type 0
+AttachesSocket device keys old new status =
+    (ended : WireState) × Attaches device keys (begun (record { left = None; held = None })) ended old new status
 
 -- the first fault of the inputs, or what stands against the screen; else its terminals, unless the port can't be bound
 abbrev pub ServesPrepared : ℕ → Option (List ℕ) → Option (List ℕ) → Status → Result Prepared Fault → Type 0
@@ -34,4 +36,4 @@ ServesPrepared count old new status (Ok (ready layout records)) = Serves layout 
 -- the first fault of the keys; else the session, unless the host can't be reached
 abbrev pub AttachesNamed : Device → Option (List ℕ) → Option (List ℕ) → Status → Result (List Key) Fault → Type 0
 AttachesNamed device old new status (Err fault) = Prints old new status (printed (fault_line fault) BadInput)
-AttachesNamed device old new status (Ok keys) = Attaches a_socket device keys old new status ⊎ HasFailed old new status
+AttachesNamed device old new status (Ok keys) = AttachesSocket device keys old new status ⊎ HasFailed old new status

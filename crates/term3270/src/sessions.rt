@@ -6,17 +6,16 @@ ghost use Rattle.term_commands.specs.declared.status.Status.TheVariants.{BadInpu
 ghost use Rattle.term_commands.specs.Held.{records_held};
 ghost use Rattle.term_commands.specs.Keys.{keys_in};
 ghost use Rattle.tn_session.specs.Devices.{device_of};
-ghost use Rattle.term_sessions.specs.Attach.{Attaches};
 ghost use Rattle.term_sessions.specs.Prepare.{prepare};
 ghost use Rattle.term_sessions.specs.Serve.{Serves};
-ghost use Rattle.term3270.specs.Sessions.{a_socket, sockets, AttachesNamed, HasFailed, ServesPrepared};
+ghost use Rattle.term3270.specs.Sessions.{sockets, AttachesNamed, AttachesSocket, HasFailed, ServesPrepared};
 
 use crate::tcp::{Listening, Place, TcpLine};
 use ds_keys::Key;
 use std::io::{Read, Write};
 use term_commands::{Status, finish, read_keys};
 use term_sessions::{Prepared, Screen, attach_on, prepare_serve, serve_on};
-use tn_session::Device;
+use tn_session::{Device, Wire};
 
 /// Serves a layout's screen at a place to so many terminals. The port is bound once the screen is found fit.
 pub fn run_serve<L: Read, R: Read, W: Write>(
@@ -86,11 +85,11 @@ fn attach_at<W: Write>(
     keys: &[Key],
     output: &mut W,
 ) -> Status
-    ensures { Attaches a_socket device keys.now (W.contents output.old) (W.contents output.new) result
+    ensures { AttachesSocket device keys.now (W.contents output.old) (W.contents output.new) result
         ⊎ HasFailed (W.contents output.old) (W.contents output.new) result }
 {
     match TcpLine::to(rt, place) {
-        Ok(line) => attach_on(rt.alloc(), line, device, keys, output),
+        Ok(line) => attach_on(rt.alloc(), &mut Wire::new(line), device, keys, output),
         Err(error) => place.report(rt, &error),
     }
 }

@@ -8,7 +8,7 @@ use std::net::{TcpListener, TcpStream};
 use std::test::Fail;
 use term_commands::Status;
 use term_sessions::{Prepared, Screen, attach_on, prepare_serve, serve_on};
-use tn_session::Device;
+use tn_session::{Device, Wire};
 
 const LAYOUT: &str =
     "default = \"24x80\"\n[[field]]\nname = \"code\"\nrow = 1\ncol = 4\nlength = 3\n";
@@ -82,7 +82,9 @@ fn a_terminal_attaches(rt: HostRuntime) -> Result<(), Fail> {
         return Err(Fail::from("no device"));
     };
     let mut text = Vec::new(rt.alloc());
-    let status = attach_on(rt.alloc(), line, device, keys.as_slice(), &mut text);
+    let mut wire = Wire::new(line);
+    let status = attach_on(rt.alloc(), &mut wire, device, keys.as_slice(), &mut text);
+    drop(wire);
     let mut got = Vec::new(rt.alloc());
     host.read_to_end(&mut got)?;
     assert_eq!(&rt; status, Status::Done);

@@ -9,8 +9,9 @@ use Rattle.term_commands.specs.Streams.{AppendsFront}
 use Rattle.term_commands.proofs.Prefixes.{appends_more}
 use Rattle.tn_session.specs.declared.fault.RunFault.{RunFault}
 use Rattle.tn_session.specs.HostLog.{Outcome}
-use Rattle.term_sessions.specs.Session.{FreshLine, session_lines, served_text, is_failed, IsHosted}
-use Rattle.term_sessions.specs.Serve.{Hands, HandsNext, AreHosted, some_failed, Serving, ServesAll, ServesSome}
+use Rattle.tn_session.specs.Wire.{WireState}
+use Rattle.term_sessions.specs.Session.{FreshLine, begun, session_lines, served_text, is_failed, IsHosted}
+use Rattle.term_sessions.specs.Serve.{Hands, HandsNext, TakesBack, AreHosted, some_failed, Serving, ServesAll, ServesSome}
 
 pub served_more : (entries : List Declared) (number : ℕ) (first others : List (Result Outcome RunFault))
     → served_text entries number (first ++ others) ≡ served_text entries number first ++ served_text entries (number + length first) others
@@ -21,12 +22,16 @@ served_more entries number (session ∷ sessions) others =
     ap (λ t. session_lines entries number session ++ t) (rest ∙ ap (λ (n : ℕ). served_text entries (number + 1) sessions ++ served_text entries n others) same)
     ∙ sym (append_assoc (session_lines entries number session) (served_text entries (number + 1) sessions) (served_text entries (number + length (session ∷ sessions)) others))
 
-pub hosted_more : (layout : Declaration) (records : List (List ℕ)) (lines : List FreshLine) (first : List (Result Outcome RunFault)) (more : List FreshLine) (others : List (Result Outcome RunFault))
-    → AreHosted layout records lines first → AreHosted layout records more others → AreHosted layout records (lines ++ more) (first ++ others)
-hosted_more layout records [] [] more others a b = b
-hosted_more layout records [] (session ∷ sessions) more others a b = absurd a
-hosted_more layout records (line ∷ lines) [] more others a b = absurd a
-hosted_more layout records (line ∷ lines) (session ∷ sessions) more others a b = (a.0, hosted_more layout records lines sessions more others a.1 b)
+pub hosted_more : (layout : Declaration) (records : List (List ℕ)) (lines : List FreshLine) (wires : List WireState) (first : List (Result Outcome RunFault))
+    (more : List FreshLine) (later : List WireState) (others : List (Result Outcome RunFault))
+    → AreHosted layout records lines wires first → AreHosted layout records more later others → AreHosted layout records (lines ++ more) (wires ++ later) (first ++ others)
+hosted_more layout records [] [] [] more later others a b = b
+hosted_more layout records [] [] (session ∷ sessions) more later others a b = absurd a
+hosted_more layout records [] (wire ∷ wires) sessions more later others a b = absurd a
+hosted_more layout records (line ∷ lines) [] sessions more later others a b = absurd a
+hosted_more layout records (line ∷ lines) (wire ∷ wires) [] more later others a b = absurd a
+hosted_more layout records (line ∷ lines) (wire ∷ wires) (session ∷ sessions) more later others a b =
+    (a.0, hosted_more layout records lines wires sessions more later others a.1 b)
 
 pub or_false : (b : Bool) → (b || false) ≡ b
 or_false false = refl
@@ -60,26 +65,51 @@ pub hands_not : {L E : Type 0} (seen : L → FreshLine) (old : Option (List Fres
 hands_not seen None error new a = tt
 hands_not seen (Some coming) error new a = a
 
+pub takes_none : (gone : Option (List WireState)) → TakesBack gone [] gone
+takes_none None = tt
+takes_none (Some wires) = sym (append-nil wires)
+
+pub takes_more : (old mid new : Option (List WireState)) (first second : List WireState) → TakesBack old first mid → TakesBack mid second new → TakesBack old (first ++ second) new
+takes_more None mid new first second a b = tt
+takes_more (Some x) None new first second a b = absurd a
+takes_more (Some x) (Some y) None first second a b = absurd b
+takes_more (Some x) (Some y) (Some z) first second a b = b ∙ ap (λ l. l ++ second) a ∙ append_assoc x first second
+
+-- a terminal came, and then it went
+pub hands_kept : (old mid new : Option (List FreshLine)) (lines : List FreshLine) → Hands old lines mid → new ≡ mid → Hands old lines new
+hands_kept old mid new lines a same = subst (Hands old lines) (sym same) a
+
+pub takes_kept : (old mid new : Option (List WireState)) (wires : List WireState) → mid ≡ old → TakesBack mid wires new → TakesBack old wires new
+takes_kept old mid new wires same a = subst (λ (g : Option (List WireState)). TakesBack g wires new) same a
+
+pub takes_same : (old new : Option (List WireState)) → new ≡ old → TakesBack old [] new
+takes_same old new same = subst (TakesBack old []) (sym same) (takes_none old)
+
 pub serves_none : (layout : Declaration) (records : List (List ℕ)) (number : ℕ) (now : Serving) → ServesAll layout records number 0 now now false
 serves_none layout records number now = record {
   lines = [];
+  wires = [];
   sessions = [];
   all = refl;
-  hands = hands_none now.coming;
+  came = hands_none now.coming;
+  went = takes_none now.gone;
   hosted = tt;
   any = refl;
   written = appends_none now.written;
 }
 
--- nothing was written, and at most one line handed over
-pub serves_nothing : (layout : Declaration) (records : List (List ℕ)) (number count : ℕ) (old new : Serving) (last : Option FreshLine)
-    → Hands old.coming (option_to_list last) new.coming → new.written ≡ old.written → ServesSome layout records number count old new
-serves_nothing layout records number count old new last hands same = record {
+-- nothing was written; a terminal may have come and gone
+pub serves_nothing : (layout : Declaration) (records : List (List ℕ)) (number count : ℕ) (old new : Serving) (line : Option FreshLine) (wire : Option WireState)
+    → Hands old.coming (option_to_list line) new.coming → TakesBack old.gone (option_to_list wire) new.gone → new.written ≡ old.written → ServesSome layout records number count old new
+serves_nothing layout records number count old new line wire came went same = record {
   lines = [];
-  last = last;
+  wires = [];
   sessions = [];
+  last_line = line;
+  last_wire = wire;
   few = omega arith;
-  hands = hands;
+  came = came;
+  went = went;
   hosted = tt;
   front = subst (λ (w : Option (List ℕ)). AppendsFront old.written w []) (sym same) ([], [], refl, appends_none old.written);
 }
@@ -93,10 +123,12 @@ serves_more layout records number count more old mid new failed this a b =
     served_more layout.entries number a.sessions b.sessions ∙ ap (λ (n : ℕ). served_text layout.entries number a.sessions ++ served_text layout.entries n b.sessions) same in
     record {
       lines = a.lines ++ b.lines;
+      wires = a.wires ++ b.wires;
       sessions = a.sessions ++ b.sessions;
       all = length-append a.sessions b.sessions ∙ ap (λ (n : ℕ). n + length b.sessions) a.all ∙ ap (λ (n : ℕ). count + n) b.all;
-      hands = hands_more old.coming mid.coming new.coming a.lines b.lines a.hands b.hands;
-      hosted = hosted_more layout records a.lines a.sessions b.lines b.sessions a.hosted b.hosted;
+      came = hands_more old.coming mid.coming new.coming a.lines b.lines a.came b.came;
+      went = takes_more old.gone mid.gone new.gone a.wires b.wires a.went b.went;
+      hosted = hosted_more layout records a.lines a.wires a.sessions b.lines b.wires b.sessions a.hosted b.hosted;
       any = list_any-append is_failed a.sessions b.sessions ∙ ap (λ (x : Bool). x || some_failed b.sessions) a.any ∙ ap (λ (x : Bool). failed || x) b.any;
       written = subst (Appends old.written new.written) (sym text)
           (appends_more old.written mid.written new.written (served_text layout.entries number a.sessions) (served_text layout.entries (number + count) b.sessions) a.written b.written);
@@ -112,38 +144,49 @@ serves_some_more layout records number count more most old mid new failed few a 
     served_more layout.entries number a.sessions b.sessions ∙ ap (λ (n : ℕ). served_text layout.entries number a.sessions ++ served_text layout.entries n b.sessions) same in
     record {
       lines = a.lines ++ b.lines;
-      last = b.last;
+      wires = a.wires ++ b.wires;
       sessions = a.sessions ++ b.sessions;
+      last_line = b.last_line;
+      last_wire = b.last_wire;
       few = rw (length-append a.sessions b.sessions) (omega (arith, a.all, b.few, few));
-      hands = subst (λ (l : List FreshLine). Hands old.coming l new.coming) (sym (append_assoc a.lines b.lines (option_to_list b.last)))
-          (hands_more old.coming mid.coming new.coming a.lines (b.lines ++ option_to_list b.last) a.hands b.hands);
-      hosted = hosted_more layout records a.lines a.sessions b.lines b.sessions a.hosted b.hosted;
+      came = subst (λ (l : List FreshLine). Hands old.coming l new.coming) (sym (append_assoc a.lines b.lines (option_to_list b.last_line)))
+          (hands_more old.coming mid.coming new.coming a.lines (b.lines ++ option_to_list b.last_line) a.came b.came);
+      went = subst (λ (l : List WireState). TakesBack old.gone l new.gone) (sym (append_assoc a.wires b.wires (option_to_list b.last_wire)))
+          (takes_more old.gone mid.gone new.gone a.wires (b.wires ++ option_to_list b.last_wire) a.went b.went);
+      hosted = hosted_more layout records a.lines a.wires a.sessions b.lines b.wires b.sessions a.hosted b.hosted;
       front = subst (AppendsFront old.written new.written) (sym text)
           (front_after old.written mid.written new.written (served_text layout.entries number a.sessions) (served_text layout.entries (number + count) b.sessions) a.written b.front);
     }
 
-pub serves_one : (line : FreshLine) (layout : Declaration) (records : List (List ℕ)) (number : ℕ) (old new : Serving) (session : Result Outcome RunFault)
-    → Hands old.coming (line ∷ []) new.coming → IsHosted line layout records session → Appends old.written new.written (session_lines layout.entries number session)
+pub serves_one : (line : FreshLine) (start wire : WireState) (layout : Declaration) (records : List (List ℕ)) (number : ℕ) (old new : Serving) (session : Result Outcome RunFault)
+    → Hands old.coming (line ∷ []) new.coming → TakesBack old.gone (wire ∷ []) new.gone → start ≡ begun line → IsHosted layout records start session wire
+    → Appends old.written new.written (session_lines layout.entries number session)
     → ServesAll layout records number 1 old new (is_failed session)
-serves_one line layout records number old new session hands hosted written = record {
+serves_one line start wire layout records number old new session came went new_wire hosted written = record {
   lines = line ∷ [];
+  wires = wire ∷ [];
   sessions = session ∷ [];
   all = refl;
-  hands = hands;
-  hosted = (hosted, tt);
+  came = came;
+  went = went;
+  hosted = (subst (λ (w : WireState). IsHosted layout records w session wire) new_wire hosted, tt);
   any = or_false (is_failed session);
   written = subst (Appends old.written new.written) (sym (append-nil (session_lines layout.entries number session))) written;
 }
 
-pub serves_part : (line : FreshLine) (layout : Declaration) (records : List (List ℕ)) (number : ℕ) (old new : Serving) (session : Result Outcome RunFault)
-    → Hands old.coming (line ∷ []) new.coming → IsHosted line layout records session → AppendsFront old.written new.written (session_lines layout.entries number session)
+pub serves_part : (line : FreshLine) (start wire : WireState) (layout : Declaration) (records : List (List ℕ)) (number : ℕ) (old new : Serving) (session : Result Outcome RunFault)
+    → Hands old.coming (line ∷ []) new.coming → TakesBack old.gone (wire ∷ []) new.gone → start ≡ begun line → IsHosted layout records start session wire
+    → AppendsFront old.written new.written (session_lines layout.entries number session)
     → ServesSome layout records number 1 old new
-serves_part line layout records number old new session hands hosted front = record {
+serves_part line start wire layout records number old new session came went new_wire hosted front = record {
   lines = line ∷ [];
-  last = None;
+  wires = wire ∷ [];
   sessions = session ∷ [];
+  last_line = None;
+  last_wire = None;
   few = omega arith;
-  hands = hands;
-  hosted = (hosted, tt);
+  came = came;
+  went = went;
+  hosted = (subst (λ (w : WireState). IsHosted layout records w session wire) new_wire hosted, tt);
   front = subst (AppendsFront old.written new.written) (sym (append-nil (session_lines layout.entries number session))) front;
 }

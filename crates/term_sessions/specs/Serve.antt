@@ -9,9 +9,10 @@ use Rattle.term_commands.specs.declared.status.Status.TheVariants.{Done, Failed,
 use Rattle.term_commands.specs.Streams.{AppendsFront, IsWantOrFailure}
 use Rattle.tn_session.specs.declared.fault.RunFault.{RunFault}
 use Rattle.tn_session.specs.HostLog.{Outcome}
-use Rattle.term_sessions.specs.Session.{FreshLine, session_lines, served_text, is_failed, IsHosted}
+use Rattle.tn_session.specs.Wire.{WireState}
+use Rattle.term_sessions.specs.Session.{FreshLine, begun, session_lines, served_text, is_failed, IsHosted}
 
--- ---- where the lines come from
+-- ---- where lines come from, and wires go
 
 -- these lines were handed over, the first of those that are to come
 abbrev pub Hands : Option (List FreshLine) → List FreshLine → Option (List FreshLine) → Type 0
@@ -25,47 +26,61 @@ HandsNext seen None result new = Unit {0}
 HandsNext seen (Some coming) (Ok line) new = Hands (Some coming) (seen line ∷ []) new
 HandsNext seen (Some coming) (Err error) new = Hands (Some coming) [] new
 
+-- these wires were given back, after those before
+abbrev pub TakesBack : Option (List WireState) → List WireState → Option (List WireState) → Type 0
+TakesBack None wires new = Unit {0}
+TakesBack (Some before) wires None = ⊥
+TakesBack (Some before) wires (Some all) = all ≡ before ++ wires
+
 -- ---- what came of them
 
--- the session over each line, one after the other
-abbrev pub AreHosted : Declaration → List (List ℕ) → List FreshLine → List (Result Outcome RunFault) → Type 0
-AreHosted layout records [] [] = Unit {0}
-AreHosted layout records (line ∷ lines) (session ∷ sessions) = IsHosted line layout records session × AreHosted layout records lines sessions
-AreHosted layout records _ _ = ⊥
+-- The session over each line, one after the other, and the wire as it left it.
+abbrev pub AreHosted : Declaration → List (List ℕ) → List FreshLine → List WireState → List (Result Outcome RunFault) → Type 0
+AreHosted layout records [] [] [] = Unit {0}
+AreHosted layout records (line ∷ lines) (wire ∷ wires) (session ∷ sessions) =
+    IsHosted layout records (begun line) session wire × AreHosted layout records lines wires sessions
+AreHosted layout records _ _ _ = ⊥
 
 abbrev pub some_failed : List (Result Outcome RunFault) → Bool
 some_failed sessions = list_any is_failed sessions
 
--- the terminals that are to come, and what is written
+-- the terminals that are to come, the wires of those that have gone, and what is written
 pub record Serving : Type 0 where
   pub coming : Option (List FreshLine)
+  pub gone : Option (List WireState)
   pub written : Option (List ℕ)
 
-abbrev pub serving : Option (List FreshLine) → Option (List ℕ) → Serving
-serving coming written = record {
+abbrev pub serving : Option (List FreshLine) → Option (List WireState) → Option (List ℕ) → Serving
+serving coming gone written = record {
   coming = coming;
+  gone = gone;
   written = written;
 }
 
--- so many lines were handed over and served, and all their sessions' lines written
+-- so many terminals came, were served and have gone, and all their sessions' lines were written
 pub record ServesAll (layout : Declaration) (records : List (List ℕ)) (number count : ℕ) (old new : Serving) (failed : Bool) : Type 0 where
   pub lines : List FreshLine
+  pub wires : List WireState
   pub sessions : List (Result Outcome RunFault)
   pub all : length sessions ≡ count
-  pub hands : Hands old.coming lines new.coming
-  pub hosted : AreHosted layout records lines sessions
+  pub came : Hands old.coming lines new.coming
+  pub went : TakesBack old.gone wires new.gone
+  pub hosted : AreHosted layout records lines wires sessions
   pub any : some_failed sessions ≡ failed
   pub written : Appends old.written new.written (served_text layout.entries number sessions)
 
--- The command ended early: some lines were served, and a front of their sessions' lines was written. One more line may have
--- been handed over.
+-- The command ended early: some terminals were served, and a front of their sessions' lines was written. One more may have
+-- come, and gone for want of memory.
 pub record ServesSome (layout : Declaration) (records : List (List ℕ)) (number count : ℕ) (old new : Serving) : Type 0 where
   pub lines : List FreshLine
-  pub last : Option FreshLine
+  pub wires : List WireState
   pub sessions : List (Result Outcome RunFault)
+  pub last_line : Option FreshLine
+  pub last_wire : Option WireState
   pub few : length sessions ≤ count
-  pub hands : Hands old.coming (lines ++ option_to_list last) new.coming
-  pub hosted : AreHosted layout records lines sessions
+  pub came : Hands old.coming (lines ++ option_to_list last_line) new.coming
+  pub went : TakesBack old.gone (wires ++ option_to_list last_wire) new.gone
+  pub hosted : AreHosted layout records lines wires sessions
   pub front : AppendsFront old.written new.written (served_text layout.entries number sessions)
 
 -- The status is Failed where a session failed though all were served. Else, where it is Failed or NoMemory, a terminal could

@@ -12,7 +12,7 @@ use scr_layout::Layout;
 use std::alloc::{AllocError, Global};
 use std::io::Write;
 use term_commands::{Answer, Status, failure, finish};
-use tn_session::{HostOutcome, RunFault};
+use tn_session::{HostOutcome, RunFault, Wire};
 
 /// The records as slices.
 fn lent<'a>(alloc: Global, records: &'a [Vec<u8>]) -> Result<Vec<&'a [u8]>, AllocError>
@@ -66,14 +66,16 @@ fn serve_next<T: Terminals, W: Write>(
     writer: &mut W,
 ) -> Result<bool, Status>
     ensures { ServesNext layout.now (map (λ bytes. bytes.now) records.now) number
-        (serving (T.lines terminals.old) (W.contents writer.old))
-        (serving (T.lines terminals.new) (W.contents writer.new)) result }
+        (serving (T.lines terminals.old) (T.gone terminals.old) (W.contents writer.old))
+        (serving (T.lines terminals.new) (T.gone terminals.new) (W.contents writer.new)) result }
 {
     let line = match terminals.next_line() {
         Ok(line) => line,
         Err(error) => return Err(failure(&error)),
     };
-    let session = host_session(alloc, line, layout, records);
+    let mut wire = Wire::new(line);
+    let session = host_session(alloc, &mut wire, layout, records);
+    terminals.end(wire);
     if let Err(RunFault::OutOfMemory) = &session {
         return Err(Status::NoMemory);
     }
@@ -94,8 +96,8 @@ fn serve_each<T: Terminals, W: Write>(
     writer: &mut W,
 ) -> Result<bool, Status>
     ensures { ServesEach layout.now (map (λ bytes. bytes.now) records.now) count
-        (serving (T.lines terminals.old) (W.contents writer.old))
-        (serving (T.lines terminals.new) (W.contents writer.new)) result }
+        (serving (T.lines terminals.old) (T.gone terminals.old) (W.contents writer.old))
+        (serving (T.lines terminals.new) (T.gone terminals.new) (W.contents writer.new)) result }
 {
     let mut failed = false;
     'terminals: for index in 0..count {
@@ -120,8 +122,8 @@ pub fn serve_on<T: Terminals, W: Write>(
     writer: &mut W,
 ) -> Status
     ensures { Serves screen.now.layout (records_held screen.now.records.items) count
-        (serving (T.lines terminals.old) (W.contents writer.old))
-        (serving (T.lines terminals.new) (W.contents writer.new)) result }
+        (serving (T.lines terminals.old) (T.gone terminals.old) (W.contents writer.old))
+        (serving (T.lines terminals.new) (T.gone terminals.new) (W.contents writer.new)) result }
 {
     let Ok(records) = lent(alloc, screen.records.as_slice()) else {
         return Status::NoMemory;
