@@ -1,5 +1,5 @@
 -- What `serve` and `attach` print from their inputs on, whatever the net does.
-use Rattle.std.specs.Prelude.{◌≡◌, ◌⊎◌, ℕ, List, Option, None, Result, Ok, Err}
+use Rattle.std.specs.Prelude.{◌≡◌, ◌⊎◌, ℕ, List, [], Option, None, Result, Ok, Err}
 use Rattle.ds_keys.specs.declared.key.Key.{Key}
 use Rattle.term_commands.specs.declared.fault.Fault.{Fault}
 use Rattle.term_commands.specs.declared.status.Status.{Status}
@@ -12,15 +12,15 @@ use Rattle.tn_session.specs.Wire.{WireState}
 use Rattle.term_sessions.specs.Attach.{Attaches}
 use Rattle.term_sessions.specs.Prepare.{Prepared, ready, stops}
 use Rattle.term_sessions.specs.Session.{begun}
-use Rattle.term_sessions.specs.Serve.{Serves, Serving, serving}
+use Rattle.term_sessions.specs.Serve.{Serves, Visited, serving}
 
 -- nothing was written, and the status is that of a failure
 abbrev pub HasFailed : Option (List ℕ) → Option (List ℕ) → Status → Type 0
 HasFailed old new status = IsWantOrFailure status × (new ≡ old)
 
--- terminals over sockets, of which none is known before it comes or once it has gone
-abbrev pub sockets : Option (List ℕ) → Serving
-sockets written = serving None None written
+-- terminals over sockets, of which none is known before it comes, and of which these have gone
+abbrev pub sockets : List WireState → Visited
+sockets gone = record { coming = None; gone = gone }
 
 -- a session over a socket, from its beginning
 abbrev pub AttachesSocket : Device → List Key → Option (List ℕ) → Option (List ℕ) → Status → Type 0
@@ -31,7 +31,7 @@ AttachesSocket device keys old new status =
 abbrev pub ServesPrepared : ℕ → Option (List ℕ) → Option (List ℕ) → Status → Result Prepared Fault → Type 0
 ServesPrepared count old new status (Err fault) = Prints old new status (printed (fault_line fault) BadInput)
 ServesPrepared count old new status (Ok (stops answer)) = Prints old new status answer
-ServesPrepared count old new status (Ok (ready layout records)) = Serves layout records count (sockets old) (sockets new) status ⊎ HasFailed old new status
+ServesPrepared count old new status (Ok (ready layout records)) = ((gone : List WireState) × Serves layout records count (serving (sockets []) old) (serving (sockets gone) new) status) ⊎ HasFailed old new status
 
 -- the first fault of the keys; else the session, unless the host can't be reached
 abbrev pub AttachesNamed : Device → Option (List ℕ) → Option (List ℕ) → Status → Result (List Key) Fault → Type 0

@@ -6,7 +6,6 @@ use std::io::{BufWriter, Read, Write};
 use std::net::{TcpListener, TcpStream};
 use term_commands::{Status, failure};
 use term_sessions::Terminals;
-use tn_session::Wire;
 
 /// How many bytes are gathered before they go out.
 const MOST_GATHERED: usize = 65_536;
@@ -108,9 +107,5 @@ impl Terminals for Listening<'_> {
             self.place.report(self.rt, error);
         }
         line
-    }
-
-    fn end(&mut self, wire: Wire<TcpLine>) {
-        let _closed = wire;
     }
 }

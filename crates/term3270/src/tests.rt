@@ -7,7 +7,7 @@ use std::io::{Read, Write};
 use std::net::{TcpListener, TcpStream};
 use std::test::Fail;
 use term_commands::Status;
-use term_sessions::{Prepared, Screen, attach_on, prepare_serve, serve_on};
+use term_sessions::{Prepared, Screen, Visits, attach_on, prepare_serve, serve_on};
 use tn_session::{Device, Wire};
 
 const LAYOUT: &str =
@@ -52,8 +52,9 @@ fn terminals_are_served_in_turn(rt: HostRuntime) -> Result<(), Fail> {
         host: "127.0.0.1",
         port: 0,
     };
-    let mut terminals = Listening::at(&rt, place)?;
-    let port = terminals.listener.local_addr()?.port();
+    let listening = Listening::at(&rt, place)?;
+    let port = listening.listener.local_addr()?.port();
+    let mut terminals = Visits::new(listening);
     let _first = client(&rt, port, b"\xFF\xEF")?;
     let _second = client(&rt, port, ENHANCED)?;
     let mut text = Vec::new(rt.alloc());

@@ -11,7 +11,7 @@ use Rattle.tn_session.specs.declared.fault.RunFault.{RunFault}
 use Rattle.tn_session.specs.HostLog.{Outcome}
 use Rattle.tn_session.specs.Wire.{WireState}
 use Rattle.term_sessions.specs.Session.{FreshLine, begun, session_lines, served_text, is_failed, IsHosted}
-use Rattle.term_sessions.specs.Serve.{Hands, HandsNext, TakesBack, AreHosted, some_failed, Serving, ServesAll, ServesSome}
+use Rattle.term_sessions.specs.Serve.{Hands, HandsNext, AreHosted, some_failed, Serving, ServesAll, ServesSome}
 
 pub served_more : (entries : List Declared) (number : ℕ) (first others : List (Result Outcome RunFault))
     → served_text entries number (first ++ others) ≡ served_text entries number first ++ served_text entries (number + length first) others
@@ -65,25 +65,18 @@ pub hands_not : {L E : Type 0} (seen : L → FreshLine) (old : Option (List Fres
 hands_not seen None error new a = tt
 hands_not seen (Some coming) error new a = a
 
-pub takes_none : (gone : Option (List WireState)) → TakesBack gone [] gone
-takes_none None = tt
-takes_none (Some wires) = sym (append-nil wires)
-
-pub takes_more : (old mid new : Option (List WireState)) (first second : List WireState) → TakesBack old first mid → TakesBack mid second new → TakesBack old (first ++ second) new
-takes_more None mid new first second a b = tt
-takes_more (Some x) None new first second a b = absurd a
-takes_more (Some x) (Some y) None first second a b = absurd b
-takes_more (Some x) (Some y) (Some z) first second a b = b ∙ ap (λ l. l ++ second) a ∙ append_assoc x first second
+pub goes_more : (old mid new first second : List WireState) → mid ≡ old ++ first → new ≡ mid ++ second → new ≡ old ++ (first ++ second)
+goes_more old mid new first second a b = b ∙ ap (λ l. l ++ second) a ∙ append_assoc old first second
 
 -- a terminal came, and then it went
 pub hands_kept : (old mid new : Option (List FreshLine)) (lines : List FreshLine) → Hands old lines mid → new ≡ mid → Hands old lines new
 hands_kept old mid new lines a same = subst (Hands old lines) (sym same) a
 
-pub takes_kept : (old mid new : Option (List WireState)) (wires : List WireState) → mid ≡ old → TakesBack mid wires new → TakesBack old wires new
-takes_kept old mid new wires same a = subst (λ (g : Option (List WireState)). TakesBack g wires new) same a
+pub gone_kept : (old mid new : List WireState) (wire : WireState) → mid ≡ old → new ≡ mid ++ wire ∷ [] → new ≡ old ++ wire ∷ []
+gone_kept old mid new wire same a = a ∙ ap (λ l. l ++ wire ∷ []) same
 
-pub takes_same : (old new : Option (List WireState)) → new ≡ old → TakesBack old [] new
-takes_same old new same = subst (TakesBack old []) (sym same) (takes_none old)
+pub gone_none : (old new : List WireState) → new ≡ old → new ≡ old ++ []
+gone_none old new same = same ∙ sym (append-nil old)
 
 pub serves_none : (layout : Declaration) (records : List (List ℕ)) (number : ℕ) (now : Serving) → ServesAll layout records number 0 now now false
 serves_none layout records number now = record {
@@ -92,7 +85,7 @@ serves_none layout records number now = record {
   sessions = [];
   all = refl;
   came = hands_none now.coming;
-  went = takes_none now.gone;
+  went = gone_none now.gone now.gone refl;
   hosted = tt;
   any = refl;
   written = appends_none now.written;
@@ -100,7 +93,7 @@ serves_none layout records number now = record {
 
 -- nothing was written; a terminal may have come and gone
 pub serves_nothing : (layout : Declaration) (records : List (List ℕ)) (number count : ℕ) (old new : Serving) (line : Option FreshLine) (wire : Option WireState)
-    → Hands old.coming (option_to_list line) new.coming → TakesBack old.gone (option_to_list wire) new.gone → new.written ≡ old.written → ServesSome layout records number count old new
+    → Hands old.coming (option_to_list line) new.coming → new.gone ≡ old.gone ++ option_to_list wire → new.written ≡ old.written → ServesSome layout records number count old new
 serves_nothing layout records number count old new line wire came went same = record {
   lines = [];
   wires = [];
@@ -127,7 +120,7 @@ serves_more layout records number count more old mid new failed this a b =
       sessions = a.sessions ++ b.sessions;
       all = length-append a.sessions b.sessions ∙ ap (λ (n : ℕ). n + length b.sessions) a.all ∙ ap (λ (n : ℕ). count + n) b.all;
       came = hands_more old.coming mid.coming new.coming a.lines b.lines a.came b.came;
-      went = takes_more old.gone mid.gone new.gone a.wires b.wires a.went b.went;
+      went = goes_more old.gone mid.gone new.gone a.wires b.wires a.went b.went;
       hosted = hosted_more layout records a.lines a.wires a.sessions b.lines b.wires b.sessions a.hosted b.hosted;
       any = list_any-append is_failed a.sessions b.sessions ∙ ap (λ (x : Bool). x || some_failed b.sessions) a.any ∙ ap (λ (x : Bool). failed || x) b.any;
       written = subst (Appends old.written new.written) (sym text)
@@ -151,15 +144,15 @@ serves_some_more layout records number count more most old mid new failed few a 
       few = rw (length-append a.sessions b.sessions) (omega (arith, a.all, b.few, few));
       came = subst (λ (l : List FreshLine). Hands old.coming l new.coming) (sym (append_assoc a.lines b.lines (option_to_list b.last_line)))
           (hands_more old.coming mid.coming new.coming a.lines (b.lines ++ option_to_list b.last_line) a.came b.came);
-      went = subst (λ (l : List WireState). TakesBack old.gone l new.gone) (sym (append_assoc a.wires b.wires (option_to_list b.last_wire)))
-          (takes_more old.gone mid.gone new.gone a.wires (b.wires ++ option_to_list b.last_wire) a.went b.went);
+      went = goes_more old.gone mid.gone new.gone a.wires (b.wires ++ option_to_list b.last_wire) a.went b.went
+          ∙ ap (λ (l : List WireState). old.gone ++ l) (sym (append_assoc a.wires b.wires (option_to_list b.last_wire)));
       hosted = hosted_more layout records a.lines a.wires a.sessions b.lines b.wires b.sessions a.hosted b.hosted;
       front = subst (AppendsFront old.written new.written) (sym text)
           (front_after old.written mid.written new.written (served_text layout.entries number a.sessions) (served_text layout.entries (number + count) b.sessions) a.written b.front);
     }
 
 pub serves_one : (line : FreshLine) (start wire : WireState) (layout : Declaration) (records : List (List ℕ)) (number : ℕ) (old new : Serving) (session : Result Outcome RunFault)
-    → Hands old.coming (line ∷ []) new.coming → TakesBack old.gone (wire ∷ []) new.gone → start ≡ begun line → IsHosted layout records start session wire
+    → Hands old.coming (line ∷ []) new.coming → new.gone ≡ old.gone ++ wire ∷ [] → start ≡ begun line → IsHosted layout records start session wire
     → Appends old.written new.written (session_lines layout.entries number session)
     → ServesAll layout records number 1 old new (is_failed session)
 serves_one line start wire layout records number old new session came went new_wire hosted written = record {
@@ -175,7 +168,7 @@ serves_one line start wire layout records number old new session came went new_w
 }
 
 pub serves_part : (line : FreshLine) (start wire : WireState) (layout : Declaration) (records : List (List ℕ)) (number : ℕ) (old new : Serving) (session : Result Outcome RunFault)
-    → Hands old.coming (line ∷ []) new.coming → TakesBack old.gone (wire ∷ []) new.gone → start ≡ begun line → IsHosted layout records start session wire
+    → Hands old.coming (line ∷ []) new.coming → new.gone ≡ old.gone ++ wire ∷ [] → start ≡ begun line → IsHosted layout records start session wire
     → AppendsFront old.written new.written (session_lines layout.entries number session)
     → ServesSome layout records number 1 old new
 serves_part line start wire layout records number old new session came went new_wire hosted front = record {

@@ -26,11 +26,10 @@ HandsNext seen None result new = Unit {0}
 HandsNext seen (Some coming) (Ok line) new = Hands (Some coming) (seen line ∷ []) new
 HandsNext seen (Some coming) (Err error) new = Hands (Some coming) [] new
 
--- these wires were given back, after those before
-abbrev pub TakesBack : Option (List WireState) → List WireState → Option (List WireState) → Type 0
-TakesBack None wires new = Unit {0}
-TakesBack (Some before) wires None = ⊥
-TakesBack (Some before) wires (Some all) = all ≡ before ++ wires
+-- the lines that are to come, where they are known, and the wires of the terminals that have gone
+pub record Visited : Type 0 where
+  pub coming : Option (List FreshLine)
+  pub gone : List WireState
 
 -- ---- what came of them
 
@@ -44,16 +43,16 @@ AreHosted layout records _ _ _ = ⊥
 abbrev pub some_failed : List (Result Outcome RunFault) → Bool
 some_failed sessions = list_any is_failed sessions
 
--- the terminals that are to come, the wires of those that have gone, and what is written
+-- the terminals, and what is written
 pub record Serving : Type 0 where
   pub coming : Option (List FreshLine)
-  pub gone : Option (List WireState)
+  pub gone : List WireState
   pub written : Option (List ℕ)
 
-abbrev pub serving : Option (List FreshLine) → Option (List WireState) → Option (List ℕ) → Serving
-serving coming gone written = record {
-  coming = coming;
-  gone = gone;
+abbrev pub serving : Visited → Option (List ℕ) → Serving
+serving terminals written = record {
+  coming = terminals.coming;
+  gone = terminals.gone;
   written = written;
 }
 
@@ -64,7 +63,7 @@ pub record ServesAll (layout : Declaration) (records : List (List ℕ)) (number 
   pub sessions : List (Result Outcome RunFault)
   pub all : length sessions ≡ count
   pub came : Hands old.coming lines new.coming
-  pub went : TakesBack old.gone wires new.gone
+  pub went : new.gone ≡ old.gone ++ wires
   pub hosted : AreHosted layout records lines wires sessions
   pub any : some_failed sessions ≡ failed
   pub written : Appends old.written new.written (served_text layout.entries number sessions)
@@ -79,7 +78,7 @@ pub record ServesSome (layout : Declaration) (records : List (List ℕ)) (number
   pub last_wire : Option WireState
   pub few : length sessions ≤ count
   pub came : Hands old.coming (lines ++ option_to_list last_line) new.coming
-  pub went : TakesBack old.gone (wires ++ option_to_list last_wire) new.gone
+  pub went : new.gone ≡ old.gone ++ (wires ++ option_to_list last_wire)
   pub hosted : AreHosted layout records lines wires sessions
   pub front : AppendsFront old.written new.written (served_text layout.entries number sessions)
 
