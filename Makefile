@@ -35,7 +35,7 @@ cases: bin/term3270
 	@sh tests/cases.sh bin/term3270 && sh tests/sessions.sh bin/term3270 && sh tests/manners.sh bin/term3270
 
 peers: bin/term3270
-	@sh tests/peers bin/term3270
+	@bash tests/peers bin/term3270
 
 edits:
 	$(need_toolchain)

@@ -1,22 +1,22 @@
 //! The commands `serve` and `attach`, from their inputs to the net.
 
-ghost use Rattle.std.specs.Prelude.{◌≡◌, ◌⊎◌, IfSome, None, Some};
+ghost use Rattle.std.specs.Prelude.{◌≡◌, ◌⊎◌, List, [], IfSome, None, Some};
 ghost use Rattle.tn_session.specs.declared.device.Device.{Device};
 ghost use Rattle.term_commands.specs.declared.status.Status.TheVariants.{BadInput};
 ghost use Rattle.term_commands.specs.Held.{records_held};
 ghost use Rattle.term_commands.specs.Keys.{keys_in};
 ghost use Rattle.tn_session.specs.Devices.{device_of};
-ghost use Rattle.term_sessions.specs.Attach.{Attaches};
+ghost use Rattle.tn_session.specs.Wire.{WireState};
 ghost use Rattle.term_sessions.specs.Prepare.{prepare};
-ghost use Rattle.term_sessions.specs.Serve.{Serves};
-ghost use Rattle.term3270.specs.Sessions.{AttachesNamed, HasFailed, ServesPrepared};
+ghost use Rattle.term_sessions.specs.Serve.{Serves, serving};
+ghost use Rattle.term3270.specs.Sessions.{sockets, AttachesNamed, AttachesSocket, HasFailed, ServesPrepared};
 
 use crate::tcp::{Listening, Place, TcpLine};
 use ds_keys::Key;
 use std::io::{Read, Write};
 use term_commands::{Status, finish, read_keys};
-use term_sessions::{Prepared, Screen, attach_on, prepare_serve, serve_on};
-use tn_session::Device;
+use term_sessions::{Prepared, Screen, Visits, attach_on, prepare_serve, serve_on};
+use tn_session::{Device, Wire};
 
 /// Serves a layout's screen at a place to so many terminals. The port is bound once the screen is found fit.
 pub fn run_serve<L: Read, R: Read, W: Write>(
@@ -44,12 +44,16 @@ fn serve_at<W: Write>(
     count: u16,
     output: &mut W,
 ) -> Status
-    ensures { Serves screen.now.layout (records_held screen.now.records.items) count
-        (W.contents output.old) (W.contents output.new) result
+    ensures { ((gone : List WireState) × Serves screen.now.layout
+        (records_held screen.now.records.items) count (serving (sockets []) (W.contents output.old))
+        (serving (sockets gone) (W.contents output.new)) result)
         ⊎ HasFailed (W.contents output.old) (W.contents output.new) result }
 {
     match Listening::at(rt, place) {
-        Ok(mut terminals) => serve_on(rt.alloc(), &mut terminals, screen, count, output),
+        Ok(listening) => {
+            let mut terminals = Visits::new(listening);
+            serve_on(rt.alloc(), &mut terminals, screen, count, output)
+        }
         Err(error) => place.report(rt, &error),
     }
 }
@@ -86,11 +90,11 @@ fn attach_at<W: Write>(
     keys: &[Key],
     output: &mut W,
 ) -> Status
-    ensures { Attaches device keys.now (W.contents output.old) (W.contents output.new) result
+    ensures { AttachesSocket device keys.now (W.contents output.old) (W.contents output.new) result
         ⊎ HasFailed (W.contents output.old) (W.contents output.new) result }
 {
     match TcpLine::to(rt, place) {
-        Ok(line) => attach_on(rt.alloc(), line, device, keys, output),
+        Ok(line) => attach_on(rt.alloc(), &mut Wire::new(line), device, keys, output),
         Err(error) => place.report(rt, &error),
     }
 }

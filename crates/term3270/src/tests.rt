@@ -3,12 +3,13 @@
 use crate::tcp::{Listening, Place, TcpLine};
 use ds_keys::{Key, key_of_line};
 use std::alloc::Global;
+use std::io;
 use std::io::{Read, Write};
 use std::net::{TcpListener, TcpStream};
 use std::test::Fail;
 use term_commands::Status;
-use term_sessions::{Prepared, Screen, attach_on, prepare_serve, serve_on};
-use tn_session::Device;
+use term_sessions::{Prepared, Screen, Visits, attach_on, prepare_serve, serve_on};
+use tn_session::{Device, Stop, Wire};
 
 const LAYOUT: &str =
     "default = \"24x80\"\n[[field]]\nname = \"code\"\nrow = 1\ncol = 4\nlength = 3\n";
@@ -52,14 +53,49 @@ fn terminals_are_served_in_turn(rt: HostRuntime) -> Result<(), Fail> {
         host: "127.0.0.1",
         port: 0,
     };
-    let mut terminals = Listening::at(&rt, place)?;
-    let port = terminals.listener.local_addr()?.port();
+    let listening = Listening::at(&rt, place)?;
+    let port = listening.listener.local_addr()?.port();
+    let mut terminals = Visits::new(listening);
     let _first = client(&rt, port, b"\xFF\xEF")?;
     let _second = client(&rt, port, ENHANCED)?;
     let mut text = Vec::new(rt.alloc());
     let status = serve_on(rt.alloc(), &mut terminals, &screen, 2, &mut text);
     assert_eq!(&rt; status, Status::Failed);
     assert_eq!(&rt; text.as_slice(), SERVED);
+    Ok(())
+}
+
+/// A line that ends at once, and can't send what it takes.
+#[derive(Drop)]
+struct Stuck {}
+
+impl Read for Stuck {
+    fn read(&mut self, _buf: &mut [u8]) -> io::Result<usize> {
+        Ok(0)
+    }
+}
+
+impl Write for Stuck {
+    fn write(&mut self, buf: &[u8]) -> io::Result<usize> {
+        Ok(buf.len())
+    }
+
+    fn flush(&mut self) -> io::Result<()> {
+        Err(io::Error::from(io::ErrorKind::ConnectionReset))
+    }
+}
+
+#[test]
+fn a_flush_that_fails_is_the_lines_fault(rt: HostRuntime) -> Result<(), Fail> {
+    let mut wire = Wire::new(Stuck {});
+    let mut text = Vec::new(rt.alloc());
+    let Some(device) = Device::from_name(b"IBM-3278-2") else {
+        return Err(Fail::from("no device"));
+    };
+    let status = attach_on(rt.alloc(), &mut wire, device, &[], &mut text);
+    assert_eq!(&rt; status, Status::Failed);
+    assert_eq!(&rt; text.as_slice(), b"fault N8\n".as_slice());
+    assert_eq!(&rt; wire.stop(), Some(Stop::WriteFailed));
     Ok(())
 }
 
@@ -82,7 +118,9 @@ fn a_terminal_attaches(rt: HostRuntime) -> Result<(), Fail> {
         return Err(Fail::from("no device"));
     };
     let mut text = Vec::new(rt.alloc());
-    let status = attach_on(rt.alloc(), line, device, keys.as_slice(), &mut text);
+    let mut wire = Wire::new(line);
+    let status = attach_on(rt.alloc(), &mut wire, device, keys.as_slice(), &mut text);
+    drop(wire);
     let mut got = Vec::new(rt.alloc());
     host.read_to_end(&mut got)?;
     assert_eq!(&rt; status, Status::Done);

@@ -14,7 +14,7 @@ use Rattle.tn_session.specs.declared.report.RunEnd.TheVariants.{KeysUsed, Closed
 use Rattle.tn_session.specs.TerminalRuns.{TerminalRan}
 use Rattle.tn_session.specs.Wire.{WireState}
 use Rattle.term_sessions.specs.FaultNumber.{fault_number}
-use Rattle.term_sessions.specs.Session.{IsFresh, IsLeft}
+use Rattle.term_sessions.specs.Session.{IsEnded}
 
 abbrev pub end_word : RunEnd → List ℕ
 end_word KeysUsed = codes "keys"
@@ -33,17 +33,15 @@ abbrev pub printed_attach : Result Report RunFault → Printed
 printed_attach (Ok report) = printed (report_line report) Done
 printed_attach (Err why) = printed (fault_line why) Failed
 
--- A terminal's run over a fresh line, with TN3270E and RESPONSES where the host asks for them, gave this.
-pub record IsAttached (device : Device) (keys : List Key) (session : Result Report RunFault) : Type 0 where
-  pub begun : WireState
-  pub ended : WireState
+-- A terminal's run over this wire, with TN3270E and RESPONSES where the host asks for them, gave this, and left the wire so.
+pub record IsAttached (device : Device) (keys : List Key) (old : WireState) (session : Result Report RunFault) (new : WireState) : Type 0 where
+  pub middle : WireState
   pub ran : Result Report RunFault
-  pub fresh : IsFresh begun
-  pub terminal : TerminalRan device true true keys begun ran ended
-  pub left : IsLeft ran session
+  pub terminal : TerminalRan device true true keys old ran middle
+  pub ended : IsEnded ran middle session new
 
 -- what was printed is the session's
-pub record Attaches (device : Device) (keys : List Key) (old new : Option (List ℕ)) (status : Status) : Type 0 where
+pub record Attaches (device : Device) (keys : List Key) (begun ended : WireState) (old new : Option (List ℕ)) (status : Status) : Type 0 where
   pub session : Result Report RunFault
-  pub attached : IsAttached device keys session
+  pub attached : IsAttached device keys begun session ended
   pub prints : Prints old new status (printed_attach session)

@@ -1,5 +1,5 @@
 -- One terminal's session, as a host holds it, and its lines.
-use Rattle.std.specs.Prelude.{ℕ, ◌≡◌, ◌⊎◌, ◌+◌, Bool, true, false, List, [], ◌∷◌, ◌++◌, codes, None, Result, Ok, Err}
+use Rattle.std.specs.Prelude.{ℕ, ◌≡◌, ◌<◌, ◌^◌, ◌+◌, Bool, true, false, List, [], ◌∷◌, ◌++◌, codes, Option, Some, None, Result, Ok, Err}
 use Rattle.std.specs.List.{flat_map}
 use Rattle.std.specs.Fmt.{decimal}
 use Rattle.hex.specs.Hex.{encode_upper}
@@ -14,7 +14,7 @@ use Rattle.tn_session.specs.declared.session.SessionFault.TheVariants.{LineFault
 use Rattle.tn_session.specs.HostLog.{Outcome}
 use Rattle.tn_session.specs.HostRan.{HostRan}
 use Rattle.tn_session.specs.HostView.{outcome_view}
-use Rattle.tn_session.specs.Wire.{WireState}
+use Rattle.tn_session.specs.Wire.{WireState, Flushed, IsFlush}
 use Rattle.term_sessions.specs.FaultNumber.{fault_number}
 
 -- ---- its lines
@@ -46,27 +46,49 @@ served_text entries number (session ∷ sessions) = session_lines entries number
 
 -- ---- what it is
 
--- nothing has passed over the line
-pub record IsFresh (wire : WireState) : Type 0 where
-  pub received : wire.received ≡ []
-  pub sent : wire.sent ≡ []
-  pub reads : wire.reads ≡ 0
-  pub stop : wire.stop ≡ None
+-- a line that is handed over: where it tells its bytes, those that it has left to read and those that it holds as written
+pub record FreshLine : Type 0 where
+  pub left : Option (List ℕ)
+  pub held : Option (List ℕ)
 
--- What a run gave; or, where it had no fault, the line's, which did not take all that it held.
-abbrev pub IsLeft : {A : Type 0} → Result A RunFault → Result A RunFault → Type 0
-IsLeft (Ok found) result = (result ≡ Ok found) ⊎ (result ≡ Err (Session LineFault))
-IsLeft (Err why) result = result ≡ Err why
+-- a wire over this line, over which nothing has passed
+abbrev pub begun : FreshLine → WireState
+begun line = record {
+  received = [];
+  sent = [];
+  reads = 0;
+  stop = None;
+  left = line.left;
+  held = line.held;
+}
+
+-- a run can begin: the wire goes on, and its reads can be counted
+pub record CanRun (wire : WireState) : Type 0 where
+  pub goes : wire.stop ≡ None
+  pub counts : wire.reads + 1000000 < 2 ^ 64
+
+-- what a run gave; where it had no fault, and the line can't send all that it took, the line's
+abbrev pub flushed : {A : Type 0} → Option (Unit {0}) → Result A RunFault → Result A RunFault
+flushed (Some done) ran = ran
+flushed None (Ok found) = Err (Session LineFault)
+flushed None (Err why) = Err why
+
+-- after a run that gave this the wire was flushed
+pub record IsEnded {A : Type 0} (ran : Result A RunFault) (old : WireState) (result : Result A RunFault) (new : WireState) : Type 0 where
+  pub sent : Option (Unit {0})
+  pub flush : Flushed old sent new
+  pub rest : IsFlush old new
+  pub gives : result ≡ flushed sent ran
 
 abbrev pub session_seen : Result HostOutcome RunFault → Result Outcome RunFault
 session_seen (Ok outcome) = Ok (outcome_view outcome)
 session_seen (Err why) = Err why
 
--- A host's run over a fresh line, with TN3270E and RESPONSES where the terminal takes them, gave this.
-pub record IsHosted (layout : Declaration) (records : List (List ℕ)) (session : Result Outcome RunFault) : Type 0 where
-  pub begun : WireState
-  pub ended : WireState
+-- A host's run over this wire, with TN3270E and RESPONSES where the terminal takes them, gave this, and left the wire so.
+pub record IsHosted (layout : Declaration) (records : List (List ℕ)) (old : WireState) (session : Result Outcome RunFault) (new : WireState) : Type 0 where
+  pub middle : WireState
   pub ran : Result HostOutcome RunFault
-  pub fresh : IsFresh begun
-  pub host : HostRan layout records true true begun ran ended
-  pub left : IsLeft (session_seen ran) session
+  pub result : Result HostOutcome RunFault
+  pub host : HostRan layout records true true old ran middle
+  pub ended : IsEnded ran middle result new
+  pub seen : session ≡ session_seen result

@@ -5,6 +5,7 @@ ghost use Rattle.std.specs.String.{string_bytes};
 ghost use Rattle.term_commands.specs.Fault.{Gives};
 ghost use Rattle.term_commands.specs.Held.{answer_seen};
 ghost use Rattle.term_commands.specs.Streams.{Prints};
+ghost use Rattle.term_sessions.specs.Session.{CanRun};
 ghost use Rattle.term_sessions.specs.Attach.{end_word, report_line, fault_line, printed_attach, IsAttached, Attaches};
 
 use crate::fault::fault_number;
@@ -15,18 +16,18 @@ use std::io::{Read, Write};
 use term_commands::{Answer, CommandError, Status, finish};
 use tn_session::{Device, Report, RunEnd, RunFault, Wire, terminal_run};
 
-/// A terminal's session over a line: TN3270E with RESPONSES where the host asks for it, else classic TN3270.
-fn terminal_session<L: Read + Write + Drop>(
+/// A terminal's session over a wire: TN3270E with RESPONSES where the host asks for it, else classic TN3270.
+fn terminal_session<L: Read + Write>(
     alloc: Global,
-    line: L,
+    wire: &mut Wire<L>,
     device: Device,
     keys: &[Key],
 ) -> Result<Report, RunFault>
-    ensures { IsAttached device keys.now result }
+    requires { CanRun wire.old }
+    ensures { IsAttached device keys.now wire.old result wire.new }
 {
-    let mut wire = Wire::new(line);
-    let ran = terminal_run(alloc, &mut wire, device, true, true, keys);
-    flushed(&mut wire.into_line(), ran)
+    let ran = terminal_run(alloc, wire, device, true, true, keys);
+    flushed(wire, ran)
 }
 
 fn end_word(end: RunEnd) -> &'static str
@@ -98,18 +99,20 @@ fn print_session<W: Write>(
     finish(alloc, writer, answer)
 }
 
-/// Runs a terminal of this device over a line to a host, with TN3270E and RESPONSES where the host asks for them, and presses
+/// Runs a terminal of this device over a wire to a host, with TN3270E and RESPONSES where the host asks for them, and presses
 /// the keys; prints `answers A passed B refused C end E`, where E is `keys` or `closed`, or `fault` and the fault's number.
 /// The status is `Done`, or `Failed` where the session or a write failed, or `NoMemory` where memory was refused.
-pub fn attach_on<L: Read + Write + Drop, W: Write>(
+pub fn attach_on<L: Read + Write, W: Write>(
     alloc: Global,
-    line: L,
+    wire: &mut Wire<L>,
     device: Device,
     keys: &[Key],
     writer: &mut W,
 ) -> Status
-    ensures { Attaches device keys.now (W.contents writer.old) (W.contents writer.new) result }
+    requires { CanRun wire.old }
+    ensures { Attaches device keys.now wire.old wire.new (W.contents writer.old)
+        (W.contents writer.new) result }
 {
-    let session = terminal_session(alloc, line, device, keys);
+    let session = terminal_session(alloc, wire, device, keys);
     print_session(alloc, session, writer)
 }

@@ -13,4 +13,4 @@ pub use attach::attach_on;
 pub use fault::fault_number;
 pub use screen::{Prepared, Screen, prepare_serve};
 pub use serve::serve_on;
-pub use terminals::Terminals;
+pub use terminals::{Terminals, Visits};

@@ -2,17 +2,17 @@
 
 ghost use Rattle.std.specs.Prelude.{◌≡◌, ◌<◌, map, IfOk};
 ghost use Rattle.term_commands.specs.Held.{records_held};
-ghost use Rattle.term_sessions.specs.Serve.{ServesNext, ServesEach, Serves, WritesSession};
+ghost use Rattle.term_sessions.specs.Serve.{serving, ServesNext, ServesEach, Serves, WritesSession};
 ghost use Rattle.term_sessions.specs.Session.{is_failed, session_seen};
 
 use crate::screen::Screen;
 use crate::session::{host_session, session_text};
-use crate::terminals::Terminals;
+use crate::terminals::{Terminals, Visits};
 use scr_layout::Layout;
 use std::alloc::{AllocError, Global};
 use std::io::Write;
 use term_commands::{Answer, Status, failure, finish};
-use tn_session::{HostOutcome, RunFault};
+use tn_session::{HostOutcome, RunFault, Wire};
 
 /// The records as slices.
 fn lent<'a>(alloc: Global, records: &'a [Vec<u8>]) -> Result<Vec<&'a [u8]>, AllocError>
@@ -59,20 +59,23 @@ fn is_failed(session: &Result<HostOutcome, RunFault>) -> bool
 /// Serves the next terminal, and writes its lines: whether its session failed. Else the status with which the command ends.
 fn serve_next<T: Terminals, W: Write>(
     alloc: Global,
-    terminals: &mut T,
+    terminals: &mut Visits<T>,
     layout: &Layout,
     records: &[&[u8]],
     number: u16,
     writer: &mut W,
 ) -> Result<bool, Status>
     ensures { ServesNext layout.now (map (λ bytes. bytes.now) records.now) number
-        (W.contents writer.old) (W.contents writer.new) result }
+        (serving terminals.old (W.contents writer.old))
+        (serving terminals.new (W.contents writer.new)) result }
 {
     let line = match terminals.next_line() {
         Ok(line) => line,
         Err(error) => return Err(failure(&error)),
     };
-    let session = host_session(alloc, line, layout, records);
+    let mut wire = Wire::new(line);
+    let session = host_session(alloc, &mut wire, layout, records);
+    terminals.end(wire);
     if let Err(RunFault::OutOfMemory) = &session {
         return Err(Status::NoMemory);
     }
@@ -86,14 +89,15 @@ fn serve_next<T: Terminals, W: Write>(
 /// ends.
 fn serve_each<T: Terminals, W: Write>(
     alloc: Global,
-    terminals: &mut T,
+    terminals: &mut Visits<T>,
     layout: &Layout,
     records: &[&[u8]],
     count: u16,
     writer: &mut W,
 ) -> Result<bool, Status>
     ensures { ServesEach layout.now (map (λ bytes. bytes.now) records.now) count
-        (W.contents writer.old) (W.contents writer.new) result }
+        (serving terminals.old (W.contents writer.old))
+        (serving terminals.new (W.contents writer.new)) result }
 {
     let mut failed = false;
     'terminals: for index in 0..count {
@@ -112,13 +116,14 @@ fn serve_each<T: Terminals, W: Write>(
 /// memory was refused; the last three end the command, and a front of the text was written.
 pub fn serve_on<T: Terminals, W: Write>(
     alloc: Global,
-    terminals: &mut T,
+    terminals: &mut Visits<T>,
     screen: &Screen,
     count: u16,
     writer: &mut W,
 ) -> Status
     ensures { Serves screen.now.layout (records_held screen.now.records.items) count
-        (W.contents writer.old) (W.contents writer.new) result }
+        (serving terminals.old (W.contents writer.old))
+        (serving terminals.new (W.contents writer.new)) result }
 {
     let Ok(records) = lent(alloc, screen.records.as_slice()) else {
         return Status::NoMemory;

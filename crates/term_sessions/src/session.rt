@@ -5,7 +5,7 @@ ghost use Rattle.std.specs.String.{string_bytes};
 ghost use Rattle.std.specs.List.{flat_map};
 ghost use Rattle.scr_check.specs.FindingText.{name_at};
 ghost use Rattle.tn_session.specs.HostView.{field_view, outcome_view};
-ghost use Rattle.term_sessions.specs.Session.{IsLeft, IsHosted, session_seen, field_line, answered_lines, fault_line, session_lines};
+ghost use Rattle.term_sessions.specs.Session.{CanRun, IsEnded, IsHosted, session_seen, field_line, answered_lines, fault_line, session_lines};
 
 use crate::fault::fault_number;
 use order_lines::{push_bytes, push_hex};
@@ -14,34 +14,35 @@ use std::alloc::{AllocError, Global};
 use std::io::{Read, Write};
 use tn_session::{HostOutcome, RunFault, SessionFault, Wire, host_run};
 
-/// What a run gave, once the line has taken all that it holds. Where it doesn't, after a run without a fault, the line's.
-pub(crate) fn flushed<L: Write, T: Drop>(
-    line: &mut L,
+/// What a run gave, once the line has sent all that it took. Where it can't, after a run without a fault, the line's.
+pub(crate) fn flushed<L: Read + Write, T: Drop>(
+    wire: &mut Wire<L>,
     ran: Result<T, RunFault>,
 ) -> Result<T, RunFault>
-    ensures { IsLeft ran result }
+    ensures { IsEnded ran wire.old result wire.new }
 {
-    match line.flush() {
-        Ok(()) => ran,
-        Err(_) => match ran {
+    match wire.flush() {
+        Some(()) => ran,
+        None => match ran {
             Ok(_) => Err(RunFault::Session(SessionFault::LineFault)),
             Err(why) => Err(why),
         },
     }
 }
 
-/// A host's session over a line: TN3270E with RESPONSES where the terminal takes it, else classic TN3270.
-pub(crate) fn host_session<L: Read + Write + Drop>(
+/// A host's session over a wire: TN3270E with RESPONSES where the terminal takes it, else classic TN3270.
+pub(crate) fn host_session<L: Read + Write>(
     alloc: Global,
-    line: L,
+    wire: &mut Wire<L>,
     layout: &Layout,
     records: &[&[u8]],
 ) -> Result<HostOutcome, RunFault>
-    ensures { IsHosted layout.now (map (λ bytes. bytes.now) records.now) (session_seen result) }
+    requires { CanRun wire.old }
+    ensures { IsHosted layout.now (map (λ bytes. bytes.now) records.now) wire.old
+        (session_seen result) wire.new }
 {
-    let mut wire = Wire::new(line);
-    let ran = host_run(alloc, &mut wire, records, layout, true, true);
-    flushed(&mut wire.into_line(), ran)
+    let ran = host_run(alloc, wire, records, layout, true, true);
+    flushed(wire, ran)
 }
 
 /// The name of the entry of this index.

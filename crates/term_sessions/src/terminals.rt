@@ -1,17 +1,90 @@
-//! Where terminals come from.
+//! Where terminals come from, and what became of them.
+
+ghost use Rattle.std.specs.Prelude.{◌≡◌, List, [], ◌∷◌, ◌++◌, IfOk, None, Option};
+ghost use Rattle.tn_session.specs.Wire.{WireState};
+ghost use Rattle.term_sessions.specs.Session.{FreshLine, begun};
+ghost use Rattle.term_sessions.specs.Serve.{HandsNext};
 
 use std::io;
 use std::io::{Read, Write};
+use std::marker::Model;
+use tn_session::{History, Wire};
 
 /// Gives the lines of terminals, one after the other.
 pub trait Terminals {
     /// A line to one terminal.
     type Line: Read + Write + Drop;
 
+    /// The lines that are to come, where they are known.
+    ghost lines: { Self → Option (List FreshLine) } = { λ _. None };
+
     /// Waits for the next terminal.
     ///
     /// # Errors
     ///
     /// Where none can be had.
-    fn next_line(&mut self) -> io::Result<Self::Line>;
+    fn next_line(&mut self) -> io::Result<Self::Line>
+        ensures { HandsNext (λ (line : Self.Line). record {
+          left = Self.Line.remaining line;
+          held = Self.Line.contents line;
+        }) (lines self.old) result (lines self.new) };
+}
+
+/// Terminals, with what passed over the wire of each that has gone, for contracts to see. A wire comes from here and goes back
+/// here, so each session is over the line of its terminal.
+#[derive(Drop)]
+pub struct Visits<T: Terminals> {
+    terminals: T,
+    gone: History<Wire<T::Line>>,
+}
+
+impl<T: Terminals> Model for Visits<T> {
+    ghost use Rattle.term_sessions.specs.Serve.{Visited};
+
+    ghost Value = { Visited };
+
+    ghost view = { λ v. record {
+      coming = T.lines v.terminals;
+      gone = v.gone.items;
+    } };
+}
+
+impl<T: Terminals> Visits<T> {
+    ghost use Rattle.term_sessions.specs.Serve.{Visited};
+
+    /// No terminal has come yet.
+    pub fn new(terminals: T) -> Visits<T>
+        ensures { result ≡ record {
+          coming = T.lines terminals;
+          gone = [];
+        } }
+    {
+        Visits {
+            terminals,
+            gone: History::new(),
+        }
+    }
+
+    /// Waits for the next terminal.
+    ///
+    /// # Errors
+    ///
+    /// Where none can be had.
+    pub(crate) fn next_line(&mut self) -> io::Result<T::Line>
+        ensures came { HandsNext (λ (line : T.Line). record {
+          left = T.Line.remaining line;
+          held = T.Line.contents line;
+        }) self.old.coming result self.new.coming }
+        ensures gone { self.new.gone ≡ self.old.gone }
+    {
+        self.terminals.next_line()
+    }
+
+    /// A terminal goes: its wire is dropped.
+    pub(crate) fn end(&mut self, wire: Wire<T::Line>)
+        ensures came { self.new.coming ≡ self.old.coming }
+        ensures gone { self.new.gone ≡ self.old.gone ++ wire ∷ [] }
+    {
+        self.gone = self.gone.and(&wire);
+    }
 }

@@ -30,6 +30,11 @@ Took old bytes (Some count) new =
     × Appends old.held new.held (take count bytes) × (new.stop ≡ None)
 Took old bytes None new = (new.sent ≡ old.sent) × (new.stop ≡ Some WriteFailed) × Keeps old.held new.held
 
+-- one flush
+abbrev pub Flushed : WireState → Option (Unit {0}) → WireState → Type 0
+Flushed old (Some done) new = (new.stop ≡ old.stop) × Keeps old.held new.held
+Flushed old None new = (new.stop ≡ Some WriteFailed) × Keeps old.held new.held
+
 -- what a read leaves as it was, but for their count
 pub record IsRead (old new : WireState) : Type 0 where
   pub sent : new.sent ≡ old.sent
@@ -38,4 +43,10 @@ pub record IsRead (old new : WireState) : Type 0 where
 -- what a write leaves as it was
 pub record IsWrite (old new : WireState) : Type 0 where
   pub received : new.received ≡ old.received
+  pub reads : new.reads ≡ old.reads
+
+-- what a flush leaves as it was
+pub record IsFlush (old new : WireState) : Type 0 where
+  pub received : new.received ≡ old.received
+  pub sent : new.sent ≡ old.sent
   pub reads : new.reads ≡ old.reads

@@ -7,9 +7,9 @@ use std::marker::{Model, PhantomData};
 
 /// Values one after the other. A clause reads them as `items`.
 #[derive(Drop)]
-pub(crate) struct History<A> {
+pub struct History<A> {
     of: PhantomData<A>,
-    pub(crate) ghost items: { List A },
+    pub ghost items: { List A },
 }
 
 impl<A> Model for History<A> {
@@ -18,14 +18,14 @@ impl<A> Model for History<A> {
 
 impl<A> History<A> {
     /// No value yet.
-    pub(crate) fn new() -> History<A>
+    pub fn new() -> History<A>
         ensures { result.items ≡ [] }
     {
         History { of: PhantomData }
     }
 
     /// This history, and then one more value.
-    pub(crate) fn and(&self, value: &A) -> History<A>
+    pub fn and(&self, value: &A) -> History<A>
         ensures { result.items ≡ self.now.items ++ value.now ∷ [] }
     {
         History { of: PhantomData }

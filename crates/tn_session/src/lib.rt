@@ -34,6 +34,7 @@ mod wire;
 
 pub use device::{Device, DeviceName, ScreenModel};
 pub use fault::RunFault;
+pub use history::History;
 pub use host::HostCore;
 pub use host_session::host_run;
 pub use laws::{delivery_law, one_log, outcome_law, pair_law, reply_law};

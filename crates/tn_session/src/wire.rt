@@ -2,7 +2,7 @@
 //! received and sent is all that was.
 
 ghost use Rattle.std.specs.Prelude.{◌≡◌, ◌<◌, ◌+◌, length, None, Some};
-ghost use Rattle.tn_session.specs.Wire.{Gave, Took, IsRead, IsWrite};
+ghost use Rattle.tn_session.specs.Wire.{Gave, Took, Flushed, IsRead, IsWrite, IsFlush};
 
 use crate::history::{History, add_bytes};
 use crate::stop::Stop;
@@ -101,6 +101,20 @@ impl<L: Read + Write> Wire<L> {
             Ok(count) => {
                 add_bytes(&mut self.sent, &bytes[..count]);
                 Some(count)
+            }
+        }
+    }
+
+    /// Asks the line to send all that it took. None where it can't; then the line has stopped.
+    pub fn flush(&mut self) -> Option<()>
+        ensures flushed { Flushed self.old result self.new }
+        ensures rest { IsFlush self.old self.new }
+    {
+        match self.line.flush() {
+            Ok(()) => Some(()),
+            Err(_error) => {
+                self.stop = Some(Stop::WriteFailed);
+                None
             }
         }
     }
