@@ -16,5 +16,6 @@ pub mod OpenLaws
 pub mod PrintLaws
 pub mod MarkLaws
 pub mod OutlineLaws
+pub mod WorstLaws
 pub mod OutlineFieldLaws
 pub mod Rows

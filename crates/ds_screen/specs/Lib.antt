@@ -11,6 +11,7 @@ pub mod Reset
 pub mod Marks
 pub mod Kept
 pub mod Outline
+pub mod Worst
 pub mod Prepared
 pub mod Laws
 pub mod Refused
