@@ -1,7 +1,6 @@
 -- The shape law: what a key keeps of each cell, and of the size.
-use Rattle.std.proofs.Common.{◌≡◌, ℕ, suc, ◌<◌, Bool, true, false, not, ◌==◌, cond, eqb, List, [], ◌∷◌, length, map, get_or, refl, sym, ◌∙◌, ap, subst, arith, inl, inr}
-use Rattle.std.proofs.lemmas.Bool.{cond-true, cond-false, cond_both, cases_Bool, cases_lt, false≢true, not-true}
-use Rattle.std.proofs.lemmas.List.{length-map, get_or_past}
+use Rattle.std.proofs.Common.{◌≡◌, ℕ, suc, Bool, true, false, not, ◌==◌, cond, eqb, List, [], ◌∷◌, length, map, refl, sym, ◌∙◌, ap, subst, arith, inl, inr}
+use Rattle.std.proofs.lemmas.Bool.{cond-false, cases_Bool, not-true}
 use Rattle.ds_codec.specs.declared.cell.Cell.{Cell}
 use Rattle.ds_codec.specs.declared.cell.Cell.TheVariants.{Field, Char}
 use Rattle.ds_codec.specs.declared.size.Size.{Size}
@@ -9,14 +8,14 @@ use Rattle.ds_codec.specs.Character.{is_graphic}
 use Rattle.ds_screen.specs.declared.lock.Lock.{Lock}
 use Rattle.ds_screen.specs.declared.lock.Lock.TheVariants.{Free, Waiting, Error}
 use Rattle.ds_screen.specs.Picture.{Picture, blank, cell_at}
-use Rattle.ds_screen.specs.Fields.{is_attribute, is_character, is_open}
+use Rattle.ds_screen.specs.Fields.{is_attribute, is_open}
 use Rattle.ds_screen.specs.Records.{unprotected_unmodified, erased}
 use Rattle.ds_keys.specs.declared.key.Key.{Key}
 use Rattle.ds_keys.specs.declared.key.Key.TheVariants.{Typed, Left, Right, Up, Down, Tab, BackTab, NewLine, Home, EraseEof, EraseInput, Delete, Reset, Attention}
-use Rattle.ds_keys.specs.KeyStep.{Step, ignored, sent, is_sending, typed_step, erase_eof_step, delete_step, erase_input_step, attention_step, free_step, error_step, step_under, step_of}
+use Rattle.ds_keys.specs.KeyStep.{Step, sent, is_sending, typed_step, erase_eof_step, delete_step, attention_step, free_step, error_step, step_under, step_of}
 use Rattle.ds_keys.specs.KeyRuns.{after_key}
 use Rattle.ds_keys.specs.Laws.{Keeps, is_clear}
-use Rattle.ds_keys.specs.Shape.{form_of, Shape, shape_of, KeyKeepsShape}
+use Rattle.ds_keys.specs.Shape.{form_of, Shape, KeyKeepsShape}
 use Rattle.ds_keys.proofs.CellLaws.{open_parts, kind_kept}
 use Rattle.ds_keys.proofs.KeepLaws.{key_keeps}
 

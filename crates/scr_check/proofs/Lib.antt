@@ -14,3 +14,7 @@ pub mod DemoTyping
 pub mod DemoLaws
 pub mod VerdictLaws
 pub mod UserLaw
+pub mod UnderCells
+pub mod UnderOrders
+pub mod FewerTags
+pub mod WalkLaws

@@ -9,3 +9,6 @@ pub mod Leads
 pub mod Demos
 pub mod FindingText
 pub mod Among
+pub mod Walk
+pub mod Talk
+pub mod TalkSeen
