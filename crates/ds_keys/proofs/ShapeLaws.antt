@@ -1,6 +1,6 @@
 -- The shape law: what a key keeps of each cell, and of the size.
 use Rattle.std.proofs.Common.{◌≡◌, ℕ, suc, Bool, true, false, not, ◌==◌, cond, eqb, List, [], ◌∷◌, length, map, refl, sym, ◌∙◌, ap, subst, arith, inl, inr}
-use Rattle.std.proofs.lemmas.Bool.{cond-false, cases_Bool, not-true}
+use Rattle.std.proofs.lemmas.Bool.{cond-true, cond-false, cases_Bool, false≢true, not-true, and_parts}
 use Rattle.ds_codec.specs.declared.cell.Cell.{Cell}
 use Rattle.ds_codec.specs.declared.cell.Cell.TheVariants.{Field, Char}
 use Rattle.ds_codec.specs.declared.size.Size.{Size}
@@ -13,7 +13,7 @@ use Rattle.ds_screen.specs.Records.{unprotected_unmodified, erased}
 use Rattle.ds_keys.specs.declared.key.Key.{Key}
 use Rattle.ds_keys.specs.declared.key.Key.TheVariants.{Typed, Left, Right, Up, Down, Tab, BackTab, NewLine, Home, EraseEof, EraseInput, Delete, Reset, Attention}
 use Rattle.ds_keys.specs.KeyStep.{Step, sent, is_sending, typed_step, erase_eof_step, delete_step, attention_step, free_step, error_step, step_under, step_of}
-use Rattle.ds_keys.specs.KeyRuns.{after_key}
+use Rattle.ds_keys.specs.KeyRuns.{after_key, answer_of, after, is_sent, is_quiet, IsQuiet}
 use Rattle.ds_keys.specs.Laws.{Keeps, is_clear}
 use Rattle.ds_keys.specs.Shape.{form_of, Shape, KeyKeepsShape}
 use Rattle.ds_keys.proofs.CellLaws.{open_parts, kind_kept}
@@ -103,6 +103,53 @@ under_sized Error v key other = error_sized v key
 pub key_sized : (v : Picture) (key : Key) → is_clear key ≡ false → (after_key v key).size ≡ v.size
 unfolding step_of
 key_sized v key other = under_sized v.lock v key other
+
+-- a key that sends nothing is no Clear, or is ignored
+attention_quiet : (v : Picture) (aid : ℕ) → is_sent (attention_step v aid).pressed ≡ false → Sized v.size (attention_step v aid)
+unfolding attention_step
+attention_quiet v aid quiet =
+    elim (cases_Bool (not (is_sending aid))) [
+      | inl none ↦ subst (Sized v.size) (sym (cond-true (not (is_sending aid)) _ _ none)) refl
+      | inr key ↦ elim (cases_Bool (eqb aid 0x6D)) [
+        | inl clear ↦
+            let is : attention_step v aid ≡ sent (erased v.geometry.default v) aid = cond-false (not (is_sending aid)) _ _ key ∙ cond-true (eqb aid 0x6D) _ _ clear in
+            absurd (false≢true (sym quiet ∙ ap (λ (s : Step). is_sent s.pressed) is))
+        | inr other ↦ attention_sized v aid other
+      ]
+    ]
+
+free_quiet : (v : Picture) (key : Key) → is_sent (free_step v key).pressed ≡ false → Sized v.size (free_step v key)
+unfolding free_step
+free_quiet v (Attention aid) quiet = attention_quiet v aid quiet
+free_quiet v (Typed code) quiet = typed_sized v code
+free_quiet v Left quiet = refl
+free_quiet v Right quiet = refl
+free_quiet v Up quiet = refl
+free_quiet v Down quiet = refl
+free_quiet v Tab quiet = refl
+free_quiet v BackTab quiet = refl
+free_quiet v NewLine quiet = refl
+free_quiet v Home quiet = refl
+free_quiet v EraseEof quiet = eof_sized v
+free_quiet v EraseInput quiet = refl
+free_quiet v Delete quiet = delete_sized v
+free_quiet v Reset quiet = refl
+
+under_quiet : (lock : Lock) (v : Picture) (key : Key) → is_sent (step_under lock v key).pressed ≡ false → Sized v.size (step_under lock v key)
+under_quiet Free v key quiet = free_quiet v key quiet
+under_quiet Waiting v key quiet = refl
+under_quiet Error v key quiet = error_sized v key
+
+quiet_key_sized : (v : Picture) (key : Key) → is_sent (answer_of v key) ≡ false → (after_key v key).size ≡ v.size
+unfolding step_of
+quiet_key_sized v key quiet = under_quiet v.lock v key quiet
+
+pub quiet_sized : (v : Picture) (keys : List Key) → IsQuiet v keys → (after v keys).size ≡ v.size
+unfolding after is_quiet
+quiet_sized v [] quiet = refl
+quiet_sized v (key ∷ keys) quiet =
+    let parts = and_parts (not (is_sent (answer_of v key))) (is_quiet (after_key v key) keys) quiet in
+    quiet_sized (after_key v key) keys parts.1 ∙ quiet_key_sized v key (not-true (is_sent (answer_of v key)) parts.0)
 
 -- ---- the law
 shape_is : (size other : Size) (forms others : List Cell) → size ≡ other → forms ≡ others

@@ -120,7 +120,7 @@ has_same a b place u =
     ∙ ap (λ t. t && ltb 0 (length (span_of a q))) (under_kind (cell_at a q) (cell_at b q) (u.each q))
     ∙ ap (λ s. is_attribute (cell_at b q) && ltb 0 (length s)) (same_span a b q u)
 
-missing_by : Bool → ℕ → Option Finding
+abbrev missing_by : Bool → ℕ → Option Finding
 missing_by t index = cond t None (Some (Missing index))
 
 missing_same : (a b : List Cell) (index : ℕ) (entries : List Declared) → AreUnder a b → missing_from a index entries ≡ missing_from b index entries

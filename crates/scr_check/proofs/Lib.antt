@@ -18,3 +18,5 @@ pub mod UnderCells
 pub mod UnderOrders
 pub mod FewerTags
 pub mod WalkLaws
+pub mod TalkLaws
+pub mod GeometryLaws

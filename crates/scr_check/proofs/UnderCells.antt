@@ -20,7 +20,7 @@ use Rattle.ds_keys.proofs.CellLaws.{protected_kept, reset_so}
 -- ---- one cell
 
 -- the same attribute, or an unprotected one without the tag that the other may have; any two characters
-pub CellUnder : Cell → Cell → Type 0
+abbrev pub CellUnder : Cell → Cell → Type 0
 CellUnder (Field x) (Field y) = (x ≡ y) ⊎ ((is_protected y ≡ false) × (x ≡ with_modified y false))
 CellUnder (Field x) (Char d) = ⊥
 CellUnder (Char c) (Field y) = ⊥
