@@ -1,14 +1,14 @@
 -- Fewer modified data tags on unprotected attributes, fewer findings.
-use Rattle.std.proofs.Common.{◌≡◌, ℕ, ◌+◌, ◌-◌, ◌<◌, ◌≤◌, ◌⊎◌, ◌&&◌, ◌||◌, Bool, true, false, not, cond, eqb, ltb, List, [], ◌∷◌, ◌++◌, length, map, Option, Some, None, refl, sym, ◌∙◌, ap, subst, inl, inr}
+use Rattle.std.proofs.Common.{◌≡◌, ℕ, ◌+◌, ◌-◌, ◌&&◌, ◌||◌, Bool, true, false, not, cond, eqb, ltb, List, [], ◌∷◌, ◌++◌, length, map, Option, Some, None, refl, sym, ◌∙◌, ap, inl, inr}
 use Rattle.std.specs.Prelude.{slice_get, option_to_list}
 use Rattle.std.specs.List.{flat_map, range_with_len}
-use Rattle.std.proofs.lemmas.Bool.{cond-true, cond-false, cases_Bool, and_parts, false≢true, eq-eqb}
+use Rattle.std.proofs.lemmas.Bool.{cond-true, cond-false, cases_Bool, and_parts, eq-eqb}
 use Rattle.ds_codec.specs.declared.cell.Cell.{Cell}
 use Rattle.ds_codec.specs.Attribute.{is_protected, is_modified}
 use Rattle.ds_screen.specs.declared.field.FieldAt.{FieldAt}
 use Rattle.ds_screen.specs.Ring.{ring_on, ring_back}
 use Rattle.ds_screen.specs.Picture.{Picture, cell_at}
-use Rattle.ds_screen.specs.Fields.{is_attribute, bits_of, span_of, field_at, attributes_from}
+use Rattle.ds_screen.specs.Fields.{is_attribute, span_of, field_at, attributes_from}
 use Rattle.scr_layout.specs.declared.entry.Kind.{Kind}
 use Rattle.scr_layout.specs.declared.entry.Kind.TheVariants.{Input, Fixed}
 use Rattle.scr_layout.specs.Entry.{Declared}
@@ -19,7 +19,7 @@ use Rattle.scr_check.specs.Findings.{entry_at, is_of_kind, empty_finding, undecl
 use Rattle.scr_check.specs.Promise.{is_among}
 use Rattle.scr_check.proofs.Among.{among_filter}
 use Rattle.scr_check.proofs.TouchedFields.{field_clean}
-use Rattle.scr_check.proofs.UnderCells.{CellUnder, under_kind, under_protection, under_modified, AreUnder, same_span, same_attributes}
+use Rattle.scr_check.proofs.UnderCells.{under_kind, under_protection, under_modified, AreUnder, same_span}
 
 -- ---- tests
 not_told : {A : Type 0} (t : Bool) (x : A) (r : Option A) → cond t (Some x) r ≡ None → (t ≡ false) × (r ≡ None)
@@ -143,6 +143,6 @@ unfolding findings_of
 fewer_tags_fewer_findings layout v w u clean =
     both_none (flat_map (λ field. option_to_list (field_finding layout.entries v field)) (map (field_at v.cells) (attributes_from v.cells 0))) (missing_from v.cells 0 layout.entries)
     (all_none (field_finding layout.entries v) (field_at v.cells) (attributes_from v.cells 0) (λ q among.
-        let there : is_attribute (cell_at w.cells q) ≡ true = sym (under_kind (cell_at v.cells q) (cell_at w.cells q) (u.each q)) ∙ is_there v.cells q among in
-        field_fewer layout.entries v w (field_at v.cells q) (field_at w.cells q) (field_under v.cells w.cells q u) (field_clean layout w q clean there)))
+    let there : is_attribute (cell_at w.cells q) ≡ true = sym (under_kind (cell_at v.cells q) (cell_at w.cells q) (u.each q)) ∙ is_there v.cells q among in
+    field_fewer layout.entries v w (field_at v.cells q) (field_at w.cells q) (field_under v.cells w.cells q u) (field_clean layout w q clean there)))
     (missing_same v.cells w.cells 0 layout.entries u ∙ rest_none (flat_map (λ field. option_to_list (field_finding layout.entries w field)) (map (field_at w.cells) (attributes_from w.cells 0))) (missing_from w.cells 0 layout.entries) clean)

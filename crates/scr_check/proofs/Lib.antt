@@ -20,3 +20,4 @@ pub mod FewerTags
 pub mod WalkLaws
 pub mod TalkLaws
 pub mod GeometryLaws
+pub mod TalkKeeps

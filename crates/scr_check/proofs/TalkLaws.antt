@@ -1,6 +1,6 @@
 -- What a yes promises of dialogues: each turn's records lead a terminal below the walk's picture, whatever the operator left.
-use Rattle.std.proofs.Common.{◌≡◌, ℕ, ◌+◌, ◌-◌, ◌%◌, ◌<◌, ◌≤◌, ◌⊎◌, ◌&&◌, Bool, true, false, not, ◌==◌, cond, eqb, ltb, List, [], ◌∷◌, ◌++◌, length, map, Option, Some, None, Result, Ok, Err, refl, sym, ◌∙◌, ap, subst, arith, inl, inr}
-use Rattle.std.proofs.lemmas.Bool.{cond-true, cond-false, cases_Bool, cases_lt, and_parts, false≢true, lt-ltb, le-ltb, eqb-true, eq-eqb}
+use Rattle.std.proofs.Common.{◌≡◌, ℕ, ◌+◌, ◌%◌, ◌&&◌, Bool, true, false, not, ◌==◌, cond, eqb, ltb, List, [], ◌∷◌, length, map, Some, None, Result, Ok, Err, refl, sym, ◌∙◌, ap, subst, arith, inl, inr}
+use Rattle.std.proofs.lemmas.Bool.{cond-true, cond-false, cases_Bool, cases_lt, false≢true, lt-ltb, eqb-true, eq-eqb}
 use Rattle.std.proofs.lemmas.List.{get_or_past}
 use Rattle.ds_codec.specs.declared.cell.Cell.{Cell}
 use Rattle.ds_codec.specs.declared.cell.Cell.TheVariants.{Field, Char}
@@ -8,7 +8,7 @@ use Rattle.ds_codec.specs.Attribute.{is_protected, is_modified, with_modified}
 use Rattle.ds_screen.specs.declared.lock.Lock.{Lock}
 use Rattle.ds_screen.specs.declared.lock.Lock.TheVariants.{Free, Waiting, Error}
 use Rattle.ds_screen.specs.Picture.{Picture, IsSound, blank, cell_at, ruled}
-use Rattle.ds_screen.specs.Fields.{is_attribute, bits_of, is_open, span_of}
+use Rattle.ds_screen.specs.Fields.{is_attribute, bits_of, span_of}
 use Rattle.ds_screen.specs.Orders.{is_unprotected_attribute}
 use Rattle.ds_screen.specs.Records.{unprotected_unmodified, erased}
 use Rattle.ds_screen.specs.Worst.{tagged, begins_input, worst_cell, worst_of}
@@ -16,11 +16,11 @@ use Rattle.ds_screen.proofs.RuledLaws.{length-ruled, cell_at-ruled}
 use Rattle.ds_screen.proofs.WorstLaws.{worst_kind}
 use Rattle.ds_keys.specs.declared.key.Key.{Key}
 use Rattle.ds_keys.specs.declared.key.Key.TheVariants.{Attention}
-use Rattle.ds_keys.specs.KeyStep.{Step, is_sending, ignored, sent, attention_step, free_step, error_step, step_under, step_of}
+use Rattle.ds_keys.specs.KeyStep.{Step, is_sending, ignored, sent, attention_step, free_step, step_under, step_of}
 use Rattle.ds_keys.specs.KeyRuns as keyed
 use Rattle.ds_keys.specs.Touched.{IsTouched}
 use Rattle.ds_keys.specs.Laws.{Keeps, is_clear}
-use Rattle.ds_keys.proofs.CellLaws.{protected_kept, marked_so, protection_kept, kind_kept, same_kind, same_protection}
+use Rattle.ds_keys.proofs.CellLaws.{protected_kept, marked_so, protection_kept, same_kind}
 use Rattle.ds_keys.proofs.KeepLaws.{quiet_keys_keep}
 use Rattle.ds_keys.proofs.TouchLaws.{touched_law}
 use Rattle.scr_check.proofs.KeptLaws.{attribute_shut}
@@ -28,18 +28,16 @@ use Rattle.scr_check.proofs.TouchedFields.{edit_shows}
 use Rattle.scr_check.proofs.UnderCells.{CellUnder, under_kind, under_protection, under_modified, AreUnder, same_span, same_attributes}
 use Rattle.scr_check.proofs.UnderOrders.{IsBelow, shown_below}
 use Rattle.scr_check.proofs.FewerTags.{fewer_tags_fewer_findings}
-use Rattle.scr_check.proofs.LeadLaws.{ok_is, bind_ok, unless_ok, applied_ok, ready_ok, leads_once, leads_from_every, leads_geometry, opened_ready, opened_geometry}
+use Rattle.scr_check.proofs.LeadLaws.{ok_is, bind_ok, unless_ok, applied_ok, ready_ok, leads_geometry}
 use Rattle.scr_check.proofs.LeadLaws.{IsOpened as IsReadied}
-use Rattle.scr_check.proofs.PromiseLaws.{IsOpened, keys_stay, key_stays, keeps_promise}
+use Rattle.scr_check.proofs.PromiseLaws.{IsOpened, keys_stay, keeps_promise}
 use Rattle.scr_check.proofs.UserLaw.{leads_sound}
-use Rattle.scr_check.proofs.WalkLaws.{told_none}
 use Rattle.scr_check.specs.declared.finding.Finding.TheVariants.{NotAWrite, CursorDependent}
-use Rattle.scr_check.specs.Opening.{writes, applied, is_free, is_size, is_none_of, ready, opening_of}
-use Rattle.scr_check.specs.Findings.{findings_of, answer_of, told}
+use Rattle.scr_check.specs.Opening.{writes, applied, is_free, is_size, is_none_of, ready}
+use Rattle.scr_check.specs.Findings.{findings_of}
 use Rattle.scr_check.specs.Leads.{RecordsLead}
-use Rattle.scr_check.specs.Walk.{Round, Stop, depends_on_cursor, later_fault, taken_later, later_from, opened_later, later_opening, later_told, stops_or, goes_on, walk_from, walk_of}
-use Rattle.scr_check.specs.Talk.{TurnLeads, Talks, TurnKeeps, TalksKeep}
-use Rattle.scr_check.specs.TalkSeen.{AreOfGeometry, HaveOneGeometry}
+use Rattle.scr_check.specs.Walk.{Round, depends_on_cursor, later_fault, taken_later, later_from, opened_later, later_opening}
+use Rattle.scr_check.specs.Talk.{TurnKeeps}
 use Rattle.scr_layout.specs.Layout.{Declaration}
 use Rattle.ds_codec.specs.declared.refused.Refused as read
 use Rattle.ds_codec.specs.declared.command.Command.{Command}
@@ -47,7 +45,7 @@ use Rattle.ds_codec.specs.declared.size.Size.{Size}
 use Rattle.ds_codec.specs.Geometry.{Sizes}
 use Rattle.ds_codec.specs.Order.{Site}
 use Rattle.ds_codec.specs.Record.{Message}
-use Rattle.ds_codec.specs.Reading.{◌>>=◌, read_of}
+use Rattle.ds_codec.specs.Reading.{read_of}
 use Rattle.ds_screen.specs.declared.field.FieldAt.{FieldAt}
 use Rattle.ds_screen.specs.Fields.{field_at, attributes_from, fields_of}
 use Rattle.ds_screen.specs.Records.{shown_of}
@@ -245,7 +243,7 @@ left_below v w keys aid sound below quiet other accepted =
       cells = keys_under v w keys sound quiet below.cells;
     })
 
-left_sound : (v : Picture) (keys : List Key) (aid : ℕ) → IsSound v → IsSound (keyed.after_key (keyed.after v keys) (Attention aid))
+pub left_sound : (v : Picture) (keys : List Key) (aid : ℕ) → IsSound v → IsSound (keyed.after_key (keyed.after v keys) (Attention aid))
 unfolding keyed.after
 left_sound v keys aid sound = keys_stay_sound (keyed.after v keys) (Attention aid ∷ []) (keys_stay_sound v keys sound)
 
@@ -283,7 +281,7 @@ pub record IsGood (layout : Declaration) (v : Picture) : Type 0 where
   pub usable : ready layout.size v ≡ Ok v
   pub clean : findings_of layout v ≡ []
 
-ready_so : (size : Size) (v : Picture) → v.lock ≡ Free → v.size ≡ size → (fields_of v.cells ≡ [] → ⊥) → ready size v ≡ Ok v
+pub ready_so : (size : Size) (v : Picture) → v.lock ≡ Free → v.size ≡ size → (fields_of v.cells ≡ [] → ⊥) → ready size v ≡ Ok v
 ready_so size v free same some =
     cond-false (not (is_free v.lock)) _ _ (ap (λ l. not (is_free l)) free)
     ∙ cond-false (not (is_size v.size size)) _ _ (ap not (ap (λ s. is_size v.size s) (sym same) ∙ self_size v.size))

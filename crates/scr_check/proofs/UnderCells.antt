@@ -1,14 +1,14 @@
 -- Cells like others, with fewer modified data tags on unprotected attributes, whatever the characters.
-use Rattle.std.proofs.Common.{◌≡◌, ℕ, ◌+◌, ◌-◌, ◌/◌, ◌%◌, ◌<◌, ◌≤◌, ◌⊎◌, ◌&&◌, Bool, true, false, not, cond, eqb, ltb, List, length, Option, Some, None, refl, sym, ◌∙◌, ap, subst, arith, inl, inr}
+use Rattle.std.proofs.Common.{◌≡◌, ℕ, ◌+◌, ◌-◌, ◌⊎◌, ◌&&◌, Bool, true, false, not, cond, List, length, Option, Some, None, refl, sym, ◌∙◌, ap, subst, arith, inl, inr}
 use mathlib.Core.Path.{fun_ext}
 use Rattle.std.specs.Option.{option_map}
 use Rattle.std.specs.List.{range_with_len, filter}
-use Rattle.std.proofs.lemmas.Bool.{cond-true, cond-false, cases_lt, cases_Bool, false≢true}
+use Rattle.std.proofs.lemmas.Bool.{cond-false, cases_lt, false≢true}
 use Rattle.std.proofs.lemmas.List.{get_or_past}
 use Rattle.ds_codec.specs.declared.cell.Cell.{Cell}
 use Rattle.ds_codec.specs.declared.cell.Cell.TheVariants.{Field, Char}
 use Rattle.ds_codec.specs.Attribute.{is_protected, is_modified, with_modified}
-use Rattle.ds_screen.specs.Ring.{ring_on, ring_back, least}
+use Rattle.ds_screen.specs.Ring.{ring_back, least}
 use Rattle.ds_screen.specs.Picture.{blank, cell_at, ruled}
 use Rattle.ds_screen.specs.Fields.{is_attribute, is_character, bits_of, attribute_before, is_at, bits_at, governs, is_open, span_of, attributes_from}
 use Rattle.ds_screen.specs.Orders.{is_unprotected_attribute, first_from}

@@ -1,8 +1,6 @@
 -- What orders and records make of cells like others, with fewer modified data tags.
-use Rattle.std.proofs.Common.{◌≡◌, ℕ, ◌+◌, ◌-◌, ◌%◌, ◌<◌, ◌⊎◌, ◌&&◌, ◌||◌, Bool, true, false, not, cond, eqb, ltb, leb, List, [], ◌∷◌, length, replicate, Option, Some, None, Result, Ok, Err, refl, sym, ◌∙◌, ap, subst, inl, inr}
-use Rattle.std.specs.Prelude.{slice_index}
-use Rattle.std.specs.Option.{option_map, unwrap_or}
-use Rattle.std.proofs.lemmas.Bool.{cond-true, cond-false, cases_Bool}
+use Rattle.std.proofs.Common.{◌≡◌, ℕ, ◌+◌, ◌%◌, ◌&&◌, Bool, true, false, cond, eqb, ltb, leb, List, [], ◌∷◌, length, replicate, Option, Some, None, Result, Ok, Err, refl, ◌∙◌, ap, subst}
+use Rattle.std.specs.Option.{unwrap_or}
 use Rattle.ds_codec.specs.declared.cell.Cell.{Cell}
 use Rattle.ds_codec.specs.declared.cell.Cell.TheVariants.{Field, Char}
 use Rattle.ds_codec.specs.declared.size.Size.{Size}
@@ -15,7 +13,7 @@ use Rattle.ds_screen.specs.declared.lock.Lock.TheVariants.{Free}
 use Rattle.ds_screen.specs.declared.refused.Why.{Why}
 use Rattle.ds_screen.specs.declared.refused.Why.TheVariants.{NoFieldHere}
 use Rattle.ds_screen.specs.declared.refused.Refused.{Refused}
-use Rattle.ds_screen.specs.Ring.{ring_on, ring_distance, greatest}
+use Rattle.ds_screen.specs.Ring.{ring_on, greatest}
 use Rattle.ds_screen.specs.Picture.{Picture, blank, cell_at, ruled}
 use Rattle.ds_screen.specs.Fields.{is_attribute, bits_of, is_open}
 use Rattle.ds_screen.specs.Orders.{Writing, byte_cell, text_cell, single_cell, is_reached, repeated_cell, erased_cell, nulled_cell, first_from, is_unprotected_attribute, behind, tab_stop, tabbed, after_storing, effect_of, outside_of, fault_of}

@@ -2,7 +2,7 @@
 use Rattle.std.specs.Prelude.{◌≡◌, ℕ, List, [], ◌∷◌, map, Option, Some, None, Result, Ok, Err}
 use Rattle.ds_codec.specs.declared.size.Size.{Size}
 use Rattle.ds_codec.specs.Geometry.{Sizes}
-use Rattle.ds_codec.specs.Reading.{◌>>=◌, read_of}
+use Rattle.ds_codec.specs.Reading.{read_of}
 use Rattle.ds_screen.specs.Picture.{Picture}
 use Rattle.ds_screen.specs.Outline.{Outlined, IsOutlineOf}
 use Rattle.scr_layout.specs.Layout.{Declaration}
@@ -10,7 +10,6 @@ use Rattle.scr_check.specs.declared.finding.Finding.{Finding}
 use Rattle.scr_check.specs.declared.talk.Turn.{Turn}
 use Rattle.scr_check.specs.declared.talk.TalkVerdict.{TalkVerdict}
 use Rattle.scr_check.specs.declared.talk.TalkVerdict.TheVariants.{Yes, No}
-use Rattle.scr_check.specs.Opening.{ready}
 use Rattle.scr_check.specs.Walk.{Round, Stop, taken_later, later_from, opened_later, later_told}
 
 abbrev pub round_of : Turn → Round

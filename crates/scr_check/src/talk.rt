@@ -4,6 +4,7 @@ ghost use Rattle.std.specs.Prelude.{◌≡◌, ◌↔◌, true, IfOk};
 ghost use Rattle.ds_screen.specs.Outline.{IsOutlineOf};
 ghost use Rattle.ds_screen.specs.Picture.{Picture};
 ghost use Rattle.scr_check.specs.Walk.{walk_from, walk_of};
+ghost use Rattle.scr_check.specs.Talk.{TalksKeep};
 ghost use Rattle.scr_check.specs.TalkSeen.{rounds_of, stop_in, AreOfGeometry, HaveOneGeometry};
 
 use crate::fields::findings_of;
@@ -88,6 +89,8 @@ fn check_later(
 pub fn check_talk(alloc: Global, turns: &[Turn<'_>]) -> Result<TalkVerdict, AllocError>
     requires { HaveOneGeometry (rounds_of turns.now) }
     ensures exact { IfOk result (λ verdict. stop_in verdict ≡ walk_of (rounds_of turns.now)) }
+    ensures yes { IfOk result
+        (λ verdict. verdict ≡ TalkVerdict.Yes → TalksKeep (rounds_of turns.now)) }
 {
     let Some((first, others)) = turns.split_first() else {
         return Ok(TalkVerdict::Yes);

@@ -17,9 +17,12 @@ loop-index-preserved c = λ v is.
     let judged = c.in_ok-findings.ensures before.0 before.2 in
     let none : (length c.in_ok-findings.findings.items == 0) ≡ true = ap (λ n. n == 0) (sym c.in_ok-findings.findings.ok.0) ∙ sym c.is_empty.ensures ∙ c.if-not-is_empty.false in
     let clean = none_of c.in_ok-findings.findings.items none in
-    let next = judged.1 clean in
-    (next.0, walks_on round_of c.args.turns.now c.loop-index.index (c.loop-index.index + 1) c.index-turns-index.result before.0 next.0 c.loop-index-test.true c.index-turns-index.is
-        (sym judged.0 ∙ clean) next.1 ∙ before.1, next.2)
+    let next = judged.1 clean in (
+      next.0,
+      walks_on round_of c.args.turns.now c.loop-index.index (c.loop-index.index + 1) c.index-turns-index.result before.0 next.0 c.loop-index-test.true c.index-turns-index.is
+          (sym judged.0 ∙ clean) next.1 ∙ before.1,
+      next.2,
+    )
 
 pub returns : goal.returns
 returns c = λ v is.
