@@ -18,9 +18,9 @@ use std::alloc::{AllocError, Global};
 
 /// A turn of a dialogue.
 #[derive(Clone, Copy)]
-pub struct Turn<'a> {
+pub struct Turn<'a, 'r> {
     /// What the host sends, in order.
-    pub records: &'a [&'a [u8]],
+    pub records: &'a [&'r [u8]],
     /// The screen to which it leads.
     pub layout: &'a Layout,
 }
@@ -35,7 +35,7 @@ pub enum TalkVerdict {
 }
 
 /// Whether the layouts of the turns are for a terminal of this geometry.
-fn are_of_geometry(geometry: Geometry, turns: &[Turn<'_>]) -> bool
+fn are_of_geometry(geometry: Geometry, turns: &[Turn<'_, '_>]) -> bool
     ensures { result ≡ true ↔ AreOfGeometry geometry (rounds_of turns.now) }
 {
     for turn in turns {
@@ -47,7 +47,7 @@ fn are_of_geometry(geometry: Geometry, turns: &[Turn<'_>]) -> bool
 }
 
 /// Whether all layouts are for a terminal of one geometry, as `check_talk` asks. No turn at all is good.
-pub fn have_one_geometry(turns: &[Turn<'_>]) -> bool
+pub fn have_one_geometry(turns: &[Turn<'_, '_>]) -> bool
     ensures { result ≡ true ↔ HaveOneGeometry (rounds_of turns.now) }
 {
     match turns.split_first() {
@@ -60,7 +60,7 @@ pub fn have_one_geometry(turns: &[Turn<'_>]) -> bool
 fn check_later(
     alloc: Global,
     outline: &mut Outline,
-    turns: &[Turn<'_>],
+    turns: &[Turn<'_, '_>],
 ) -> Result<TalkVerdict, AllocError>
     ensures { IfOk result (λ verdict. (v : Picture) → IsOutlineOf outline.old v
         → stop_in verdict ≡ walk_from 1 v (rounds_of turns.now)) }
@@ -86,7 +86,7 @@ fn check_later(
 /// # Errors
 ///
 /// Where a request for memory was refused.
-pub fn check_talk(alloc: Global, turns: &[Turn<'_>]) -> Result<TalkVerdict, AllocError>
+pub fn check_talk(alloc: Global, turns: &[Turn<'_, '_>]) -> Result<TalkVerdict, AllocError>
     requires { HaveOneGeometry (rounds_of turns.now) }
     ensures exact { IfOk result (λ verdict. stop_in verdict ≡ walk_of (rounds_of turns.now)) }
     ensures yes { IfOk result

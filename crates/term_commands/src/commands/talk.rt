@@ -79,11 +79,11 @@ fn lent_turns<'a>(
 }
 
 /// Each turn's records with its layout.
-fn with_layouts<'a>(
+fn with_layouts<'a, 'r>(
     alloc: Global,
-    records: &'a [Vec<&'a [u8]>],
+    records: &'a [Vec<&'r [u8]>],
     layouts: &'a [Layout],
-) -> Result<Vec<Turn<'a>>, AllocError>
+) -> Result<Vec<Turn<'a, 'r>>, AllocError>
     requires { length records.now ≡ length layouts.now }
     ensures { IfOk result (λ v. rounds_of v.items ≡ rounds (lent_held records.now) layouts.now) }
 {

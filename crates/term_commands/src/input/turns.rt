@@ -71,7 +71,7 @@ impl TakesLines for Turns {
     ghost takes = { λ number told line result. Gives turns_seen result (take_turn_line number (turns_seen told) line) };
 
     fn take(mut self, alloc: Global, number: usize, line: &[u8]) -> Result<Turns, CommandError> {
-        if line == b"turn" {
+        if line == b"turn".as_slice() {
             return end_turn(alloc, self);
         }
         let told = line_told(alloc, SizeLine::Refused, line, &mut self.digits)?;
