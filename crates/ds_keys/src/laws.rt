@@ -1,6 +1,7 @@
 //! Laws on what keys do. These functions do nothing: their contracts are the laws.
 
 ghost use Rattle.ds_keys.specs.Laws.{KeyKeeps, QuietKeysKeep, ModifiedIsTouched, HasOneStep, KeysStaySound};
+ghost use Rattle.ds_keys.specs.Shape.{KeyKeepsShape};
 
 /// An accepted key other than Clear changes characters of open cells and the modified data tag of
 /// unprotected attributes, and no other cell.
@@ -11,6 +12,12 @@ pub fn keep_law()
 /// So does a list of keys of which none sends, of any length.
 pub fn quiet_keep_law()
     ensures { QuietKeysKeep }
+{}
+
+/// An accepted key other than Clear keeps the shape: the size, and the attributes' positions and bits, an
+/// unprotected one's modified data tag aside.
+pub fn shape_law()
+    ensures { KeyKeepsShape }
 {}
 
 /// A key leads from a picture to one picture, with one answer.

@@ -14,6 +14,6 @@ mod runs;
 
 pub use key::Key;
 pub use keyboard::press;
-pub use laws::{keep_law, one_step, quiet_keep_law, sound_law, touched_law};
+pub use laws::{keep_law, one_step, quiet_keep_law, shape_law, sound_law, touched_law};
 pub use line::key_of_line;
 pub use pressed::Pressed;

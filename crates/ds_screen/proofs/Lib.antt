@@ -16,6 +16,7 @@ pub mod OpenLaws
 pub mod PrintLaws
 pub mod MarkLaws
 pub mod OutlineLaws
+pub mod WorstLaws
 pub mod OutlineFieldLaws
 pub mod PlaneLaws
 pub mod HalvingLaws

@@ -12,6 +12,7 @@ pub mod Marks
 pub mod Kept
 pub mod Outline
 pub mod Planes
+pub mod Worst
 pub mod Prepared
 pub mod Laws
 pub mod Refused

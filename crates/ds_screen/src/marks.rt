@@ -1,5 +1,7 @@
 //! The attributes of a buffer without its cells: what orders leave of them.
 
+pub(crate) mod worst;
+
 ghost use Rattle.std.specs.Prelude.{◌≡◌, ◌≤◌, ◌<◌, ◌+◌, ◌%◌, map, vec_capacity};
 ghost use Rattle.ds_screen.specs.Marks.{reset_mark};
 

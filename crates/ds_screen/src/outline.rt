@@ -1,5 +1,7 @@
 //! The outline of a screen: what records leave of its fields, without its cells.
 
+mod worst;
+
 use crate::effect::Effect;
 use crate::field::FieldAt;
 use crate::lock::Lock;

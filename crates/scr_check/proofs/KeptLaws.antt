@@ -66,7 +66,7 @@ protected_same x (Field b) shut same = field_same x b shut (same ∙ ap (λ z. F
 
 -- ---- what is not open
 
-attribute_shut : (cells : List Cell) (q : ℕ) → is_attribute (cell_at cells q) ≡ true → is_open cells q ≡ false
+pub attribute_shut : (cells : List Cell) (q : ℕ) → is_attribute (cell_at cells q) ≡ true → is_open cells q ≡ false
 attribute_shut cells q there = ap (λ t. not t && not (is_protected (bits_at cells (attribute_before cells q)))) there
 
 governed_before : (cells : List Cell) (q p : ℕ) → governs cells q p ≡ true → (is_attribute (cell_at cells p) ≡ false) × (attribute_before cells p ≡ Some q)

@@ -35,11 +35,11 @@ bind_ok (Ok x) f y is = (x, refl, is)
 bind_ok (Err e) f y is = absurd cc
 
 -- ---- what was taken
-unless_ok : (o : Option Finding) (r : Result Picture Finding) (w : Picture) → unless_found o r ≡ Ok w → (o ≡ None) × (r ≡ Ok w)
+pub unless_ok : (o : Option Finding) (r : Result Picture Finding) (w : Picture) → unless_found o r ≡ Ok w → (o ≡ None) × (r ≡ Ok w)
 unless_ok None r w is = (refl, is)
 unless_ok (Some finding) r w is = absurd cc
 
-applied_ok : (index : ℕ) (r : Result Picture shown.Refused) (w : Picture) → applied index r ≡ Ok w → r ≡ Ok w
+pub applied_ok : (index : ℕ) (r : Result Picture shown.Refused) (w : Picture) → applied index r ≡ Ok w → r ≡ Ok w
 applied_ok index (Ok v) w is = ap Ok (ok_is v w (Ok v) refl is)
 applied_ok index (Err refused) w is = absurd cc
 

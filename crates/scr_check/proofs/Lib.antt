@@ -14,3 +14,10 @@ pub mod DemoLaws
 pub mod VerdictLaws
 pub mod UserLaw
 pub mod FieldLaws
+pub mod UnderCells
+pub mod UnderOrders
+pub mod FewerTags
+pub mod WalkLaws
+pub mod TalkLaws
+pub mod GeometryLaws
+pub mod TalkKeeps

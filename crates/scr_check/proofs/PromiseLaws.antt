@@ -93,11 +93,11 @@ under_stays Free v key = free_stays v key
 under_stays Waiting v key = refl
 under_stays Error v key = error_stays v key
 
-key_stays : (v : Picture) (key : Key) → (keyed.after_key v key).geometry ≡ v.geometry
+pub key_stays : (v : Picture) (key : Key) → (keyed.after_key v key).geometry ≡ v.geometry
 unfolding step_of
 key_stays v key = under_stays v.lock v key
 
-keys_stay : (v : Picture) (keys : List Key) → (keyed.after v keys).geometry ≡ v.geometry
+pub keys_stay : (v : Picture) (keys : List Key) → (keyed.after v keys).geometry ≡ v.geometry
 unfolding keyed.after
 keys_stay v [] = refl
 keys_stay v (key ∷ keys) = keys_stay (keyed.after_key v key) keys ∙ key_stays v key

@@ -49,7 +49,7 @@ new_sound layout law =
       attention = no_key;
     }
 
-leads_sound : (v w : Picture) (records : List (List ℕ)) → IsSound v → RecordsLead v records w → IsSound w
+pub leads_sound : (v w : Picture) (records : List (List ℕ)) → IsSound v → RecordsLead v records w → IsSound w
 leads_sound v w [] sound same = subst IsSound same sound
 leads_sound v w (bytes ∷ others) sound (message, next, reads, shows, leads) =
     leads_sound next w others

@@ -8,3 +8,6 @@ pub mod Promise
 pub mod Leads
 pub mod Demos
 pub mod FindingText
+pub mod Walk
+pub mod Talk
+pub mod TalkSeen

@@ -57,10 +57,12 @@ pub enum Finding {
     OtherKind(usize),
     /// F13: a field without cells at this place that comes modified.
     EmptyModified(u32),
+    /// F14: this record of a later turn of a dialogue writes where the operator left the cursor. `check` never tells it.
+    CursorDependent(usize),
 }
 
 impl Finding {
-    /// The number that stands behind the F of its line, 1 to 13.
+    /// The number that stands behind the F of its line, 1 to 14.
     pub fn number(&self) -> u8
         ensures { result ≡ finding_number self.now }
     {
@@ -78,6 +80,7 @@ impl Finding {
             Finding::TooLong(_) => 11,
             Finding::OtherKind(_) => 12,
             Finding::EmptyModified(_) => 13,
+            Finding::CursorDependent(_) => 14,
         }
     }
 

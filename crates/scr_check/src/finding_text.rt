@@ -105,6 +105,9 @@ impl Finding {
             Finding::TooLong(found) => push_overlong(out, name_at(entries, found.entry), found),
             Finding::OtherKind(index) => push_other_kind(out, name_at(entries, index)),
             Finding::EmptyModified(place) => write!(out, "F13 empty modified field at {place}"),
+            Finding::CursorDependent(index) => {
+                write!(out, "F14 record {index} depends on the cursor")
+            }
         }
     }
 }

@@ -7,8 +7,10 @@ mod cursor;
 mod fields;
 mod finding;
 mod finding_text;
+mod later;
 mod laws;
 mod opening;
+mod talk;
 mod verdict;
 
 pub use binding::{BindError, BindFault, bind};
@@ -16,4 +18,5 @@ pub use bound::Bound;
 pub use ds_screen::Outline;
 pub use finding::{Demo, Finding, Overlong};
 pub use laws::{bind_law, yes_law};
+pub use talk::{TalkVerdict, Turn, check_talk, have_one_geometry};
 pub use verdict::{Verdict, check};

@@ -27,7 +27,7 @@ fn erases(command: Command) -> bool
     )
 }
 
-fn writes(command: Command) -> bool
+pub(crate) fn writes(command: Command) -> bool
     ensures { result ≡ writes command }
 {
     match command {
@@ -86,7 +86,7 @@ fn is_size(size: Size, other: Size) -> bool
 }
 
 /// What keeps the operator from a screen of this size with fields.
-fn ready(outline: &Outline, size: Size) -> Result<(), Finding>
+pub(crate) fn ready(outline: &Outline, size: Size) -> Result<(), Finding>
     ensures { IsReadyOn outline.now size result }
 {
     if outline.lock() != Lock::Free {

@@ -7,7 +7,7 @@ const VERSION: &str = "0.1.0";
 
 const STATUSES: &str = "Statuses:
   0  done, or yes
-  1  check has findings
+  1  check or talk has findings
   2  bad input, or a fault of the command line
   3  a file, a read, a write, a connection or a session failed
   4  out of memory";
@@ -39,6 +39,22 @@ Example:
 
 Statuses:
   0 yes, 1 findings, 2 bad input, 3 the layout can't be read, or a read or a write failed, 4 out of memory";
+
+const TALK: &str = "Input:
+  Each layout is a file in TOML (docs/LAYOUTS.md), of one turn, in order, and all are for one terminal. Records
+  are in hexadecimal, one a line, on standard input, with a line 'turn' between two turns. Spaces, empty lines
+  and lines that begin with '#' are ignored.
+
+Output:
+  'yes', or 'turn K', counted from 0, for the first turn with findings, and a line for each, as check prints
+  them. After turn 0 the keys of a finding are 0 and 0.
+
+Example:
+  $ term3270 talk examples/signon.toml examples/menu.toml < examples/signon_menu.hex
+  yes
+
+Statuses:
+  0 yes, 1 findings, 2 bad input, 3 a layout can't be read, or a read or a write failed, 4 out of memory";
 
 const PRESS: &str = "Input:
   Keys are one a line: 'type XX' (a code from 40 to FE), left, right, up, down, tab, backtab, newline, home,
@@ -117,6 +133,17 @@ fn check<'a>(alloc: Global) -> Result<Command<'a>, AllocError> {
         .after_help(CHECK)
         .arg(layout)?
         .arg(demo)
+}
+
+fn talk<'a>(alloc: Global) -> Result<Command<'a>, AllocError> {
+    let layouts = Arg::new(alloc, "LAYOUT")
+        .required(true)
+        .num_args(1..)
+        .help("The files of the layouts, one for each turn, in TOML");
+    Command::new(alloc, "talk")
+        .about("Print yes, or the findings of a dialogue: several screens, and an operator between them")
+        .after_help(TALK)
+        .arg(layouts)
 }
 
 fn press<'a>(alloc: Global) -> Result<Command<'a>, AllocError> {
@@ -205,6 +232,7 @@ pub(crate) fn parsed<'a>(alloc: Global, words: &'a [String]) -> Result<ArgMatche
         .after_help(STATUSES)
         .subcommand(show(alloc))?
         .subcommand(check(alloc)?)?
+        .subcommand(talk(alloc)?)?
         .subcommand(press(alloc)?)?
         .subcommand(convert(alloc)?)?
         .subcommand(serve(alloc)?)?

@@ -17,10 +17,12 @@ use crate::sessions::{run_attach, run_serve};
 use crate::stream::Named;
 use crate::tcp::Place;
 use clap::error::ErrorKind;
+use std::alloc::AllocError;
 use std::process::ExitCode;
 use std::{env, io};
 use term_commands::{
     Status, failure, run_check, run_convert, run_convert_back, run_press, run_show,
+    run_talk,
 };
 
 /// Runs a command on the standard streams, and on the file that it was given.
@@ -34,6 +36,10 @@ fn run(rt: &HostRuntime, asked: Asked<'_>) -> Status {
             let mut layout = file_at(rt, layout);
             run_check(alloc, &mut layout, &mut records, &mut output, demos)
         }
+        Asked::Talk { layouts } => match files_at(rt, layouts) {
+            Ok(layouts) => run_talk(alloc, layouts, &mut records, &mut output),
+            Err(_) => Status::NoMemory,
+        },
         Asked::Press { keys } => {
             run_press(alloc, &mut records, &mut file_at(rt, keys), &mut output)
         }
@@ -77,6 +83,18 @@ fn file_at<'a>(rt: &'a HostRuntime, path: &'a str) -> Named<'a, FileAt<'a>> {
         file: None,
     };
     named(rt, path, stream)
+}
+
+/// The files of several paths, none yet opened.
+fn files_at<'a>(
+    rt: &'a HostRuntime,
+    paths: &'a [&'a str],
+) -> Result<Vec<Named<'a, FileAt<'a>>>, AllocError> {
+    let mut files = Vec::new(rt.alloc());
+    for path in paths {
+        files.push(file_at(rt, path))?;
+    }
+    Ok(files)
 }
 
 /// Parses the command line and runs what it asks for.

@@ -9,7 +9,7 @@ use Rattle.scr_layout.specs.declared.fault.LayoutError.TheVariants.{Refused, Out
 use Rattle.scr_layout.specs.Fault as layout
 use Rattle.ds_terminal.specs.Refused.{refused_text}
 use Rattle.term_commands.specs.declared.fault.Fault.{Fault}
-use Rattle.term_commands.specs.declared.fault.Fault.TheVariants.{BadLine, BadKeyLine, TooLong, LayoutRefused, RecordRefused, Unwritable}
+use Rattle.term_commands.specs.declared.fault.Fault.TheVariants.{BadLine, BadKeyLine, TooLong, LayoutRefused, RecordRefused, Unwritable, TurnLayoutRefused, OtherGeometry, OtherCount}
 use Rattle.term_commands.specs.declared.fault.CommandError.{CommandError}
 use Rattle.term_commands.specs.declared.fault.CommandError.TheVariants.{Fault as Told, ReadFailed, OutOfMemory}
 
@@ -20,6 +20,9 @@ fault_text TooLong = codes "input too long"
 fault_text (LayoutRefused fault) = codes "layout refused: " ++ layout.fault_text fault
 fault_text (RecordRefused index refused) = codes "record " ++ (decimal index ++ (codes " " ++ refused_text refused))
 fault_text (Unwritable index flaw) = codes "record " ++ (decimal index ++ (codes " unwritable: " ++ flaw_words flaw))
+fault_text (TurnLayoutRefused turn fault) = codes "layout " ++ (decimal turn ++ (codes " refused: " ++ layout.fault_text fault))
+fault_text (OtherGeometry turn) = codes "layout " ++ (decimal turn ++ codes " has another geometry")
+fault_text (OtherCount turns layouts) = decimal turns ++ (codes " turns, " ++ (decimal layouts ++ codes " layouts"))
 
 abbrev pub fault_line : Fault → List ℕ
 fault_line fault = fault_text fault ++ codes "\n"

@@ -21,3 +21,6 @@ pub mod Streams
 pub mod Says
 pub mod SaysDrafts
 pub mod Law
+pub mod Turns
+pub mod TurnsHeld
+pub mod Talk

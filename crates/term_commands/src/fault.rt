@@ -28,6 +28,12 @@ pub enum Fault {
     RecordRefused(usize, Refused),
     /// The record of this index, counted from 0, cannot be written.
     Unwritable(usize, Unwritable),
+    /// The layout of this turn, counted from 0, is refused.
+    TurnLayoutRefused(usize, LayoutFault),
+    /// The layout of this turn, counted from 0, is for a terminal of another geometry than the first's.
+    OtherGeometry(usize),
+    /// So many turns and so many layouts, which are not as many.
+    OtherCount(usize, usize),
 }
 
 impl fmt::Display for Fault {
@@ -41,6 +47,9 @@ impl fmt::Display for Fault {
             Fault::LayoutRefused(fault) => write!(f, "layout refused: {fault}"),
             Fault::RecordRefused(index, refused) => write!(f, "record {index} {refused}"),
             Fault::Unwritable(index, flaw) => write!(f, "record {index} unwritable: {flaw}"),
+            Fault::TurnLayoutRefused(turn, fault) => write!(f, "layout {turn} refused: {fault}"),
+            Fault::OtherGeometry(turn) => write!(f, "layout {turn} has another geometry"),
+            Fault::OtherCount(turns, layouts) => write!(f, "{turns} turns, {layouts} layouts"),
         }
     }
 }

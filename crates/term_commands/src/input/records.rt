@@ -21,7 +21,7 @@ use std::io::Read;
 /// The most records of an input.
 pub const MOST_RECORDS: usize = 1_000;
 /// The most bytes of a record.
-const MOST_RECORD_BYTES: usize = 32_768;
+pub const MOST_RECORD_BYTES: usize = 32_768;
 
 /// What one line tells.
 #[derive(Debug, Drop)]
@@ -68,7 +68,7 @@ fn decoded(alloc: Global, digits: &[u8]) -> Result<Line, AllocError>
 }
 
 /// What a line tells; spaces count in a line of sizes alone.
-fn line_told(
+pub(crate) fn line_told(
     alloc: Global,
     size_line: SizeLine,
     line: &[u8],

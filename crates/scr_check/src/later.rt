@@ -1,0 +1,143 @@
+//! A later turn of a dialogue: its records on the worst that the operator can have left.
+
+ghost use Rattle.std.specs.Prelude.{◌≡◌, map, IfOk};
+ghost use Rattle.scr_check.specs.Walk.{start_at_cursor, depends_on_cursor, later_fault, without_keys};
+ghost use Rattle.scr_check.specs.TalkSeen.{LaterTakesOn, LaterTakesAllOn, OpensLater, Judges};
+
+use crate::fields::findings_of;
+use crate::finding::{Demo, Finding, Overlong};
+use crate::opening::{ready, writes};
+use ds_codec::{Command, Order, Record, Size};
+use ds_screen::Outline;
+use ds_terminal::{apply_record, read_record};
+use scr_layout::Layout;
+use std::alloc::{AllocError, Global};
+
+/// Whether the first order that isn't Set Attribute acts where the cursor stands.
+fn start_at_cursor(outbound: &Record<'_>) -> bool
+    ensures { result ≡ start_at_cursor outbound.now.orders }
+{
+    for placed in outbound.orders() {
+        match placed.order {
+            Order::Sa(_, _) => {}
+            Order::Sba(_) => return false,
+            _ => return true,
+        }
+    }
+    false
+}
+
+/// Whether a record is a Write that begins where the operator left the cursor.
+fn depends_on_cursor(outbound: &Record<'_>) -> bool
+    ensures { result ≡ depends_on_cursor outbound.now.command outbound.now.orders }
+{
+    match outbound.command() {
+        Command::Write(_) => start_at_cursor(outbound),
+        _ => false,
+    }
+}
+
+/// What the record of this number is at fault for before it is applied.
+fn later_fault(index: usize, outbound: &Record<'_>) -> Option<Finding>
+    ensures { result ≡ later_fault index outbound.now.command outbound.now.orders }
+{
+    if !writes(outbound.command()) {
+        Some(Finding::NotAWrite(index))
+    } else if depends_on_cursor(outbound) {
+        Some(Finding::CursorDependent(index))
+    } else {
+        None
+    }
+}
+
+/// Reads and applies the record of this number.
+fn take_later(outline: &mut Outline, index: usize, bytes: &[u8]) -> Result<(), Finding>
+    ensures { LaterTakesOn outline.old outline.new index bytes.now result }
+{
+    let record = match read_record(outline, bytes) {
+        Ok(record) => record,
+        Err(refused) => return Err(Finding::RecordRefused(index, refused)),
+    };
+    if let Some(finding) = later_fault(index, &record) {
+        return Err(finding);
+    }
+    match apply_record(outline, &record) {
+        Ok(_) => Ok(()),
+        Err(refused) => Err(Finding::RecordRefused(index, refused)),
+    }
+}
+
+/// Takes the records in turn, up to the first against which something stands.
+fn take_all_later(outline: &mut Outline, records: &[&[u8]]) -> Result<(), Finding>
+    ensures { LaterTakesAllOn outline.old outline.new (map (λ bytes. bytes.now) records.now) result }
+{
+    for (index, bytes) in records.iter().enumerate() {
+        take_later(outline, index, bytes)?;
+    }
+    Ok(())
+}
+
+/// Takes the records of a later turn, and asks whether the operator can go on.
+fn open_later(outline: &mut Outline, records: &[&[u8]], size: Size) -> Result<(), Finding>
+    ensures { OpensLater outline.old outline.new (map (λ bytes. bytes.now) records.now) size result }
+{
+    if records.is_empty() {
+        return Err(Finding::NoRecord);
+    }
+    outline.worsen();
+    if let Err(finding) = take_all_later(outline, records) {
+        return Err(finding);
+    }
+    ready(outline, size)
+}
+
+/// The finding without the keys that show it.
+fn without_keys(finding: Finding) -> Finding
+    ensures { result ≡ without_keys finding }
+{
+    let none = Demo {
+        rights: 0,
+        types: 0,
+    };
+    match finding {
+        Finding::Undeclared(place, _) => Finding::Undeclared(place, none),
+        Finding::UndeclaredFixed(place, _) => Finding::UndeclaredFixed(place, none),
+        Finding::TooLong(found) => Finding::TooLong(Overlong {
+            entry: found.entry,
+            length: found.length,
+            declared: found.declared,
+            demo: match found.demo {
+                Some(_) => Some(none),
+                None => None,
+            },
+        }),
+        other => other,
+    }
+}
+
+/// The findings without keys.
+fn all_without_keys(findings: &mut Vec<Finding>)
+    ensures { findings.new.items ≡ map without_keys findings.old.items }
+{
+    'findings: for i in 0..findings.len() {
+        findings[i] = without_keys(findings[i]);
+    }
+}
+
+/// What stands against a later turn, by the outline of the picture that the turn before left.
+pub(crate) fn later_findings(
+    alloc: Global,
+    outline: &mut Outline,
+    records: &[&[u8]],
+    layout: &Layout,
+) -> Result<Vec<Finding>, AllocError>
+    ensures { IfOk result (λ findings. Judges outline.old outline.new
+        (map (λ bytes. bytes.now) records.now) layout.now findings.items) }
+{
+    if let Err(finding) = open_later(outline, records, layout.size()) {
+        return Ok(vec![in alloc; finding]?);
+    }
+    let mut findings = findings_of(alloc, outline, layout)?;
+    all_without_keys(&mut findings);
+    Ok(findings)
+}

@@ -1,0 +1,49 @@
+-- Lines of records in hexadecimal, with a line `turn` between the turns of a dialogue.
+use Rattle.std.specs.Prelude.{ℕ, ◌+◌, nat_eq, List, [], ◌∷◌, ◌++◌, codes, length, Result, Ok, Err, if◌then◌else◌}
+use Rattle.std.specs.Str.{bytes_eq}
+use Rattle.ds_codec.specs.Reading.{◌>>=◌}
+use Rattle.term_commands.specs.declared.fault.Fault.{Fault}
+use Rattle.term_commands.specs.declared.fault.Fault.TheVariants.{BadLine}
+use Rattle.term_commands.specs.declared.input.sizes.SizeLine.TheVariants.{Refused}
+use Rattle.term_commands.specs.Lines.{lines_in, at_most, within_limit}
+use Rattle.term_commands.specs.Records.{Line, ignored, sizes, outbound, bad, line_told}
+use Rattle.term_commands.specs.Taking.{taken}
+
+-- the records of the turns that ended, those of the turn at hand, and how many there are in all
+pub record Turns : Type 0 where
+  pub ended : List (List (List ℕ))
+  pub current : List (List ℕ)
+  pub count : ℕ
+
+abbrev pub no_turns : Turns
+no_turns = record { ended = []; current = []; count = 0 }
+
+-- at most 1,000 records of 32,768 bytes, of all turns together
+abbrev pub one_more : Turns → List ℕ → Result Turns Fault
+one_more told bytes =
+    at_most (length bytes) 32768 >>= λ short.
+    at_most (told.count + 1) 1000 >>= λ few.
+    Ok (record told { current = told.current ++ bytes ∷ []; count = told.count + 1 })
+
+-- what the line of this number adds; a line of sizes is bad
+abbrev pub after_record : ℕ → Turns → Line → Result Turns Fault
+after_record number told ignored = Ok told
+after_record number told (sizes geometry) = Err (BadLine number)
+after_record number told (outbound bytes) = one_more told bytes
+after_record number told bad = Err (BadLine number)
+
+-- the turn at hand ends, and the next one begins
+abbrev pub next_turn : Turns → Turns
+next_turn told = record told { ended = told.ended ++ told.current ∷ []; current = [] }
+
+abbrev pub take_turn_line : ℕ → Turns → List ℕ → Result Turns Fault
+take_turn_line number told line =
+    if bytes_eq line (codes "turn") then Ok (next_turn told) else after_record number told (line_told Refused line)
+
+-- each turn's records, in order
+abbrev pub turns_told : Turns → List (List (List ℕ))
+turns_told told = told.ended ++ told.current ∷ []
+
+-- the turns of an input, one more than it has lines `turn`, or its first fault
+abbrev pub turns_in : List ℕ → Result (List (List (List ℕ))) Fault
+turns_in input = within_limit input >>= λ text. taken take_turn_line 1 no_turns (lines_in text) >>= λ told. Ok (turns_told told)

@@ -1,0 +1,198 @@
+//! The command `talk`: what stands against the turns of a dialogue.
+
+ghost use Rattle.std.specs.Prelude.{◌≡◌, ◌++◌, codes, length, map, None, Some, IfErr, IfOk, IfSome};
+ghost use Rattle.std.specs.Fmt.{decimal};
+ghost use Rattle.std.specs.String.{string_bytes};
+ghost use Rattle.scr_check.specs.TalkSeen.{rounds_of, stop_in};
+ghost use Rattle.scr_check.specs.Walk.{walk_of};
+ghost use Rattle.term_commands.specs.Fault.{Gives};
+ghost use Rattle.term_commands.specs.Held.{answer_seen};
+ghost use Rattle.term_commands.specs.Printed.{printed};
+ghost use Rattle.term_commands.specs.Streams.{Prints};
+ghost use Rattle.term_commands.specs.Talk.{is_geometry, other_from, first_other, layouts_from, rounds, stop_text, printed_stop, talk, printed_talk, sizes_equal};
+ghost use Rattle.term_commands.specs.TurnsHeld.{turns_held, lent_held, all_remaining};
+ghost use Rattle.std.specs.Prelude.{[]};
+
+use crate::commands::check::lent;
+use crate::fault::{CommandError, Fault};
+use crate::input::layouts::read_layouts;
+use crate::input::turns::read_turns;
+use crate::output::answer::{Answer, finish};
+use crate::output::findings::push_findings;
+use crate::status::Status;
+use ds_codec::{Geometry, Size};
+use scr_check::{Finding, TalkVerdict, Turn, check_talk};
+use scr_layout::Layout;
+use std::alloc::{AllocError, Global};
+use std::io::{Read, Write};
+
+fn sizes_equal(a: Size, b: Size) -> bool
+    ensures { result ≡ sizes_equal a b }
+{
+    a.rows == b.rows && a.cols == b.cols
+}
+
+/// Whether a layout is for a terminal of this geometry.
+fn is_geometry(layout: &Layout, geometry: &Geometry) -> bool
+    ensures { result ≡ is_geometry layout.now.geometry geometry.now }
+{
+    let other = layout.geometry();
+    sizes_equal(other.default_size(), geometry.default_size())
+        && sizes_equal(other.alternate_size(), geometry.alternate_size())
+}
+
+/// The first of the layouts that is not for a terminal of this geometry; they count from 1.
+fn other_after(geometry: &Geometry, layouts: &[Layout]) -> Option<usize>
+    ensures { result ≡ other_from geometry.now 1 layouts.now }
+{
+    for (index, layout) in layouts.iter().enumerate() {
+        if !is_geometry(layout, geometry) {
+            return Some(index + 1);
+        }
+    }
+    None
+}
+
+/// The first layout that is for a terminal of another geometry than the first's.
+fn first_other(layouts: &[Layout]) -> Option<usize>
+    ensures { result ≡ first_other layouts.now }
+{
+    let Some((first, others)) = layouts.split_first() else {
+        return None;
+    };
+    let geometry = first.geometry();
+    other_after(&geometry, others)
+}
+
+/// The records of the turns as slices.
+fn lent_turns<'a>(
+    alloc: Global,
+    turns: &'a [Vec<Vec<u8>>],
+) -> Result<Vec<Vec<&'a [u8]>>, AllocError>
+    ensures { IfOk result (λ v. lent_held v.items ≡ turns_held turns.now) }
+{
+    let mut all = Vec::new(alloc);
+    for records in turns {
+        all.push(lent(alloc, records.as_slice())?)?;
+    }
+    Ok(all)
+}
+
+/// Each turn's records with its layout.
+fn with_layouts<'a, 'r>(
+    alloc: Global,
+    records: &'a [Vec<&'r [u8]>],
+    layouts: &'a [Layout],
+) -> Result<Vec<Turn<'a, 'r>>, AllocError>
+    requires { length records.now ≡ length layouts.now }
+    ensures { IfOk result (λ v. rounds_of v.items ≡ rounds (lent_held records.now) layouts.now) }
+{
+    let mut turns = Vec::new(alloc);
+    for index in 0..records.len() {
+        turns.push(Turn {
+            records: records[index].as_slice(),
+            layout: &layouts[index],
+        })?;
+    }
+    Ok(turns)
+}
+
+/// The number of a turn and the lines of its findings.
+fn stop_text(
+    alloc: Global,
+    layouts: &[Layout],
+    turn: usize,
+    findings: &[Finding],
+) -> Result<String, AllocError>
+    ensures { IfOk result (λ text. string_bytes text
+        ≡ stop_text layouts.now (record { turn = turn; findings = findings.now })) }
+{
+    let mut text = format!(in alloc; "turn {turn}\n")?;
+    if let Some(layout) = layouts.get(turn) {
+        push_findings(alloc, &mut text, layout, None, findings)?;
+    }
+    Ok(text)
+}
+
+/// `yes`, or the first turn with findings, and these.
+fn verdict_text(
+    alloc: Global,
+    layouts: &[Layout],
+    verdict: &TalkVerdict,
+) -> Result<Answer, AllocError>
+    ensures { IfOk result (λ answer. answer_seen answer
+        ≡ printed_stop layouts.now (stop_in verdict.now)) }
+{
+    match verdict {
+        TalkVerdict::Yes => Ok(Answer {
+            text: String::from_str(alloc, "yes\n")?,
+            status: Status::Done,
+        }),
+        TalkVerdict::No { turn, findings } => Ok(Answer {
+            text: stop_text(alloc, layouts, *turn, findings.as_slice())?,
+            status: Status::Findings,
+        }),
+    }
+}
+
+/// What `talk` answers to layouts of one geometry, and to as many turns.
+fn turns_answer(
+    alloc: Global,
+    layouts: &[Layout],
+    turns: &[Vec<Vec<u8>>],
+) -> Result<Answer, AllocError>
+    requires same { first_other layouts.now ≡ None }
+    requires as_many { length turns.now ≡ length layouts.now }
+    ensures { IfOk result (λ answer. answer_seen answer
+        ≡ printed_stop layouts.now (walk_of (rounds (turns_held turns.now) layouts.now))) }
+{
+    let records = lent_turns(alloc, turns)?;
+    let rounds = with_layouts(alloc, records.as_slice(), layouts)?;
+    let verdict = check_talk(alloc, rounds.as_slice())?;
+    verdict_text(alloc, layouts, &verdict)
+}
+
+fn talk_records<L: Read + Drop, R: Read>(
+    alloc: Global,
+    layouts: Vec<L>,
+    reader: &mut R,
+) -> Result<Answer, CommandError>
+    ensures answer { IfSome (all_remaining L.remaining layouts.items)
+        (λ texts. IfSome (R.remaining reader.old) (λ input. Gives answer_seen result (talk texts input))) }
+    ensures unread { IfSome (all_remaining L.remaining layouts.items)
+        (λ texts. IfErr (layouts_from 0 [] texts) (λ fault. reader.new ≡ reader.old)) }
+{
+    let layouts = read_layouts(alloc, layouts)?;
+    if let Some(turn) = first_other(layouts.as_slice()) {
+        return Err(CommandError::Fault(Fault::OtherGeometry(turn)));
+    }
+    let turns = read_turns(alloc, reader)?;
+    if turns.len() != layouts.len() {
+        return Err(CommandError::Fault(Fault::OtherCount(turns.len(), layouts.len())));
+    }
+    Ok(turns_answer(alloc, layouts.as_slice(), turns.as_slice())?)
+}
+
+/// Reads the layouts of the turns of a dialogue, and then records in hexadecimal, one a line, with a line
+/// `turn` between two turns. It prints `yes`, or the first turn against which something stands and its
+/// findings; or the first fault: of the layouts in order, then that they are not of one geometry, then of
+/// the lines, then that there are not as many turns as layouts. A layout is read only where those before it
+/// have no fault, and records where no layout has one. The sizes are the layouts', so a line of sizes is
+/// bad. The limits are those of `run_check`, for the records of all turns together. After a read or a write
+/// that failed the status is `Failed`, where memory was refused `NoMemory`, and a front of the text was
+/// written.
+pub fn run_talk<L: Read + Drop, R: Read, W: Write>(
+    alloc: Global,
+    layouts: Vec<L>,
+    reader: &mut R,
+    writer: &mut W,
+) -> Status
+    ensures prints { IfSome (all_remaining L.remaining layouts.items)
+        (λ texts. IfSome (R.remaining reader.old) (λ input.
+        Prints (W.contents writer.old) (W.contents writer.new) result (printed_talk texts input))) }
+    ensures unread { IfSome (all_remaining L.remaining layouts.items)
+        (λ texts. IfErr (layouts_from 0 [] texts) (λ fault. reader.new ≡ reader.old)) }
+{
+    let answer = talk_records(alloc, layouts, reader);
+    finish(alloc, writer, answer)
+}

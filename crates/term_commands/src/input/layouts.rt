@@ -1,0 +1,47 @@
+//! The layouts of the turns of a dialogue.
+
+ghost use Rattle.std.specs.Prelude.{◌≡◌, [], IfSome};
+ghost use Rattle.term_commands.specs.Fault.{Gives};
+ghost use Rattle.term_commands.specs.Talk.{turn_layout_in, layouts_from};
+ghost use Rattle.term_commands.specs.TurnsHeld.{all_remaining};
+
+use crate::fault::{CommandError, Fault};
+use crate::input::layout::read_layout;
+use scr_layout::Layout;
+use std::alloc::Global;
+use std::io::Read;
+
+/// The layout of the turn of this number.
+fn read_turn_layout<L: Read>(
+    alloc: Global,
+    turn: usize,
+    reader: &mut L,
+) -> Result<Layout, CommandError>
+    ensures { IfSome (L.remaining reader.old) (λ input. Gives (λ l. l) result (turn_layout_in turn input)) }
+{
+    match read_layout(alloc, reader) {
+        Ok(layout) => Ok(layout),
+        Err(CommandError::Fault(Fault::LayoutRefused(fault))) => {
+            Err(CommandError::Fault(Fault::TurnLayoutRefused(turn, fault)))
+        }
+        Err(error) => Err(error),
+    }
+}
+
+/// The layouts of the turns in order, or the first fault.
+pub fn read_layouts<L: Read + Drop>(
+    alloc: Global,
+    readers: Vec<L>,
+) -> Result<Vec<Layout>, CommandError>
+    ensures { IfSome (all_remaining L.remaining readers.items)
+        (λ texts. Gives (λ v. v.items) result (layouts_from 0 [] texts)) }
+{
+    let mut layouts = Vec::new(alloc);
+    let mut turn = 0;
+    for reader in readers {
+        let mut text = reader;
+        layouts.push(read_turn_layout(alloc, turn, &mut text)?)?;
+        turn += 1;
+    }
+    Ok(layouts)
+}

@@ -1,0 +1,112 @@
+//! Lines of records in hexadecimal, with a line `turn` between the turns of a dialogue.
+
+ghost use Rattle.std.specs.Prelude.{◌≡◌, IfSome, Ok, ◌≤◌, length};
+ghost use Rattle.term_commands.specs.Fault.{Gives};
+ghost use Rattle.term_commands.specs.Held.{line_seen};
+ghost use Rattle.term_commands.specs.TurnsHeld.{turns_seen, records_of};
+ghost use Rattle.term_commands.specs.Lines.{lines_in};
+ghost use Rattle.term_commands.specs.Taking.{taken};
+ghost use Rattle.term_commands.specs.Turns.{one_more, after_record, next_turn, take_turn_line, turns_told, turns_in};
+
+use crate::fault::{CommandError, Fault};
+use crate::input::bytes::{at_most, read_all};
+use crate::input::lines::{TakesLines, take_lines};
+use crate::input::records::{Line, MOST_RECORD_BYTES, MOST_RECORDS, line_told};
+use crate::input::sizes::SizeLine;
+use std::alloc::Global;
+use std::io::Read;
+
+/// The records that lines tell, turn by turn.
+#[derive(Debug, Drop)]
+pub struct Turns {
+    /// The turns that ended.
+    pub ended: Vec<Vec<Vec<u8>>>,
+    /// The records of the turn at hand.
+    pub current: Vec<Vec<u8>>,
+    /// How many records all turns have.
+    pub count: usize,
+    /// The digits of a line.
+    pub digits: Vec<u8>,
+}
+
+/// One more record.
+fn add(mut told: Turns, bytes: Vec<u8>) -> Result<Turns, CommandError>
+    ensures { Gives turns_seen result (one_more (turns_seen told) bytes.items) }
+{
+    at_most(bytes.len(), MOST_RECORD_BYTES)?;
+    if told.count >= MOST_RECORDS {
+        return Err(CommandError::Fault(Fault::TooLong));
+    }
+    told.current.push(bytes)?;
+    told.count += 1;
+    Ok(told)
+}
+
+/// The turn at hand ends.
+fn end_turn(alloc: Global, told: Turns) -> Result<Turns, CommandError>
+    ensures { Gives turns_seen result (Ok (next_turn (turns_seen told))) }
+{
+    let mut ended = told.ended;
+    ended.push(told.current)?;
+    Ok(Turns {
+        ended,
+        current: Vec::new(alloc),
+        count: told.count,
+        digits: told.digits,
+    })
+}
+
+/// What the line of a number adds.
+fn add_line(told: Turns, number: usize, line: Line) -> Result<Turns, CommandError>
+    ensures { Gives turns_seen result (after_record number (turns_seen told) (line_seen line)) }
+{
+    match line {
+        Line::Ignored => Ok(told),
+        Line::Record(bytes) => add(told, bytes),
+        Line::Sizes(_) | Line::Bad => Err(CommandError::Fault(Fault::BadLine(number))),
+    }
+}
+
+impl TakesLines for Turns {
+    ghost takes = { λ number told line result. Gives turns_seen result (take_turn_line number (turns_seen told) line) };
+
+    fn take(mut self, alloc: Global, number: usize, line: &[u8]) -> Result<Turns, CommandError> {
+        if line == b"turn".as_slice() {
+            return end_turn(alloc, self);
+        }
+        let told = line_told(alloc, SizeLine::Refused, line, &mut self.digits)?;
+        add_line(self, number, told)
+    }
+}
+
+/// The turns that the lines of a text tell, or their first fault.
+fn take_turns(alloc: Global, text: &[u8], none: Turns) -> Result<Turns, CommandError>
+    requires { length text.now ≤ 16777216 }
+    ensures { Gives turns_seen result
+        (taken take_turn_line 1 (turns_seen none) (lines_in text.now)) }
+{
+    take_lines(alloc, text, none)
+}
+
+/// The turns with the one at hand.
+fn all_turns(told: Turns) -> Result<Vec<Vec<Vec<u8>>>, CommandError>
+    ensures { Gives records_of result (Ok (turns_told (turns_seen told))) }
+{
+    let mut turns = told.ended;
+    turns.push(told.current)?;
+    Ok(turns)
+}
+
+/// The records of each turn, or the first fault of the lines. A line `turn` stands between two turns.
+pub fn read_turns<R: Read>(alloc: Global, reader: &mut R) -> Result<Vec<Vec<Vec<u8>>>, CommandError>
+    ensures { IfSome (R.remaining reader.old) (λ input. Gives records_of result (turns_in input)) }
+{
+    let text = read_all(alloc, reader)?;
+    let none = Turns {
+        ended: Vec::new(alloc),
+        current: Vec::new(alloc),
+        count: 0,
+        digits: Vec::new(alloc),
+    };
+    all_turns(take_turns(alloc, text.as_slice(), none)?)
+}
