@@ -15,3 +15,4 @@ pub mod Firsts
 pub mod NamedKeys
 pub mod ToldRecords
 pub mod ToldDrafts
+pub mod Turned
