@@ -23,6 +23,12 @@ use Rattle.term_commands.specs.TurnsHeld.{lent_held, both_known, all_remaining}
 use Rattle.term_commands.specs.declared.fault.CommandError.{CommandError}
 use Rattle.term_commands.specs.declared.fault.CommandError.TheVariants.{Fault as Told, ReadFailed, OutOfMemory}
 use Rattle.term_commands.specs.Fault.{Gives}
+use Rattle.term_commands.specs.declared.status.Status.{Status}
+use Rattle.term_commands.specs.declared.output.answer.Answer.{Answer}
+use Rattle.term_commands.specs.Held.{answer_seen}
+use Rattle.term_commands.specs.Printed.{Printed, printed_or_fault}
+use Rattle.term_commands.specs.Streams.{Finishes, Prints}
+use Rattle.term_commands.proofs.Answered.{finishes}
 
 -- ---- the first of another geometry
 pub other_on : (geometry : Sizes) (layouts : List Declaration) (index turn : ℕ) (d : Declaration) → index < length layouts → is_geometry (get_or layouts index d).geometry geometry ≡ true
@@ -142,7 +148,7 @@ none_known remaining readers texts none known = none_is texts (ap (all_remaining
     none_is : (texts : List (List ℕ)) → Some [] ≡ Some texts → texts ≡ []
     none_is texts e = cc
 
-known_is : {A B : Type 0} (o : Option A) (x : A) (P : A → Type 0) → o ≡ Some x → IfSome o P → P x
+known_is : {A : Type 0} (o : Option A) (x : A) (P : A → Type 0) → o ≡ Some x → IfSome o P → P x
 known_is None x P e has = absurd cc
 known_is (Some y) x P e has = let same : y ≡ x = cc in subst P same has
 
@@ -181,3 +187,10 @@ layouts_end n before rest none = ap (layouts_from n before) none
 pub into_some : {X : Type 0} {B : X → Type 0} (known : Option X) → ((x : X) → known ≡ Some x → B x) → IfSome known B
 into_some None leads = tt
 into_some (Some x) leads = leads x refl
+
+pub talk_finished : (due : List (List ℕ) → List ℕ → Result Printed Fault) (known : Option (List (List ℕ))) (other old new : Option (List ℕ)) (answer : Result Answer CommandError) (status : Status)
+    → IfSome known (λ texts. IfSome other (λ input. Gives answer_seen answer (due texts input))) → Finishes old new answer status
+    → IfSome known (λ texts. IfSome other (λ input. Prints old new status (printed_or_fault (due texts input))))
+talk_finished due None other old new answer status is written = tt
+talk_finished due (Some texts) None old new answer status is written = tt
+talk_finished due (Some texts) (Some input) old new answer status is written = finishes (due texts input) old new answer status is written
