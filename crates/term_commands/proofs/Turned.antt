@@ -18,7 +18,7 @@ use Rattle.term_commands.specs.declared.fault.Fault.{Fault}
 use Rattle.term_commands.specs.declared.fault.Fault.TheVariants.{LayoutRefused, TurnLayoutRefused, TooLong}
 use Rattle.term_commands.specs.LayoutText.{layout_said, layout_or_fault, layout_in}
 use Rattle.term_commands.specs.Lines.{within_limit}
-use Rattle.term_commands.specs.Talk.{turn_layout_or_fault, turn_layout_in, layouts_from, sizes_equal, is_geometry, other_from, first_other, rounds}
+use Rattle.term_commands.specs.Talk.{turn_layout_or_fault, turn_layout_in, layouts_from, is_geometry, other_from, first_other, rounds}
 use Rattle.term_commands.specs.TurnsHeld.{lent_held, both_known, all_remaining}
 use Rattle.term_commands.specs.declared.fault.CommandError.{CommandError}
 use Rattle.term_commands.specs.declared.fault.CommandError.TheVariants.{Fault as Told, ReadFailed, OutOfMemory}

@@ -1,4 +1,4 @@
-use Rattle.std.proofs.Common.{◌≡◌, ◌+◌, true, false, not, refl, sym, ◌∙◌, ap}
+use Rattle.std.proofs.Common.{◌≡◌, ◌+◌, true, false, sym, ◌∙◌, ap}
 use Rattle.scr_layout.specs.Layout.{Declaration}
 use Rattle.term_commands.specs.Talk.{is_geometry}
 use Rattle.term_commands.proofs.Turned.{other_on, other_here, other_end}

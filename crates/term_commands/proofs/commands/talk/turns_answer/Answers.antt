@@ -1,7 +1,7 @@
 use Rattle.std.proofs.Common.{sym, ◌∙◌, ap, subst}
 use Rattle.scr_check.specs.TalkSeen.{rounds_of, HaveOneGeometry}
 use Rattle.term_commands.specs.Talk.{rounds}
-use Rattle.term_commands.specs.TurnsHeld.{turns_held, lent_held}
+use Rattle.term_commands.specs.TurnsHeld.{lent_held}
 use Rattle.term_commands.proofs.Turned.{one_geometry}
 use Rattle.term_commands.proofs.commands.talk.turns_answer.Goals as goal
 

@@ -1,11 +1,10 @@
-use Rattle.std.proofs.Common.{◌≡◌, ◌+◌, ◌<◌, ◌∷◌, ◌++◌, [], List, ℕ, length, map, drop, get_or, sym, ◌∙◌, ap, arith}
+use Rattle.std.proofs.Common.{◌+◌, ◌<◌, ◌∷◌, ◌++◌, List, ℕ, length, map, drop, get_or, sym, ◌∙◌, ap, arith}
 use Rattle.std.proofs.lemmas.List.{append-nil}
 use Rattle.std.specs.Global.{Vec}
 use Rattle.std.specs.Borrow.{Bor}
 use Rattle.scr_layout.specs.Layout.{Declaration}
-use Rattle.scr_check.specs.declared.talk.Turn.{Turn}
 use Rattle.scr_check.specs.Walk.{Round}
-use Rattle.scr_check.specs.TalkSeen.{round_of, rounds_of}
+use Rattle.scr_check.specs.TalkSeen.{rounds_of}
 use Rattle.term_commands.specs.Talk.{rounds}
 use Rattle.term_commands.specs.TurnsHeld.{lent_held}
 use Rattle.term_commands.proofs.Turned.{rounds_on, rounds_end, rounds_more}

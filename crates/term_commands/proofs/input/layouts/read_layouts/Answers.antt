@@ -38,7 +38,7 @@ loop-reader-preserved g c =
             first.3,
             layout_read g.L.Read.remaining c.in-Some.reader first.0 c.len.result first.1 c.loop-reader.layouts.items c.push.new.self.items c.in-Ok.layout first.2
                 (if_some (g.L.Read.remaining c.in-Some.reader) (λ input e. e) c.in-Ok.ensures) turn c.in_ok-push-in-Ok.ensures.items
-            ∙ ap (layouts_from (length c.loop-reader.layouts.items) c.loop-reader.layouts.items) (sym first.4) ∙ before.2,
+                ∙ ap (layouts_from (length c.loop-reader.layouts.items) c.loop-reader.layouts.items) (sym first.4) ∙ before.2,
           ),
     )
 
