@@ -11,6 +11,7 @@
 #![tactic(auto)]
 
 mod answers;
+mod dialogues;
 mod findings;
 mod layouts;
 mod lines;

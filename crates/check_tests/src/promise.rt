@@ -1,6 +1,7 @@
 //! Screens that conform, pressed through lists of keys: what Enter then sends is bound.
 
 use crate::answers::push_bound;
+use crate::dialogues::count_kept;
 use crate::findings::{push_check, records_of};
 use crate::{Setup, layout_of};
 use anyhow::{Context, Result};
@@ -10,7 +11,7 @@ use ds_keys::{key_of_line, press};
 use ds_screen::{Lock, PlaneCells, Screen};
 use scr_layout::Layout;
 use std::alloc::Global;
-use test_words::{number, push_length, push_number};
+use test_words::{number, push_length, push_number, push_word_number};
 
 fn show(screen: &mut Screen<PlaneCells>, bytes: &[u8]) -> Result<()> {
     let record = Record::read(screen.geometry().mode(), bytes)?;
@@ -110,6 +111,12 @@ fn push_lists(alloc: Global, setup: &Setup, out: &mut String) -> Result<()> {
     Ok(push_length(out, setup.lists.len())?)
 }
 
+/// How many of so many generated dialogues keep the promise.
+fn push_dialogues(alloc: Global, out: &mut String, count: u32) -> Result<()> {
+    push_number(out, count_kept(alloc, count)?)?;
+    Ok(push_word_number(out, " of ", count)?)
+}
+
 /// Adds what a verb answers; whether it is one of these.
 pub(crate) fn push_answer(
     alloc: Global,
@@ -121,6 +128,7 @@ pub(crate) fn push_answer(
     match verb {
         "conforms" => push_check(alloc, setup, out, setup.after.as_str())?,
         "bound" => push_lists(alloc, setup, out)?,
+        "dialogues" => push_dialogues(alloc, out, number(words)?)?,
         "pressed" => push_pressed(alloc, setup, out, words)?,
         _ => return Ok(false),
     }

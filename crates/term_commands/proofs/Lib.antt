@@ -16,3 +16,4 @@ pub mod NamedKeys
 pub mod ToldRecords
 pub mod ToldDrafts
 pub mod DemoNeeds
+pub mod Turned

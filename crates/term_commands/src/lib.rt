@@ -10,7 +10,9 @@ mod output;
 mod shown;
 mod status;
 
-pub use commands::{check_answer, run_check, run_convert, run_convert_back, run_press, run_show, run_talk};
+pub use commands::{
+    check_answer, run_check, run_convert, run_convert_back, run_press, run_show, run_talk,
+};
 pub use fault::{CommandError, Fault, failure};
 pub use input::keys::{Keys, read_keys};
 pub use input::layout::read_layout;

@@ -1,6 +1,6 @@
 //! The command `talk`: what stands against the turns of a dialogue.
 
-ghost use Rattle.std.specs.Prelude.{◌≡◌, ◌++◌, codes, length, map, None, Some, IfErr, IfOk, IfSome};
+ghost use Rattle.std.specs.Prelude.{◌≡◌, ◌++◌, codes, length, map, None, Some, IfErr, IfOk, IfSome, OnOk, slice_get};
 ghost use Rattle.std.specs.Fmt.{decimal};
 ghost use Rattle.std.specs.String.{string_bytes};
 ghost use Rattle.scr_check.specs.TalkSeen.{rounds_of, stop_in};
@@ -9,7 +9,7 @@ ghost use Rattle.term_commands.specs.Fault.{Gives};
 ghost use Rattle.term_commands.specs.Held.{answer_seen};
 ghost use Rattle.term_commands.specs.Printed.{printed};
 ghost use Rattle.term_commands.specs.Streams.{Prints};
-ghost use Rattle.term_commands.specs.Talk.{is_geometry, other_from, first_other, layouts_from, rounds, stop_text, printed_stop, talk, printed_talk, sizes_equal};
+ghost use Rattle.term_commands.specs.Talk.{is_geometry, other_from, first_other, layouts_from, rounds, turn_lines, stop_text, printed_stop, talk, printed_talk, sizes_equal};
 ghost use Rattle.term_commands.specs.TurnsHeld.{turns_held, lent_held, all_remaining};
 ghost use Rattle.std.specs.Prelude.{[]};
 
@@ -97,6 +97,29 @@ fn with_layouts<'a, 'r>(
     Ok(turns)
 }
 
+fn turn_line(alloc: Global, turn: usize) -> Result<String, AllocError>
+    ensures { IfOk result (λ line. string_bytes line ≡ codes "turn " ++ (decimal turn ++ codes "\n")) }
+{
+    format!(in alloc; "turn {turn}\n")
+}
+
+/// The lines of the findings of a turn.
+fn push_turn_lines(
+    alloc: Global,
+    out: &mut String,
+    layouts: &[Layout],
+    turn: usize,
+    findings: &[Finding],
+) -> Result<(), AllocError>
+    ensures { OnOk result (string_bytes out.new ≡ string_bytes out.old
+        ++ turn_lines (slice_get layouts.now turn) findings.now) }
+{
+    match layouts.get(turn) {
+        Some(layout) => push_findings(alloc, out, layout, None, findings),
+        None => Ok(()),
+    }
+}
+
 /// The number of a turn and the lines of its findings.
 fn stop_text(
     alloc: Global,
@@ -107,10 +130,8 @@ fn stop_text(
     ensures { IfOk result (λ text. string_bytes text
         ≡ stop_text layouts.now (record { turn = turn; findings = findings.now })) }
 {
-    let mut text = format!(in alloc; "turn {turn}\n")?;
-    if let Some(layout) = layouts.get(turn) {
-        push_findings(alloc, &mut text, layout, None, findings)?;
-    }
+    let mut text = turn_line(alloc, turn)?;
+    push_turn_lines(alloc, &mut text, layouts, turn, findings)?;
     Ok(text)
 }
 

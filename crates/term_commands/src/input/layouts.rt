@@ -37,11 +37,12 @@ pub fn read_layouts<L: Read + Drop>(
         (λ texts. Gives (λ v. v.items) result (layouts_from 0 [] texts)) }
 {
     let mut layouts = Vec::new(alloc);
-    let mut turn = 0;
     for reader in readers {
         let mut text = reader;
-        layouts.push(read_turn_layout(alloc, turn, &mut text)?)?;
-        turn += 1;
+        match read_turn_layout(alloc, layouts.len(), &mut text) {
+            Ok(layout) => layouts.push(layout)?,
+            Err(error) => return Err(error),
+        }
     }
     Ok(layouts)
 }
