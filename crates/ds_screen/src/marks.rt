@@ -136,7 +136,8 @@ impl Marks {
     /// The field of an attribute that is there.
     fn field_of(&self, mark: Mark) -> FieldAt
         requires { mark.at < self.now.size }
-        ensures field { Tells IsMarked self.now (λ cells. cell_at cells mark.at ≡ Field mark.attribute
+        ensures field { Tells IsMarked self.now
+            (λ cells. cell_at cells mark.at ≡ Field mark.attribute
             → result ≡ field_at cells mark.at) }
         ensures at { result.at ≡ mark.at }
         ensures small { result.at + 1 < 2 ^ 32 }

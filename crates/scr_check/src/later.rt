@@ -69,7 +69,8 @@ fn take_later(outline: &mut Outline, index: usize, bytes: &[u8]) -> Result<(), F
 
 /// Takes the records in turn, up to the first against which something stands.
 fn take_all_later(outline: &mut Outline, records: &[&[u8]]) -> Result<(), Finding>
-    ensures { LaterTakesAllOn outline.old outline.new (map (λ bytes. bytes.now) records.now) result }
+    ensures { LaterTakesAllOn outline.old outline.new
+        (map (λ bytes. bytes.now) records.now) result }
 {
     for (index, bytes) in records.iter().enumerate() {
         take_later(outline, index, bytes)?;
@@ -79,7 +80,8 @@ fn take_all_later(outline: &mut Outline, records: &[&[u8]]) -> Result<(), Findin
 
 /// Takes the records of a later turn, and asks whether the operator can go on.
 fn open_later(outline: &mut Outline, records: &[&[u8]], size: Size) -> Result<(), Finding>
-    ensures { OpensLater outline.old outline.new (map (λ bytes. bytes.now) records.now) size result }
+    ensures { OpensLater outline.old outline.new
+        (map (λ bytes. bytes.now) records.now) size result }
 {
     if records.is_empty() {
         return Err(Finding::NoRecord);

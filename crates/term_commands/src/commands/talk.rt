@@ -98,7 +98,8 @@ fn with_layouts<'a, 'r>(
 }
 
 fn turn_line(alloc: Global, turn: usize) -> Result<String, AllocError>
-    ensures { IfOk result (λ line. string_bytes line ≡ codes "turn " ++ (decimal turn ++ codes "\n")) }
+    ensures { IfOk result (λ line. string_bytes line
+        ≡ codes "turn " ++ (decimal turn ++ codes "\n")) }
 {
     format!(in alloc; "turn {turn}\n")
 }
@@ -179,7 +180,8 @@ fn talk_records<L: Read + Drop, R: Read>(
     reader: &mut R,
 ) -> Result<Answer, CommandError>
     ensures answer { IfSome (all_remaining L.remaining layouts.items)
-        (λ texts. IfSome (R.remaining reader.old) (λ input. Gives answer_seen result (talk texts input))) }
+        (λ texts. IfSome (R.remaining reader.old)
+        (λ input. Gives answer_seen result (talk texts input))) }
     ensures unread { IfSome (all_remaining L.remaining layouts.items)
         (λ texts. IfErr (layouts_from 0 [] texts) (λ fault. reader.new ≡ reader.old)) }
 {

@@ -17,7 +17,8 @@ fn read_turn_layout<L: Read>(
     turn: usize,
     reader: &mut L,
 ) -> Result<Layout, CommandError>
-    ensures { IfSome (L.remaining reader.old) (λ input. Gives (λ l. l) result (turn_layout_in turn input)) }
+    ensures { IfSome (L.remaining reader.old)
+        (λ input. Gives (λ l. l) result (turn_layout_in turn input)) }
 {
     match read_layout(alloc, reader) {
         Ok(layout) => Ok(layout),
