@@ -12,8 +12,22 @@ use std::alloc::{AllocError, Global};
 
 /// The keys between two screens.
 const KEYS: &[&str] = &[
-    "type C1", "type C2", "type F5", "tab", "backtab", "delete", "eraseeof", "eraseinput", "home",
-    "newline", "left", "right", "up", "down", "reset", "type C9",
+    "type C1",
+    "type C2",
+    "type F5",
+    "tab",
+    "backtab",
+    "delete",
+    "eraseeof",
+    "eraseinput",
+    "home",
+    "newline",
+    "left",
+    "right",
+    "up",
+    "down",
+    "reset",
+    "type C9",
 ];
 
 /// Keys that send and end a turn.
