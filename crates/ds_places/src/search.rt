@@ -29,7 +29,8 @@ pub fn rank<T: Placed>(entries: &[T], place: u32) -> usize
 pub(crate) fn rank_from<T: Placed>(entries: &[T], start: usize, place: u32) -> usize
     requires rising { IsRising T.place_of entries.now }
     requires within { start ≤ length entries.now }
-    requires before { (k : ℕ) (other : T) → k < start → T.place_of (slice_index_or entries.now k other) < place }
+    requires before { (k : ℕ) (other : T) → k < start
+        → T.place_of (slice_index_or entries.now k other) < place }
     ensures parts { IsPartitionPoint (λ entry. T.place_of entry < place)
         (λ entry. place ≤ T.place_of entry) entries.now result }
     ensures within { result ≤ length entries.now }
