@@ -6,9 +6,9 @@ use Rattle.ds_codec.specs.declared.cell.Cell.{Cell}
 use Rattle.ds_screen.specs.Ring.{ring_on, ring_back, ring_distance}
 use Rattle.ds_screen.specs.Picture.{cell_at}
 use Rattle.ds_screen.specs.Fields.{is_attribute, is_character, attribute_before, attribute_from, is_at, governs, span_of, attributes_from}
-use Rattle.ds_screen.proofs.RingLaws.{on_cases, back_cases, on_lt, IsFound, search_cases}
+use Rattle.ds_screen.proofs.RingLaws.{on_cases, back_cases, on_lt, on_inside, IsFound, search_cases}
 use Rattle.ds_screen.proofs.RuledLaws.{distance_on}
-use Rattle.ds_screen.proofs.FieldLaws.{before_found, from_found}
+use Rattle.ds_screen.proofs.FieldLaws.{before_found, from_found, from_none}
 
 -- ---- the places of attributes
 pub attributes_here : (cells : List Cell) (p : ℕ) → p < length cells → is_attribute (cell_at cells p) ≡ true → attributes_from cells p ≡ p ∷ attributes_from cells (p + 1)
@@ -174,4 +174,54 @@ never_none cells q m place inside there len on nearest =
       | inr none ↦
           absurd (false≢true (sym (none (n - 1) (omega arith))
           ∙ ap (λ z. is_attribute (cell_at cells z)) (on_on n q (n - 1) inside (omega arith) ∙ ap (ring_on n q) (omega arith) ∙ on_whole n q inside) ∙ there))
+    ]
+
+-- ---- the next attribute round the buffer, and the next one up to the end
+pub next_ahead : (cells : List Cell) (from at : ℕ) → from < length cells → Some at ≡ attribute_from cells from → from ≤ at
+    → (at < length cells) × ((q : ℕ) → from ≤ q → q < at → is_attribute (cell_at cells q) ≡ false) × (is_attribute (cell_at cells at) ≡ true)
+next_ahead cells from at inside nearest ahead =
+    let n : ℕ = length cells in
+    elim (search_cases n (λ d. is_attribute (cell_at cells (ring_on n from d)))) [
+      | inl found ↦
+          let d : ℕ = found.0 in
+          let same : at ≡ ring_on n from d = same_stop _ _ (nearest ∙ sym (from_found cells n from d (ring_on n from d) refl found.1.inside refl found.1.misses found.1.hit)) in
+          elim (on_cases n from d) [
+            | inl a ↦ (
+              omega (arith, same, a.1, a.0),
+              λ q low high.
+                  let there : ring_on n from (q - from) ≡ q = on_inside n from (q - from) (omega (arith, same, a.1, a.0)) ∙ omega arith in
+                  ap (λ z. is_attribute (cell_at cells z)) (sym there) ∙ found.1.misses (q - from) (omega (arith, same, a.1)),
+              ap (λ z. is_attribute (cell_at cells z)) same ∙ found.1.hit,
+            )
+            | inr a ↦ absurd (omega (arith, same, a.1, found.1.inside))
+          ]
+      | inr none ↦ let e = nearest ∙ sym (from_none cells n from refl none) in absurd cc
+    ]
+
+pub next_behind : (cells : List Cell) (from at : ℕ) → from < length cells → Some at ≡ attribute_from cells from → at < from
+    → (q : ℕ) → from ≤ q → q < length cells → is_attribute (cell_at cells q) ≡ false
+next_behind cells from at inside nearest round q low lt =
+    let n : ℕ = length cells in
+    elim (search_cases n (λ d. is_attribute (cell_at cells (ring_on n from d)))) [
+      | inl found ↦
+          let d : ℕ = found.0 in
+          let same : at ≡ ring_on n from d = same_stop _ _ (nearest ∙ sym (from_found cells n from d (ring_on n from d) refl found.1.inside refl found.1.misses found.1.hit)) in
+          let there : ring_on n from (q - from) ≡ q = on_inside n from (q - from) (omega arith) ∙ omega arith in
+          elim (on_cases n from d) [
+            | inl a ↦ absurd (omega (arith, same, a.1))
+            | inr a ↦ ap (λ z. is_attribute (cell_at cells z)) (sym there) ∙ found.1.misses (q - from) (omega (arith, a.0))
+          ]
+      | inr none ↦
+          let there : ring_on n from (q - from) ≡ q = on_inside n from (q - from) (omega arith) ∙ omega arith in
+          ap (λ z. is_attribute (cell_at cells z)) (sym there) ∙ none (q - from) (omega arith)
+    ]
+
+pub next_nowhere : (cells : List Cell) (from : ℕ) → None ≡ attribute_from cells from → (q : ℕ) → from ≤ q → q < length cells → is_attribute (cell_at cells q) ≡ false
+next_nowhere cells from nearest q low lt =
+    let n : ℕ = length cells in
+    elim (search_cases n (λ d. is_attribute (cell_at cells (ring_on n from d)))) [
+      | inl found ↦ let e = nearest ∙ sym (from_found cells n from found.0 (ring_on n from found.0) refl found.1.inside refl found.1.misses found.1.hit) in absurd cc
+      | inr none ↦
+          let there : ring_on n from (q - from) ≡ q = on_inside n from (q - from) (omega arith) ∙ omega arith in
+          ap (λ z. is_attribute (cell_at cells z)) (sym there) ∙ none (q - from) (omega arith)
     ]

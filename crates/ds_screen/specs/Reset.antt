@@ -1,4 +1,3 @@
--- For the code's own proofs: only functions within the crate cite this file, so no public contract rests on it.
 -- What a cell becomes when modified data tags are reset.
 use Rattle.ds_codec.specs.declared.cell.Cell.{Cell}
 use Rattle.ds_screen.specs.declared.records.Reset.{Reset}

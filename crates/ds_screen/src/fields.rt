@@ -95,11 +95,18 @@ fn next_field<C: Cells>(cells: &C, from: u32) -> Option<FieldAt>
         × (field ≡ field_at (C.content cells.now) field.at)) }
     ensures small { IfSome result (λ field. field.at + 1 < 2 ^ 32) }
 {
-    'places: for at in from..cells.len() {
-        match cells.cell(at) {
-            Cell::Field(attr) => return Some(field_of(cells, at, attr)),
-            Cell::Char(_) => {}
-        }
+    if from >= cells.len() {
+        return None;
     }
-    None
+    let at = match cells.attr_from(from) {
+        Some(at) => at,
+        None => return None,
+    };
+    if at < from {
+        return None;
+    }
+    match cells.cell(at) {
+        Cell::Field(attr) => Some(field_of(cells, at, attr)),
+        Cell::Char(_) => None,
+    }
 }

@@ -47,5 +47,6 @@ pub use outline_fields::OutlineFields;
 pub use plain::PlainCells;
 pub use plane_cells::PlaneCells;
 pub use probed::Probed;
+pub use records::Reset;
 pub use refused::{Refused, Why};
 pub use screen::Screen;
