@@ -1,8 +1,8 @@
 -- What the parsed words of a command line ask for.
-use Rattle.std.specs.Prelude.{◌≡◌, ◌<◌, ℕ, Bool, true, false, List, map, Option, Some, None, codes}
+use Rattle.std.specs.Prelude.{◌≡◌, ◌<◌, ℕ, Bool, true, false, List, Option, Some, None, codes}
 use Rattle.std.specs.Borrow.{Bor}
 use Rattle.std.specs.Fmt.{decimal}
-use Rattle.clap.specs.Words.{Row, Text, first_of, one_of, all_of}
+use Rattle.clap.specs.Words.{Row, Text, first_of, one_of}
 use Rattle.term_commands.specs.declared.output.demo.Demos.{Demos}
 use Rattle.term_commands.specs.declared.output.demo.Demos.TheVariants.{Printed, Omitted}
 use Rattle.term3270.specs.declared.asked.Asked.{Asked}
@@ -18,10 +18,6 @@ IsOption option rows given = (one_of option rows ≡ Some (codes "true") → giv
 abbrev pub IsText : Text → List Row → Bor Text → Type 0
 IsText word rows given = (text : Text) → first_of word rows ≡ Some text → given.now ≡ text
 
--- the texts that were given for a word, in order
-abbrev pub AreTexts : Text → List Row → Bor (List (Bor Text)) → Type 0
-AreTexts word rows given = (texts : List Text) → all_of word rows ≡ Some texts → map (λ text. text.now) given.now ≡ texts
-
 -- the number below 65,536 that was given for a word, in decimal
 abbrev pub IsNumber : Text → List Row → ℕ → Type 0
 IsNumber word rows given = (number : ℕ) → number < 65536 → one_of word rows ≡ Some (decimal number) → given ≡ number
@@ -33,10 +29,6 @@ AreDemos rows Omitted = IsOption (codes "demo") rows false
 abbrev pub IsCheck : List Row → Asked → Type 0
 IsCheck rows (Check layout demos) = IsText (codes "LAYOUT") rows layout × AreDemos rows demos
 IsCheck rows _ = ⊥
-
-abbrev pub IsTalk : List Row → Asked → Type 0
-IsTalk rows (Talk layouts) = AreTexts (codes "LAYOUT") rows layouts
-IsTalk rows _ = ⊥
 
 abbrev pub IsPress : List Row → Asked → Type 0
 IsPress rows (Press keys) = IsText (codes "KEYS") rows keys
@@ -61,7 +53,7 @@ IsAttach rows _ = ⊥
 pub record AsksFor (name : Text) (rows : List Row) (asked : Asked) : Type 0 where
   pub show : name ≡ codes "show" → asked ≡ Show
   pub check : name ≡ codes "check" → IsCheck rows asked
-  pub talk : name ≡ codes "talk" → IsTalk rows asked
+  pub talk : name ≡ codes "talk" → asked ≡ Talk
   pub press : name ≡ codes "press" → IsPress rows asked
   pub convert : name ≡ codes "convert" → IsConvert rows asked
   pub serve : name ≡ codes "serve" → IsServe rows asked

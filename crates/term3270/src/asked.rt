@@ -2,7 +2,7 @@
 
 ghost use Rattle.std.specs.Prelude.{◌≡◌, option_map};
 ghost use Rattle.clap.specs.Words.{found_of, rows_of, subcommand_rows_of};
-ghost use Rattle.term3270.specs.Asked.{AreDemos, AsksFor, IsConvert, IsNumber, IsOption, IsText, AreTexts};
+ghost use Rattle.term3270.specs.Asked.{AreDemos, AsksFor, IsConvert, IsNumber, IsOption, IsText};
 
 use clap::ArgMatches;
 use term_commands::Demos;
@@ -15,9 +15,7 @@ pub enum Asked<'a> {
         layout: &'a str,
         demos: Demos,
     },
-    Talk {
-        layouts: &'a [&'a str],
-    },
+    Talk,
     Press {
         keys: &'a str,
     },
@@ -42,7 +40,7 @@ impl<'a> Asked<'a> {
     ghost use Rattle.term3270.specs.Asked.{Asks};
 
     /// What parsed words ask for. The default command is `show`.
-    pub fn from_matches(matches: &'a ArgMatches<'a>) -> Asked<'a>
+    pub fn from_matches(matches: &ArgMatches<'a>) -> Asked<'a>
         ensures { Asks (subcommand_rows_of matches.now) result }
     {
         match named_in(matches) {
@@ -60,7 +58,7 @@ fn named_in<'m, 'a>(matches: &'m ArgMatches<'a>) -> Option<(&'a str, &'m ArgMatc
     matches.subcommand()
 }
 
-fn command_of<'a>(name: &str, words: &'a ArgMatches<'a>) -> Asked<'a>
+fn command_of<'a>(name: &str, words: &ArgMatches<'a>) -> Asked<'a>
     ensures { AsksFor name.now (rows_of (found_of words.now)) result }
 {
     match name {
@@ -68,9 +66,7 @@ fn command_of<'a>(name: &str, words: &'a ArgMatches<'a>) -> Asked<'a>
             layout: text_in(words, "LAYOUT"),
             demos: demos_in(words),
         },
-        "talk" => Asked::Talk {
-            layouts: texts_in(words, "LAYOUT"),
-        },
+        "talk" => Asked::Talk,
         "press" => Asked::Press {
             keys: text_in(words, "KEYS"),
         },
@@ -118,16 +114,6 @@ fn text_in<'a>(words: &ArgMatches<'a>, word: &str) -> &'a str
     match words.get_str(word) {
         Some(text) => text,
         None => "",
-    }
-}
-
-/// The texts that were given for a word, in order; `clap` refuses words without any.
-fn texts_in<'a>(words: &'a ArgMatches<'a>, word: &str) -> &'a [&'a str]
-    ensures { AreTexts word.now (rows_of (found_of words.now)) result }
-{
-    match words.get_strs(word) {
-        Some(texts) => texts,
-        None => &[],
     }
 }
 

@@ -141,7 +141,9 @@ fn talk<'a>(alloc: Global) -> Result<Command<'a>, AllocError> {
         .num_args(1..)
         .help("The files of the layouts, one for each turn, in TOML");
     Command::new(alloc, "talk")
-        .about("Print yes, or the findings of a dialogue: several screens, and an operator between them")
+        .about(
+            "Print yes, or the findings of a dialogue: several screens, and an operator between them",
+        )
         .after_help(TALK)
         .arg(layouts)
 }

@@ -16,17 +16,17 @@ use crate::file::FileAt;
 use crate::sessions::{run_attach, run_serve};
 use crate::stream::Named;
 use crate::tcp::Place;
+use clap::ArgMatches;
 use clap::error::ErrorKind;
 use std::alloc::AllocError;
 use std::process::ExitCode;
 use std::{env, io};
 use term_commands::{
-    Status, failure, run_check, run_convert, run_convert_back, run_press, run_show,
-    run_talk,
+    Status, failure, run_check, run_convert, run_convert_back, run_press, run_show, run_talk,
 };
 
 /// Runs a command on the standard streams, and on the file that it was given.
-fn run(rt: &HostRuntime, asked: Asked<'_>) -> Status {
+fn run(rt: &HostRuntime, asked: Asked<'_>, matches: &ArgMatches<'_>) -> Status {
     let alloc = rt.alloc();
     let mut records = named(rt, "standard input", rt.stdin());
     let mut output = named(rt, "standard output", rt.stdout());
@@ -36,10 +36,7 @@ fn run(rt: &HostRuntime, asked: Asked<'_>) -> Status {
             let mut layout = file_at(rt, layout);
             run_check(alloc, &mut layout, &mut records, &mut output, demos)
         }
-        Asked::Talk { layouts } => match files_at(rt, layouts) {
-            Ok(layouts) => run_talk(alloc, layouts, &mut records, &mut output),
-            Err(_) => Status::NoMemory,
-        },
+        Asked::Talk => talk_of(rt, matches),
         Asked::Press { keys } => {
             run_press(alloc, &mut records, &mut file_at(rt, keys), &mut output)
         }
@@ -85,6 +82,27 @@ fn file_at<'a>(rt: &'a HostRuntime, path: &'a str) -> Named<'a, FileAt<'a>> {
     named(rt, path, stream)
 }
 
+/// Runs `talk` on the files that its words name.
+fn talk_of(rt: &HostRuntime, matches: &ArgMatches<'_>) -> Status {
+    match matches.subcommand() {
+        Some((_, words)) => match words.get_strs("LAYOUT") {
+            Some(paths) => talk_over(rt, paths),
+            None => Status::BadInput,
+        },
+        None => Status::BadInput,
+    }
+}
+
+/// Runs `talk` on these files and the standard streams.
+fn talk_over(rt: &HostRuntime, paths: &[&str]) -> Status {
+    let mut records = named(rt, "standard input", rt.stdin());
+    let mut output = named(rt, "standard output", rt.stdout());
+    match files_at(rt, paths) {
+        Ok(layouts) => run_talk(rt.alloc(), layouts, &mut records, &mut output),
+        Err(_) => Status::NoMemory,
+    }
+}
+
 /// The files of several paths, none yet opened.
 fn files_at<'a>(
     rt: &'a HostRuntime,
@@ -101,7 +119,7 @@ fn files_at<'a>(
 fn respond(rt: &HostRuntime) -> io::Result<Status> {
     let words: Vec<String> = env::args(rt)?.collect(rt.alloc())?;
     match parsed(rt.alloc(), words.as_slice()) {
-        Ok(matches) => Ok(run(rt, Asked::from_matches(&matches))),
+        Ok(matches) => Ok(run(rt, Asked::from_matches(&matches), &matches)),
         Err(error) => {
             error.print(rt)?;
             Ok(match error.kind() {
