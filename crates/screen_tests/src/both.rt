@@ -78,6 +78,13 @@ fn are_alike(alloc: Global, pair: &Pair) -> Result<bool, AllocError> {
     Ok(plain.as_slice() == planes.as_slice() && shown.as_slice() == other.as_slice())
 }
 
+/// Presses a key on both; whether they answer alike.
+fn press_alike(pair: &mut Pair, key: &Key) -> bool {
+    let plain = press(&mut pair.plain, *key);
+    let planes = press(&mut pair.planes, *key);
+    plain == planes
+}
+
 /// Whether a generated record and some keys leave both alike.
 fn is_alike_after(alloc: Global, pair: &mut Pair, seed: &mut u32) -> Result<bool> {
     let bytes = record_of(alloc, seed)?;
@@ -85,7 +92,7 @@ fn is_alike_after(alloc: Global, pair: &mut Pair, seed: &mut u32) -> Result<bool
     let mut alike = take_alike(pair, &record) && are_alike(alloc, pair)?;
     for _ in 0..4 {
         let key = key_of(seed);
-        alike = alike && press(&mut pair.plain, key) == press(&mut pair.planes, key);
+        alike = alike && press_alike(pair, &key);
         alike = alike && are_alike(alloc, pair)?;
     }
     Ok(alike)
@@ -113,8 +120,8 @@ fn planes_of(alloc: Global, count: u32, apart: u32) -> Result<PlaneCells, AllocE
     let mut cells = PlaneCells::reserved(alloc, count)?;
     cells.clear(count);
     let mut left = 0u32;
-    for p in 0..cells.len() {
-        if left == 0 && apart != 0 {
+    for p in 0..count {
+        if p < cells.len() && left == 0 && apart != 0 {
             cells.put(p, Cell::Field(Attr::new(0)));
             left = apart;
         }
