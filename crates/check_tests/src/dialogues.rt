@@ -74,7 +74,7 @@ fn push_place(bytes: &mut Vec<u8>, place: u32) -> Result<(), AllocError> {
 
 /// An input between its attribute and a protected one behind it, with the cursor or with text.
 fn push_input(bytes: &mut Vec<u8>, shape: Shape, text: u32) -> Result<(), AllocError> {
-    let place = shape.row * 20 + shape.col;
+    let place = shape.row.saturating_mul(20).saturating_add(shape.col);
     push_place(bytes, place.saturating_sub(1))?;
     bytes.extend_from_slice(&[0x1D, 0x40])?;
     if text == 0 {
@@ -127,7 +127,7 @@ fn make_screen(alloc: Global, seed: &mut u32, erases: bool) -> Result<Made> {
         let written = draw(seed, 4);
         push_input(&mut record, shape, written)?;
         push_table(&mut text, shape)?;
-        input = shape.row * 20 + shape.col;
+        input = shape.row.saturating_mul(20).saturating_add(shape.col);
     }
     let layout = Layout::from_text(alloc, text.as_str())?;
     Ok(Made {
