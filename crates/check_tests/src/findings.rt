@@ -19,7 +19,7 @@ pub(crate) fn records_of(alloc: Global, words: &str) -> Result<Vec<Vec<u8>>> {
     Ok(records)
 }
 
-fn lent<'a>(alloc: Global, records: &'a [Vec<u8>]) -> Result<Vec<&'a [u8]>, AllocError> {
+pub(crate) fn lent<'a>(alloc: Global, records: &'a [Vec<u8>]) -> Result<Vec<&'a [u8]>, AllocError> {
     let mut slices = Vec::new(alloc);
     for bytes in records {
         slices.push(bytes.as_slice())?;
@@ -67,7 +67,7 @@ fn push_finding(out: &mut String, layout: &Layout, finding: Finding) -> Result<(
     out.push_str("; ")
 }
 
-fn push_findings(
+pub(crate) fn push_findings(
     out: &mut String,
     layout: &Layout,
     findings: &[Finding],

@@ -205,6 +205,7 @@ fn push_sizes(out: &mut String, layout: &Layout) -> Result<(), AllocError> {
     push_size(out, geometry.alternate_size())?;
     out.push_str(match geometry.mode() {
         Mode::Bits14 => " Bits14",
+        Mode::Bits16 => " Bits16",
     })
 }
 

@@ -29,7 +29,11 @@ fn opened(alloc: Global, layout: &Layout, records: &[Vec<u8>]) -> Result<Screen<
 }
 
 /// The same of the setup's records.
-fn opened_after(alloc: Global, setup: &Setup, layout: &Layout) -> Result<Screen<PlaneCells>> {
+pub(crate) fn opened_after(
+    alloc: Global,
+    setup: &Setup,
+    layout: &Layout,
+) -> Result<Screen<PlaneCells>> {
     let records = records_of(alloc, setup.after.as_str())?;
     opened(alloc, layout, records.as_slice())
 }
@@ -47,7 +51,7 @@ fn press_often(screen: &mut Screen<PlaneCells>, line: &str, times: u32) -> Resul
     Ok(())
 }
 
-fn press_lines(screen: &mut Screen<PlaneCells>, keys: &str) -> Result<()> {
+pub(crate) fn press_lines(screen: &mut Screen<PlaneCells>, keys: &str) -> Result<()> {
     for part in keys.split(", ") {
         if let Some((times, line)) = part.split_once(' ') {
             press_often(screen, line, number(times)?)?;

@@ -41,6 +41,7 @@ fn push_key(out: &mut String, key: LayoutKey) -> Result<(), AllocError> {
 
 fn push_layout_keys(out: &mut String) -> Result<(), AllocError> {
     push_key(out, LayoutKey::Unknown)?;
+    push_key(out, LayoutKey::Addresses)?;
     push_key(out, LayoutKey::Default)?;
     push_key(out, LayoutKey::Alternate)?;
     push_key(out, LayoutKey::Screen)?;
@@ -168,13 +169,15 @@ fn push_findings(out: &mut String, layout: &Layout) -> Result<(), AllocError> {
     push_finding(out, layout, too_long(0, Some(keys(0, 5))))?;
     push_finding(out, layout, too_long(1, None))?;
     push_finding(out, layout, Finding::OtherKind(0))?;
-    push_finding(out, layout, Finding::EmptyModified(19))
+    push_finding(out, layout, Finding::EmptyModified(19))?;
+    push_finding(out, layout, Finding::CursorDependent(2))
 }
 
 /// Each law does nothing.
 fn push_laws(out: &mut String) -> Result<(), AllocError> {
     scr_check::bind_law();
     scr_check::yes_law();
+    ds_keys::shape_law();
     order_lines::line_law();
     order_lines::record_law();
     order_lines::told_law();

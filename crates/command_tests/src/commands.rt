@@ -1,12 +1,13 @@
 //! The commands, each over readers and a writer in memory.
 
+use crate::files::texts_of;
 use crate::notation::push_written;
-use anyhow::Result;
+use anyhow::{Context, Result};
 use std::alloc::{AllocError, Global};
 use std::io;
 use std::io::{Read, Write};
 use term_commands::{
-    Demos, Status, failure, run_check, run_convert, run_convert_back, run_press, run_show,
+    Demos, Status, failure, run_check, run_convert, run_convert_back, run_press, run_show, run_talk,
 };
 use test_words::push_word_number;
 
@@ -19,6 +20,7 @@ pub(crate) enum Command {
     Press,
     Check,
     Demo,
+    Talk,
 }
 
 /// The command of a name.
@@ -30,12 +32,13 @@ pub(crate) fn command_of(name: &str) -> Option<Command> {
         "press" => Some(Command::Press),
         "check" => Some(Command::Check),
         "demo" => Some(Command::Demo),
+        "talk" => Some(Command::Talk),
         _ => None,
     }
 }
 
-/// Runs a command; `file` is what it reads besides its input.
-pub(crate) fn run<R: Read, F: Read, W: Write>(
+/// Runs a command that reads at most one file.
+fn run_with_file<R: Read, F: Read, W: Write>(
     alloc: Global,
     command: Command,
     input: &mut R,
@@ -48,8 +51,24 @@ pub(crate) fn run<R: Read, F: Read, W: Write>(
         Command::Back => run_convert_back(alloc, input, writer),
         Command::Press => run_press(alloc, input, file, writer),
         Command::Check => run_check(alloc, file, input, writer, Demos::Omitted),
-        Command::Demo => run_check(alloc, file, input, writer, Demos::Printed),
+        _ => run_check(alloc, file, input, writer, Demos::Printed),
     }
+}
+
+/// Runs a command; `files` are what it reads besides its input.
+pub(crate) fn run<R: Read, F: Read + Drop, W: Write>(
+    alloc: Global,
+    command: Command,
+    input: &mut R,
+    files: Vec<F>,
+    writer: &mut W,
+) -> Result<Status> {
+    if let Command::Talk = command {
+        return Ok(run_talk(alloc, files, input, writer));
+    }
+    let mut files = files;
+    let mut file = files.pop().context("a file")?;
+    Ok(run_with_file(alloc, command, input, &mut file, writer))
 }
 
 pub(crate) fn name_of(status: Status) -> &'static str {
@@ -82,9 +101,10 @@ pub(crate) fn written(
     input: &[u8],
     file: &[u8],
     text: &mut Vec<u8>,
-) -> Status {
-    let (mut input, mut file) = (input, file);
-    run(alloc, command, &mut input, &mut file, text)
+) -> Result<Status> {
+    let mut input = input;
+    let files = texts_of(alloc, command, file)?;
+    run(alloc, command, &mut input, files, text)
 }
 
 /// A command's status and what it writes.
@@ -96,7 +116,7 @@ pub(crate) fn push_run(
     file: &[u8],
 ) -> Result<()> {
     let mut text = Vec::new(alloc);
-    let status = written(alloc, command, input, file, &mut text);
+    let status = written(alloc, command, input, file, &mut text)?;
     push_told(alloc, out, status, text.as_slice())
 }
 
@@ -109,7 +129,7 @@ pub(crate) fn push_status(
     file: &[u8],
 ) -> Result<()> {
     let mut text = Vec::new(alloc);
-    let status = written(alloc, command, input, file, &mut text);
+    let status = written(alloc, command, input, file, &mut text)?;
     Ok(out.push_str(name_of(status))?)
 }
 

@@ -1,21 +1,22 @@
 //! Readers and writers that are slow, or that fail.
 
 use std::io;
-use std::io::{Read, Write};
+use std::io::{ErrorKind, Read, Write};
 
-/// Gives one byte a read, and fails at the read of a number.
+/// Gives one byte a read, and fails so at the read of a number.
 #[derive(Drop)]
 pub(crate) struct Slow<'a> {
     pub rest: &'a [u8],
     pub reads: usize,
     pub fails_at: usize,
+    pub fails_so: ErrorKind,
 }
 
 impl Read for Slow<'_> {
     fn read(&mut self, buf: &mut [u8]) -> io::Result<usize> {
         self.reads = self.reads.saturating_add(1);
         if self.reads == self.fails_at {
-            return Err(io::Error::from(io::ErrorKind::ConnectionReset));
+            return Err(io::Error::from(self.fails_so));
         }
         match (self.rest, buf.is_empty()) {
             ([first, rest @ ..], false) => {
@@ -28,12 +29,13 @@ impl Read for Slow<'_> {
     }
 }
 
-/// A reader of these bytes that fails at the read of a number; never at 0.
-pub(crate) fn slow_reader(rest: &[u8], fails_at: usize) -> Slow<'_> {
+/// A reader of these bytes that fails so at the read of a number; never at 0.
+pub(crate) fn slow_reader(rest: &[u8], fails_at: usize, fails_so: ErrorKind) -> Slow<'_> {
     Slow {
         rest,
         reads: 0,
         fails_at,
+        fails_so,
     }
 }
 
@@ -50,7 +52,7 @@ impl Write for Narrow {
     fn write(&mut self, buf: &[u8]) -> io::Result<usize> {
         self.writes = self.writes.saturating_add(1);
         if self.writes == self.fails_at {
-            return Err(io::Error::from(io::ErrorKind::ConnectionReset));
+            return Err(io::Error::from(ErrorKind::ConnectionReset));
         }
         let count = buf.len().min(self.width);
         self.taken.extend_from_slice(&buf[..count])?;
@@ -75,6 +77,6 @@ impl Write for Unflushed {
     }
 
     fn flush(&mut self) -> io::Result<()> {
-        Err(io::Error::from(io::ErrorKind::ConnectionReset))
+        Err(io::Error::from(ErrorKind::ConnectionReset))
     }
 }

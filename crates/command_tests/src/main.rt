@@ -3,7 +3,8 @@
 //! The script is `stdin`, and what must come out `stdout`, whose answers were worked out by hand from docs/PROGRAM.md. Data in
 //! place of test functions: neither is proved.
 //!
-//! `file TEXT` gives the layout or the keys of the lines below, and `many N TEXT` the same text so often as a file. Every
+//! `file TEXT` gives the layout or the keys of the lines below, or of `talk` the layouts, with `|` between two of them, and
+//! `many N TEXT` the same text so often as a file. Every
 //! other line is a verb, a command and its input, where `^` stands for the file. In texts `\n`, `\r` and `\xFF` are bytes; a
 //! line that is printed 32 times or more one after the other is printed once, as `[F2*32]`.
 #![tactic(auto)]
@@ -11,6 +12,9 @@
 mod commands;
 mod devices;
 mod failures;
+mod files;
+mod fronts;
+mod memory;
 mod notation;
 
 use crate::commands::Command;
@@ -37,9 +41,10 @@ fn push_failed(
 ) -> Result<()> {
     match verb {
         "slow" => failures::push_slow(alloc, out, command, input, file),
-        "reads" => Ok(failures::push_reads(alloc, out, command, input, file)?),
-        "files" => Ok(failures::push_files(alloc, out, command, input, file)?),
-        "writes" => Ok(failures::push_writes(alloc, out, command, input, file)?),
+        "reads" => failures::push_reads(alloc, out, command, input, file),
+        "files" => failures::push_files(alloc, out, command, input, file),
+        "interrupted" => failures::push_interrupted(alloc, out, command, input, file),
+        "writes" => failures::push_writes(alloc, out, command, input, file),
         "flush" => failures::push_flush(alloc, out, command, input, file),
         "turn" => failures::push_turn(alloc, out, command, input, file),
         _ => Ok(out.push_str("no such verb")?),
@@ -58,6 +63,9 @@ fn push_command(
     match verb {
         "run" => commands::push_run(alloc, out, command, input, file),
         "status" => commands::push_status(alloc, out, command, input, file),
+        "twice" => memory::push_twice(alloc, out, command, input, file),
+        "fronts" => fronts::push_fronts(alloc, out, command, input, file),
+        "file-fronts" => fronts::push_file_fronts(alloc, out, command, input, file),
         _ => push_failed(alloc, out, verb, command, input, file),
     }
 }

@@ -2,7 +2,7 @@
 use Rattle.std.proofs.Common.{◌≡◌, ◌≢◌, ℕ, eqb, Some, None, refl, sym, arith, ◌⊎◌, inl, inr}
 use Rattle.std.proofs.lemmas.Bool.{eqb-true, eqb-false}
 use Rattle.ds_codec.specs.declared.size.Mode.{Mode}
-use Rattle.ds_codec.specs.declared.size.Mode.TheVariants.{Bits14}
+use Rattle.ds_codec.specs.declared.size.Mode.TheVariants.{Bits14, Bits16}
 use Rattle.ds_codec.specs.Address.{SpellsAddress, IsReserved, address_at, top_bits}
 use Rattle.ds_codec.proofs.Steps.{chosen, some_is}
 
@@ -13,9 +13,11 @@ address_again Bits14 address first second (inr (one_or_three, is)) =
       | inl one ↦ rw (one, is) refl
       | inr three ↦ rw (three, is) refl
     ]
+address_again Bits16 address first second is = rw is refl
 
 pub reserved_again : (mode : Mode) (first second : ℕ) → IsReserved mode first → address_at mode first second ≡ None
 reserved_again Bits14 first second is = rw is refl
+reserved_again Bits16 first second is = absurd is
 
 pub is_reserved : (mode : Mode) (first second : ℕ) → address_at mode first second ≡ None → IsReserved mode first
 is_reserved Bits14 first second e =
@@ -26,6 +28,7 @@ is_reserved Bits14 first second e =
         | inr (other, none) ↦ absurd cc
       ]
     ]
+is_reserved Bits16 first second e = absurd cc
 
 pub address_spelled : (mode : Mode) (first second address : ℕ) → address_at mode first second ≡ Some address → SpellsAddress mode address first second
 address_spelled Bits14 first second address e =
@@ -40,3 +43,4 @@ address_spelled Bits14 first second address e =
             inr (left, sym (some_is _ _ found))
       ]
     ]
+address_spelled Bits16 first second address e = sym (some_is _ _ e)

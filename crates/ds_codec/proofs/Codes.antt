@@ -27,8 +27,8 @@ top_two value lt =
       | inr three ↦ inr (eqb-true _ _ three)
     ]
 
-pub six_bit_spells : (mode : Mode) (address : ℕ) → address < 4096 → SpellsAddress mode address (six_bit_code (address / 64)) (six_bit_code (address % 64))
-six_bit_spells Bits14 address lt =
+pub six_bit_spells : (address : ℕ) → address < 4096 → SpellsAddress Bits14 address (six_bit_code (address / 64)) (six_bit_code (address % 64))
+six_bit_spells address lt =
     let high : address / 64 < 64 = omega arith in
     let low : address % 64 < 64 = omega arith in
     inr (top_two (address / 64) high, rw (low_six (address / 64) high, low_six (address % 64) low) (omega arith))

@@ -1,6 +1,6 @@
 -- What is written is read again.
 use Rattle.std.proofs.Common.{◌≡◌, ℕ, zero, suc, ◌+◌, ◌/◌, ◌%◌, ◌<◌, ◌≤◌, Bool, true, false, cond, ltb, leb, ◌&&◌, List, [], ◌∷◌, ◌++◌, length, get_or, map, take, Option, Some, None, Result, Ok, Err, refl, sym, ap, ◌∙◌, arith, append_assoc, inl, inr}
-use Rattle.std.specs.Prelude.{IfOk, OnOk, is_none, not}
+use Rattle.std.specs.Prelude.{IfOk, OnOk, is_none, not, slice_index}
 use Rattle.std.specs.Global.{Vec}
 use Rattle.std.specs.List.{list_all, flat_map}
 use Rattle.std.proofs.lemmas.Bool.{eqb-true, ltb-true, ltb-false, leb-true, cases_lt}
@@ -8,7 +8,7 @@ use Rattle.std.proofs.lemmas.List.{get_or-map, take_more, append-nil, get_or_pas
 use Rattle.std.proofs.lemmas.List.Concat.{flat_map-cons}
 use Rattle.std.proofs.lemmas.Grind.{flat_map-append}
 use Rattle.ds_codec.specs.declared.size.Mode.{Mode}
-use Rattle.ds_codec.specs.declared.size.Mode.TheVariants.{Bits14}
+use Rattle.ds_codec.specs.declared.size.Mode.TheVariants.{Bits14, Bits16}
 use Rattle.ds_codec.specs.declared.command.Command.{Command}
 use Rattle.ds_codec.specs.declared.command.Command.TheVariants as command
 use Rattle.ds_codec.specs.declared.order.Order.{Order}
@@ -33,13 +33,20 @@ no_flaw true flaw e = refl
 no_flaw false flaw e = absurd cc
 
 -- two bytes of an address, as they are written
-written_spells : (mode : Mode) (cells address : ℕ) → cells ≤ limit_of mode → address < cells
+pub written_spells : (mode : Mode) (cells address : ℕ) → cells ≤ limit_of mode → address < cells
     → (first : ℕ) × (second : ℕ) × (written_address mode cells address ≡ first ∷ second ∷ []) × SpellsAddress mode address first second
 written_spells Bits14 cells address few inside =
     elim (leb cells 4096) as (λ b. leb cells 4096 ≡ b → (first : ℕ) × (second : ℕ) × (cond b (six_bit_code (address / 64) ∷ six_bit_code (address % 64) ∷ []) (address / 256 ∷ address % 256 ∷ []) ≡ first ∷ second ∷ []) × SpellsAddress Bits14 address first second) [
-      | true ↦ λ small. let le : cells ≤ 4096 = leb-true _ _ small in (_, _, refl, six_bit_spells Bits14 address (omega arith))
+      | true ↦ λ small. let le : cells ≤ 4096 = leb-true _ _ small in (_, _, refl, six_bit_spells address (omega arith))
       | false ↦ λ large. (_, _, refl, inl (omega arith, omega arith))
     ] refl
+written_spells Bits16 cells address few inside = (_, _, refl, omega arith)
+
+pub written_spelled : (mode : Mode) (cells address : ℕ) → cells ≤ limit_of mode → address < cells
+    → SpellsAddress mode address (slice_index (written_address mode cells address) 0) (slice_index (written_address mode cells address) 1)
+written_spelled mode cells address few inside =
+    let w = written_spells mode cells address few inside in
+    rw (w.2) (w.3)
 
 pairs_spelled : (pairs : List ℕ) → are_good_pairs pairs ≡ true → SpellsPairs pairs ((length pairs / 2) ∷ pairs)
 pairs_spelled pairs good =

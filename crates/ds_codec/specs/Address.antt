@@ -1,29 +1,32 @@
 -- Buffer addresses, as two bytes.
 use Rattle.std.specs.Prelude.{◌≡◌, ℕ, ◌+◌, ◌*◌, ◌/◌, ◌%◌, ◌⊎◌, List, [], ◌∷◌, Option, Some, None, nat_le, ◌==◌, if◌then◌else◌, slice_index}
 use Rattle.ds_codec.specs.declared.size.Mode.{Mode}
-use Rattle.ds_codec.specs.declared.size.Mode.TheVariants.{Bits14}
+use Rattle.ds_codec.specs.declared.size.Mode.TheVariants.{Bits14, Bits16}
 
 -- the first two bits of a byte
 abbrev pub top_bits : ℕ → ℕ
 top_bits byte = byte / 64 % 4
 
--- Two bytes that begin with 00 are a number of 14 bits, the high byte first. Where they begin with 01 or 11 the
+-- Of 14 bits: two bytes that begin with 00 are a number of 14 bits, the high byte first. Where they begin with 01 or 11 the
 -- low six bits of each are a number of 12 bits; that the first two bits of the second byte may then be any is our own
--- rule. No address begins with 10.
+-- rule. No address begins with 10. Of 16 bits: any two bytes are a number, the high byte first.
 abbrev pub SpellsAddress : Mode → ℕ → ℕ → ℕ → Type 0
 SpellsAddress Bits14 address first second =
     ((top_bits first ≡ 0) × (address ≡ 256 * (first % 64) + second))
     ⊎ (((top_bits first ≡ 1) ⊎ (top_bits first ≡ 3)) × (address ≡ 64 * (first % 64) + second % 64))
+SpellsAddress Bits16 address first second = address ≡ 256 * first + second
 
 -- the form that no address takes
 abbrev pub IsReserved : Mode → ℕ → Type 0
 IsReserved Bits14 first = top_bits first ≡ 2
+IsReserved Bits16 first = ⊥
 
 -- the address that two bytes spell
 abbrev pub address_at : Mode → ℕ → ℕ → Option ℕ
 address_at Bits14 first second =
     if top_bits first == 0 then Some (256 * (first % 64) + second)
     else (if top_bits first == 2 then None else Some (64 * (first % 64) + second % 64))
+address_at Bits16 first second = Some (256 * first + second)
 
 -- the byte that stands for six bits in what is sent: each is a character that can be printed
 abbrev pub six_bit_codes : List ℕ
@@ -36,8 +39,9 @@ six_bit_codes =
 unfoldable pub six_bit_code : ℕ → ℕ
 six_bit_code value = slice_index six_bit_codes value
 
--- the form that is written: six-bit codes where twelve bits reach every cell, else 14 bits
+-- the form that is written: of 14 bits six-bit codes where twelve bits reach every cell, else, and of 16 bits always, a number
 abbrev pub written_address : Mode → ℕ → ℕ → List ℕ
 written_address Bits14 cells address =
     if nat_le cells 4096 then six_bit_code (address / 64) ∷ six_bit_code (address % 64) ∷ []
     else address / 256 ∷ address % 256 ∷ []
+written_address Bits16 cells address = address / 256 ∷ address % 256 ∷ []

@@ -2,7 +2,7 @@
 use Rattle.std.specs.Prelude.{ℕ, ◌*◌, ◌≤◌, Bool, ◌&&◌, nat_le, Option, Some, None, if◌then◌else◌}
 use Rattle.ds_codec.specs.declared.size.Size.{Size}
 use Rattle.ds_codec.specs.declared.size.Mode.{Mode}
-use Rattle.ds_codec.specs.declared.size.Mode.TheVariants.{Bits14}
+use Rattle.ds_codec.specs.declared.size.Mode.TheVariants.{Bits14, Bits16}
 
 -- what a geometry is: its two sizes, and how addresses are spelled
 pub record Sizes : Type 0 where
@@ -13,6 +13,7 @@ pub record Sizes : Type 0 where
 -- the most cells that a mode can address
 abbrev pub limit_of : Mode → ℕ
 limit_of Bits14 = 16384
+limit_of Bits16 = 65025
 
 abbrev pub cells_of : Size → ℕ
 cells_of size = size.rows * size.cols

@@ -1,6 +1,6 @@
 //! Buffer addresses as two bytes (GA23-0059, "Buffer addressing").
 
-ghost use Rattle.std.specs.Prelude.{◌≡◌, ◌<◌, ◌≤◌, ℕ, ◌/◌, ◌%◌, IfSome, IsNone, ◌↔◌, slice_index, [], ◌∷◌};
+ghost use Rattle.std.specs.Prelude.{◌≡◌, ◌<◌, ◌≤◌, ℕ, ◌/◌, ◌%◌, ◌^◌, IfSome, IsNone, ◌↔◌, slice_index, [], ◌∷◌};
 ghost use Rattle.ds_codec.specs.Address.{SpellsAddress, IsReserved, address_at, written_address, six_bit_code};
 ghost use Rattle.ds_codec.specs.Geometry.{limit_of};
 
@@ -15,8 +15,8 @@ const SIX_BIT_CODES: [u8; 64] = [
     0xF0, 0xF1, 0xF2, 0xF3, 0xF4, 0xF5, 0xF6, 0xF7, 0xF8, 0xF9, 0x7A, 0x7B, 0x7C, 0x7D, 0x7E, 0x7F, //
 ];
 
-/// The address that two bytes spell: of 14 bits where the first begins with 00, of 12 bits where it
-/// begins with 01 or 11. `None` exactly for the reserved form, which begins with 10.
+/// The address that two bytes spell. In the mode of 14 bits: of 14 bits where the first begins with 00, of 12 bits where
+/// it begins with 01 or 11; `None` exactly for the reserved form, which begins with 10. In the mode of 16 bits: both bytes.
 pub fn decode_address(mode: Mode, first: u8, second: u8) -> Option<u32>
     ensures spelled { IfSome result (λ address. SpellsAddress mode address first second) }
     ensures only { (address : ℕ) → SpellsAddress mode address first second → result ≡ Some address }
@@ -29,16 +29,25 @@ pub fn decode_address(mode: Mode, first: u8, second: u8) -> Option<u32>
             2 => None,
             _ => Some(u32::from(first % 64) * 64 + u32::from(second % 64)),
         },
+        Mode::Bits16 => Some(u32::from(BigEndian::read_u16(&[first, second]))),
     }
 }
 
-/// The bytes of an address as they are written: six-bit codes for a buffer of up to 4,096 cells,
-/// else 14 bits.
+/// The bytes of an address as they are written. In the mode of 14 bits: six-bit codes for a buffer of up to 4,096 cells,
+/// else 14 bits. In the mode of 16 bits: 16 bits.
 pub fn encode_address(mode: Mode, cells: u32, address: u32) -> [u8; 2]
     requires inside { address < cells }
     requires few { cells ≤ limit_of mode }
     ensures written { result ≡ written_address mode cells address }
     ensures spelled { SpellsAddress mode address (slice_index result 0) (slice_index result 1) }
+{
+    encoded(mode, cells, address)
+}
+
+fn encoded(mode: Mode, cells: u32, address: u32) -> [u8; 2]
+    requires inside { address < cells }
+    requires few { cells ≤ limit_of mode }
+    ensures { result ≡ written_address mode cells address }
 {
     match mode {
         Mode::Bits14 => {
@@ -48,12 +57,20 @@ pub fn encode_address(mode: Mode, cells: u32, address: u32) -> [u8; 2]
                     to_six_bit_code((address % 64) as u8),
                 ]
             } else {
-                let mut bytes = [0; 2];
-                BigEndian::write_u16(&mut bytes, address as u16);
-                bytes
+                two_bytes(address)
             }
         }
+        Mode::Bits16 => two_bytes(address),
     }
+}
+
+fn two_bytes(address: u32) -> [u8; 2]
+    requires { address < 2 ^ 16 }
+    ensures { result ≡ address / 256 ∷ address % 256 ∷ [] }
+{
+    let mut bytes = [0; 2];
+    BigEndian::write_u16(&mut bytes, address as u16);
+    bytes
 }
 
 /// The byte that stands for six bits in what is written.

@@ -86,6 +86,7 @@ pub fn most_cells(mode: Mode) -> u32
 {
     match mode {
         Mode::Bits14 => 16_384,
+        Mode::Bits16 => 65_025,
     }
 }
 

@@ -7,6 +7,8 @@ ghost use Rattle.std.specs.Prelude.{◌≡◌, ◌*◌};
 pub enum Mode {
     /// Addresses of 12 or 14 bits.
     Bits14,
+    /// Addresses of 16 bits.
+    Bits16,
 }
 
 impl Mode {

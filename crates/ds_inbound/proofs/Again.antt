@@ -9,7 +9,7 @@ use Rattle.ds_codec.specs.Address.{SpellsAddress, written_address, six_bit_code}
 use Rattle.ds_codec.specs.Aid.{is_short_aid}
 use Rattle.ds_codec.specs.Geometry.{limit_of, cells_of}
 use Rattle.ds_codec.proofs.Below.{both_true}
-use Rattle.ds_codec.proofs.Codes.{six_bit_spells}
+use Rattle.ds_codec.proofs.Written.{written_spells}
 use Rattle.ds_screen.specs.Picture.{Picture, IsSound}
 use Rattle.ds_screen.specs.Fields.{attributes_from}
 use Rattle.ds_inbound.specs.Answer.{Sent, Answer, lead_sent, fields_sent, short_answer, long_answer, answer_of, written_characters, written_field, written_fields, written_after, written_answer, bytes_sent}
@@ -18,15 +18,6 @@ use Rattle.ds_inbound.specs.Sending.{is_field_sendable, HasGoodCursor, IsSendabl
 use Rattle.ds_inbound.proofs.Glyphs.{then_written}
 
 -- ---- what can be sent is spelled as it is written
-
--- two bytes of an address, as they are written
-written_spells : (mode : Mode) (cells address : ℕ) → cells ≤ limit_of mode → address < cells
-    → (first : ℕ) × (second : ℕ) × (written_address mode cells address ≡ first ∷ second ∷ []) × SpellsAddress mode address first second
-written_spells Bits14 cells address few inside =
-    elim (leb cells 4096) as (λ b. leb cells 4096 ≡ b → (first : ℕ) × (second : ℕ) × (cond b (six_bit_code (address / 64) ∷ six_bit_code (address % 64) ∷ []) (address / 256 ∷ address % 256 ∷ []) ≡ first ∷ second ∷ []) × SpellsAddress Bits14 address first second) [
-      | true ↦ λ small. let le : cells ≤ 4096 = leb-true _ _ small in (_, _, refl, six_bit_spells Bits14 address (omega arith))
-      | false ↦ λ large. (_, _, refl, inl (omega arith, omega arith))
-    ] refl
 
 address_then : (mode : Mode) (cells address : ℕ) (rest : List ℕ) → cells ≤ limit_of mode → address < cells → IsAddressThen mode cells address (written_address mode cells address ++ rest) rest
 address_then mode cells address rest few inside =

@@ -1,14 +1,29 @@
 -- What the searches of the keys come to.
-use Rattle.std.proofs.Common.{◌≡◌, ℕ, ◌+◌, ◌<◌, ◌&&◌, Bool, true, false, List, length, Some, sym, ◌∙◌, ap}
+use Rattle.std.proofs.Common.{◌≡◌, ℕ, ◌+◌, ◌-◌, ◌<◌, ◌≤◌, ◌&&◌, Bool, true, false, List, length, min, Some, None, refl, sym, ◌∙◌, ap, arith, inl, inr}
 use Rattle.std.specs.Option.{option_map, unwrap_or}
-use Rattle.std.proofs.lemmas.Bool.{cond-true, cond-false}
+use Rattle.std.proofs.lemmas.Bool.{cond-true, cond-false, cases_lt}
 use Rattle.ds_codec.specs.declared.cell.Cell.{Cell}
-use Rattle.ds_screen.specs.Ring.{ring_on, ring_back, least}
+use Rattle.ds_codec.specs.declared.cell.Cell.TheVariants.{Field, Char}
+use Rattle.ds_screen.specs.Ring.{ring_on, ring_back, ring_distance, least}
 use Rattle.ds_screen.specs.Picture.{cell_at}
-use Rattle.ds_screen.specs.Fields.{is_character}
+use Rattle.ds_screen.specs.Fields.{is_attribute, is_character, attribute_before}
 use Rattle.ds_screen.specs.Orders.{is_unprotected_attribute}
-use Rattle.ds_screen.proofs.RingLaws.{least_at, least_none, back_more}
+use Rattle.ds_screen.proofs.RingLaws.{least_at, least_none, back_more, back_cases, on_cases, back_lt, on_lt, on_more, distance_cases, search_cases}
+use Rattle.ds_screen.proofs.RuledLaws.{place_before}
+use Rattle.ds_screen.proofs.FieldLaws.{before_found, before_none}
+use Rattle.ds_screen.proofs.StretchLaws.{on_sum}
+use Rattle.ds_keys.specs.Kept.{AreAhead, AreBack}
 use Rattle.ds_keys.specs.Moves.{is_field_start, start_ahead, start_back, stops_cursor, settled_at, settled}
+
+same_some : (a b : ℕ) → Some a ≡ Some b → a ≡ b
+same_some a b e = cc
+
+distance_back : (n p k : ℕ) → p < n → k < n → ring_distance n (ring_back n p k) p ≡ k
+distance_back n p k inside few =
+    elim (back_cases n p k) [
+      | inl a ↦ elim (distance_cases n (ring_back n p k) p) [ inl d ↦ omega arith | inr d ↦ omega arith ]
+      | inr a ↦ elim (distance_cases n (ring_back n p k) p) [ inl d ↦ omega arith | inr d ↦ omega arith ]
+    ]
 
 -- ---- field starts
 -- a test of the cell and of the cell before it is the one for a field's start
@@ -26,6 +41,131 @@ ahead_found cells p k at few here misses hit =
     let found : least (length cells) (λ d. is_field_start cells (ring_on (length cells) p (d + 1))) ≡ Some k =
     least_at (length cells) k (λ d. is_field_start cells (ring_on (length cells) p (d + 1))) few misses (ap (is_field_start cells) (sym here) ∙ hit) in
     here ∙ sym (ap (λ o. unwrap_or (option_map (λ d. ring_on (length cells) p (d + 1)) o) 0) found)
+
+-- no field starts at so many positions going on, or back, from the one after p, or before it
+abbrev pub NoStartAhead : List Cell → ℕ → ℕ → Type 0
+NoStartAhead cells p k = (d : ℕ) → d < k → is_field_start cells (ring_on (length cells) p (d + 1)) ≡ false
+
+abbrev pub NoStartBack : List Cell → ℕ → ℕ → Type 0
+NoStartBack cells p k = (d : ℕ) → d < k → is_field_start cells (ring_back (length cells) p (d + 1)) ≡ false
+
+no_unprotected : (x : Cell) → is_attribute x ≡ false → is_unprotected_attribute x ≡ false
+no_unprotected (Field bits) none = absurd cc
+no_unprotected (Char character) none = refl
+
+and_false : (a b : Bool) → b ≡ false → (a && b) ≡ false
+and_false true b none = none
+and_false false b none = refl
+
+-- no field starts where a character stands before
+no_start : (cells : List Cell) (p q : ℕ) → ring_back (length cells) p 1 ≡ q → is_attribute (cell_at cells q) ≡ false → is_field_start cells p ≡ false
+no_start cells p q before none =
+    and_false (is_character (cell_at cells p)) _ (ap (λ z. is_unprotected_attribute (cell_at cells z)) before ∙ no_unprotected (cell_at cells q) none)
+
+pub ahead_run : (cells : List Cell) (p gone at run : ℕ) → p < length cells → gone + run ≤ length cells → at ≡ ring_on (length cells) p gone
+    → AreAhead cells at run → NoStartAhead cells p gone → NoStartAhead cells p (gone + run)
+ahead_run cells p gone at run inside few here none misses d below =
+    let n : ℕ = length cells in
+    elim (cases_lt d gone) [
+      | inl early ↦ misses d early
+      | inr late ↦
+          let all : gone + (d - gone) ≡ d = omega arith in
+          let there : ring_on n at (d - gone) ≡ ring_on n p d = ap (λ q. ring_on n q (d - gone)) here ∙ on_sum n p gone (d - gone) inside (omega arith) ∙ ap (ring_on n p) all in
+          let before : ring_back n (ring_on n p (d + 1)) 1 ≡ ring_on n p d =
+          place_before n n (ring_on n p d) (ring_on n p (d + 1)) (on_lt n p d inside (omega arith)) refl (sym (on_more n p d inside (omega arith))) in
+          no_start cells (ring_on n p (d + 1)) (ring_on n at (d - gone)) (before ∙ sym there) (none (d - gone) (omega arith))
+    ]
+
+-- where a search that went so far stops
+pub ahead_in : (n m p gone at run stop : ℕ) → p < n → gone + run ≤ n → m ≡ n → at ≡ ring_on n p gone → stop ≡ ring_on m at run → stop ≡ ring_on n p (gone + run)
+ahead_in n m p gone at run stop inside few len here on =
+    on ∙ ap (λ z. ring_on z at run) len ∙ ap (λ q. ring_on n q run) here ∙ on_sum n p gone run inside few
+
+-- steps back, one after the other
+pub back_sum : (n p a d : ℕ) → p < n → a + d ≤ n → ring_back n (ring_back n p a) d ≡ ring_back n p (a + d)
+back_sum n p a d inside few =
+    elim (back_cases n p a) [
+      | inl x ↦ elim (back_cases n (ring_back n p a) d) [
+        | inl y ↦ elim (back_cases n p (a + d)) [ inl z ↦ omega arith | inr z ↦ omega arith ]
+        | inr y ↦ elim (back_cases n p (a + d)) [ inl z ↦ omega arith | inr z ↦ omega arith ]
+      ]
+      | inr x ↦ elim (back_cases n (ring_back n p a) d) [
+        | inl y ↦ elim (back_cases n p (a + d)) [ inl z ↦ omega arith | inr z ↦ omega arith ]
+        | inr y ↦ elim (back_cases n p (a + d)) [ inl z ↦ omega arith | inr z ↦ omega arith ]
+      ]
+    ]
+
+-- the place two steps before p, and so many further: that of the attribute of the field start d + 1 steps before p
+pub two_back : (n p d : ℕ) → p < n → d < n → ring_back n (ring_back n p (d + 1)) 1 ≡ ring_back n (ring_back n (ring_back n p 1) 1) d
+two_back n p d inside few =
+    let q : ℕ = ring_back n p 1 in
+    let some : 0 < n = omega arith in
+    let q_inside : q < n = back_lt n p 1 inside some (omega arith) in
+    let one : 1 + d ≡ d + 1 = omega arith in
+    ap (λ z. ring_back n z 1) (ap (ring_back n p) (sym one) ∙ sym (back_sum n p 1 d inside (omega arith)))
+    ∙ back_sum n q d 1 q_inside (omega arith) ∙ ap (ring_back n q) (sym one) ∙ sym (back_sum n q 1 d q_inside (omega arith))
+
+pub two_inside : (n p : ℕ) → p < n → ring_back n (ring_back n p 1) 1 < n
+two_inside n p inside = back_lt n (ring_back n p 1) 1 (back_lt n p 1 inside (omega arith) (omega arith)) (omega arith) (omega arith)
+
+-- where a search that went so far back stops
+pub back_in : (n m p gone at run stop : ℕ) → p < n → gone + run ≤ n → m ≡ n → at ≡ ring_back n (ring_back n (ring_back n p 1) 1) gone → stop ≡ ring_back m at run
+    → stop ≡ ring_back n (ring_back n (ring_back n p 1) 1) (gone + run)
+back_in n m p gone at run stop inside few len here back =
+    back ∙ ap (λ z. ring_back z at run) len ∙ ap (λ q. ring_back n q run) here ∙ back_sum n (ring_back n (ring_back n p 1) 1) gone run (two_inside n p inside) few
+
+on_back : (n p : ℕ) → p < n → ring_on n (ring_back n p 1) 1 ≡ p
+on_back n p inside =
+    elim (back_cases n p 1) [
+      | inl a ↦ elim (on_cases n (ring_back n p 1) 1) [ inl b ↦ omega arith | inr b ↦ omega arith ]
+      | inr a ↦ elim (on_cases n (ring_back n p 1) 1) [ inl b ↦ omega arith | inr b ↦ omega arith ]
+    ]
+
+-- the position after it
+pub start_place : (n m p k stop place : ℕ) → p < n → k < n → m ≡ n → stop ≡ ring_back n (ring_back n (ring_back n p 1) 1) k → place ≡ ring_on m stop 1
+    → place ≡ ring_back n p (k + 1)
+start_place n m p k stop place inside few len stands on =
+    on ∙ ap (λ z. ring_on z stop 1) len ∙ ap (λ q. ring_on n q 1) (stands ∙ sym (two_back n p k inside few))
+    ∙ on_back n (ring_back n p (k + 1)) (back_lt n p (k + 1) inside (omega arith) (omega arith))
+
+pub home_place : (n m stop place : ℕ) → stop < n → m ≡ n → place ≡ ring_on m stop 1 → stop ≡ ring_back n place 1
+home_place n m stop place inside len on = sym (place_before n m stop place inside len on)
+
+pub back_run : (cells : List Cell) (p gone at run : ℕ) → p < length cells → gone + run ≤ length cells
+    → at ≡ ring_back (length cells) (ring_back (length cells) (ring_back (length cells) p 1) 1) gone
+    → AreBack cells at run → NoStartBack cells p gone → NoStartBack cells p (gone + run)
+back_run cells p gone at run inside few here none misses d below =
+    let n : ℕ = length cells in
+    let q : ℕ = ring_back n (ring_back n p 1) 1 in
+    elim (cases_lt d gone) [
+      | inl early ↦ misses d early
+      | inr late ↦
+          let all : gone + (d - gone) ≡ d = omega arith in
+          let q_inside : q < n = two_inside n p inside in
+          let there : ring_back n at (d - gone) ≡ ring_back n q d = ap (λ z. ring_back n z (d - gone)) here ∙ back_sum n q gone (d - gone) q_inside (omega arith) ∙ ap (ring_back n q) all in
+          no_start cells (ring_back n p (d + 1)) (ring_back n at (d - gone)) (two_back n p d inside (omega arith) ∙ sym there) (none (d - gone) (omega arith))
+    ]
+
+-- how far the search goes
+pub are_back : (cells : List Cell) (n at most q steps run : ℕ) → n ≡ length cells → at < n → Some q ≡ attribute_before cells at → steps ≡ ring_distance n q at → run ≡ min steps most
+    → AreBack cells at run
+are_back cells n at most q steps run len inside nearest far is =
+    let m : ℕ = length cells in
+    elim (search_cases m (λ d. is_attribute (cell_at cells (ring_back m at d)))) [
+      | inl found ↦
+          let same : q ≡ ring_back m at found.0 = same_some _ _ (nearest ∙ sym (before_found cells m at found.0 (ring_back m at found.0) refl found.1.inside refl found.1.misses found.1.hit)) in
+          let steps_is : steps ≡ found.0 = far ∙ ap (λ k. ring_distance k q at) len ∙ ap (λ z. ring_distance m z at) same ∙ distance_back m at found.0 (omega (arith, len)) found.1.inside in
+          (λ d lt. found.1.misses d (omega (arith, steps_is)))
+      | inr none ↦ let e = nearest ∙ sym (before_none cells m at refl none) in absurd cc
+    ]
+
+pub none_back : (cells : List Cell) (at most : ℕ) → most ≤ length cells → None ≡ attribute_before cells at → AreBack cells at most
+none_back cells at most few nearest =
+    let m : ℕ = length cells in
+    elim (search_cases m (λ d. is_attribute (cell_at cells (ring_back m at d)))) [
+      | inl found ↦ let e = nearest ∙ sym (before_found cells m at found.0 (ring_back m at found.0) refl found.1.inside refl found.1.misses found.1.hit) in absurd cc
+      | inr none ↦ (λ d lt. none d (omega arith))
+    ]
 
 pub ahead_none : (cells : List Cell) (p : ℕ) → ((d : ℕ) → d < length cells → is_field_start cells (ring_on (length cells) p (d + 1)) ≡ false) → 0 ≡ start_ahead cells p
 unfolding start_ahead

@@ -100,9 +100,10 @@ fn press_in_error<C: Cells>(screen: &mut Screen<C>, key: Key) -> Pressed
 
 /// Presses a key. It takes no memory and always succeeds. A keyboard that waits ignores every key; after an
 /// error Reset alone acts, and frees it. A key that cannot act where the cursor stands is inhibited, which
-/// sets the error and nothing else. Only Clear, Erase Input and keys that look for a field go over the whole
-/// buffer; the others take time linear in the cells of the cursor's field. The lock's rules and the end of
-/// Delete at the row's end are our own.
+/// sets the error and nothing else. Keys that look for a field go from attribute to attribute by the searches of
+/// `Cells`, so in planes they cost those that they pass and not the buffer's size; Clear and Erase Input go over
+/// the whole buffer; the others take time linear in the cells of the cursor's field. The lock's rules and the
+/// end of Delete at the row's end are our own.
 #[tactic(auto, unfolding(crate::specs::KeyStep::step_of))]
 pub fn press<C: Cells>(screen: &mut Screen<C>, key: Key) -> Pressed
     ensures { KeyStep screen.old key screen.new result }

@@ -1,3 +1,5 @@
 pub mod ListLaws
 pub mod SearchLaws
 pub mod EditLaws
+pub mod BlockLaws
+pub mod PageLaws

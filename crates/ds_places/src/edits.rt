@@ -1,22 +1,20 @@
 //! Edits that keep the order. `add` alone takes memory, and each moves the entries after it once.
 
-ghost use Rattle.std.specs.Prelude.{◌≡◌, ◌≤◌, ◌<◌, ◌+◌, ℕ, ◌==◌, ◌&&◌, nat_le, nat_lt, if◌then◌else◌, Some, None, unwrap_or, vec_capacity, OnOk, OnErr};
-ghost use Rattle.ds_places.specs.Places.{IsRising, IsWithin, at_place, is_round};
+ghost use Rattle.std.specs.Prelude.{◌≡◌, ◌≤◌, ◌<◌, ℕ, ◌==◌, ◌&&◌, nat_le, nat_lt, if◌then◌else◌, Some, None, unwrap_or, vec_capacity, length, OnOk, OnErr};
+ghost use Rattle.ds_places.specs.Places.{IsRising, at_place};
 
 use crate::placed::Placed;
 use crate::search::{rank, rank_from, slot};
 use std::alloc::AllocError;
 
-/// Stores an entry at its place, over the one that it held, where there is room for an entry at each of so many places.
-pub fn store<T: Placed>(entries: &mut Vec<T>, places: u32, entry: T)
+/// Stores an entry at its place, over the one that it held, where there is room for one more if it held none.
+pub(crate) fn store<T: Placed>(entries: &mut Vec<T>, entry: T)
     requires rising { IsRising T.place_of entries.old.items }
-    requires inside { IsWithin T.place_of places entries.old.items }
-    requires below { T.place_of entry < places }
-    requires room { places ≤ vec_capacity entries.old }
+    requires room { at_place T.place_of entries.old.items (T.place_of entry) ≡ None
+        → length entries.old.items < vec_capacity entries.old }
     ensures stored { (q : ℕ) → at_place T.place_of entries.new.items q
         ≡ (if T.place_of entry == q then Some entry else at_place T.place_of entries.old.items q) }
     ensures rising { IsRising T.place_of entries.new.items }
-    ensures inside { IsWithin T.place_of places entries.new.items }
     ensures room { vec_capacity entries.new ≡ vec_capacity entries.old }
 {
     match slot(entries, entry.place()) {
@@ -45,14 +43,12 @@ pub fn add<T: Placed>(entries: &mut Vec<T>, entry: T) -> Result<(), AllocError>
 }
 
 /// Takes out the entries from a place on, up to another, which is none of them.
-pub fn cut<T: Placed>(entries: &mut Vec<T>, from: u32, to: u32)
+pub(crate) fn cut<T: Placed>(entries: &mut Vec<T>, from: u32, to: u32)
     requires rising { IsRising T.place_of entries.old.items }
     requires order { from ≤ to }
     ensures cut { (q : ℕ) → at_place T.place_of entries.new.items q
         ≡ (if nat_le from q && nat_lt q to then None else at_place T.place_of entries.old.items q) }
     ensures rising { IsRising T.place_of entries.new.items }
-    ensures inside { (places : ℕ) → IsWithin T.place_of places entries.old.items
-        → IsWithin T.place_of places entries.new.items }
     ensures room { vec_capacity entries.new ≡ vec_capacity entries.old }
 {
     let start = rank(entries, from);
@@ -61,27 +57,6 @@ pub fn cut<T: Placed>(entries: &mut Vec<T>, from: u32, to: u32)
         let left = entries.len() - (end - start);
         entries.copy_within(end.., start);
         entries.truncate(left);
-    }
-}
-
-/// Takes out the entries at so many places from one on, round a ring of places.
-pub fn cut_round<T: Placed>(entries: &mut Vec<T>, places: u32, from: u32, steps: u32)
-    requires rising { IsRising T.place_of entries.old.items }
-    requires inside { IsWithin T.place_of places entries.old.items }
-    requires below { from < places }
-    requires few { steps ≤ places }
-    ensures cut { (q : ℕ) → at_place T.place_of entries.new.items q
-        ≡ (if is_round places from steps q then None else at_place T.place_of entries.old.items q) }
-    ensures rising { IsRising T.place_of entries.new.items }
-    ensures inside { IsWithin T.place_of places entries.new.items }
-    ensures room { vec_capacity entries.new ≡ vec_capacity entries.old }
-{
-    let left = places - from;
-    if steps <= left {
-        cut(entries, from, from + steps);
-    } else {
-        cut(entries, from, places);
-        cut(entries, 0, steps - left);
     }
 }
 
@@ -118,18 +93,15 @@ mod tests {
     }
 
     #[test]
-    fn entries_are_stored_and_cut(rt: HostRuntime) -> Result<(), Fail> {
-        let mut entries: Vec<u32> = Vec::with_capacity(rt.alloc(), 20)?;
-        store(&mut entries, 20, 6);
-        store(&mut entries, 20, 19);
-        store(&mut entries, 20, 2);
-        store(&mut entries, 20, 5);
-        store(&mut entries, 20, 6);
+    fn entries_are_cut(rt: HostRuntime) -> Result<(), Fail> {
+        let mut entries: Vec<u32> = Vec::new(rt.alloc());
+        add(&mut entries, 6)?;
+        add(&mut entries, 19)?;
+        add(&mut entries, 2)?;
+        add(&mut entries, 5)?;
         assert_eq!(rt; entries.as_slice(), [2, 5, 6, 19].as_slice());
         cut(&mut entries, 3, 6);
         assert_eq!(rt; entries.as_slice(), [2, 6, 19].as_slice());
-        cut_round(&mut entries, 20, 18, 5);
-        assert_eq!(rt; entries.as_slice(), [6].as_slice());
         Ok(())
     }
 }

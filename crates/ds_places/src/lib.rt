@@ -1,10 +1,15 @@
 //! Lists of entries in the rising order of their places, with searches by halving and edits that keep the order.
 #![tactic(auto)]
 
+mod blocks;
+mod change;
 mod edits;
+mod pages;
 mod placed;
 mod search;
 
-pub use edits::{add, cut, cut_round, store};
+pub use change::Change;
+pub use edits::add;
+pub use pages::Pages;
 pub use placed::Placed;
-pub use search::{first_from, held, last_below, rank};
+pub use search::held;

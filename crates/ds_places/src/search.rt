@@ -9,7 +9,7 @@ ghost use Rattle.ds_places.specs.Nearest.{IsSlot, IsLastBelow, IsFirstFrom};
 use crate::placed::Placed;
 
 /// How many entries have a place below this one: the index of the first that has not.
-pub fn rank<T: Placed>(entries: &[T], place: u32) -> usize
+pub(crate) fn rank<T: Placed>(entries: &[T], place: u32) -> usize
     requires { IsRising T.place_of entries.now }
     ensures parts { IsPartitionPoint (λ entry. T.place_of entry < place)
         (λ entry. place ≤ T.place_of entry) entries.now result }
@@ -73,7 +73,7 @@ pub fn held<T: Placed>(entries: &[T], place: u32) -> Option<T>
 }
 
 /// The entry at the greatest place below this one.
-pub fn last_below<T: Placed>(entries: &[T], place: u32) -> Option<T>
+pub(crate) fn last_below<T: Placed>(entries: &[T], place: u32) -> Option<T>
     requires { IsRising T.place_of entries.now }
     ensures { IsLastBelow T.place_of entries.now place result }
 {
@@ -86,7 +86,7 @@ pub fn last_below<T: Placed>(entries: &[T], place: u32) -> Option<T>
 }
 
 /// The entry at the least place from this one on.
-pub fn first_from<T: Placed>(entries: &[T], place: u32) -> Option<T>
+pub(crate) fn first_from<T: Placed>(entries: &[T], place: u32) -> Option<T>
     requires { IsRising T.place_of entries.now }
     ensures { IsFirstFrom T.place_of entries.now place result }
 {

@@ -8,7 +8,7 @@ use Rattle.std.proofs.lemmas.List.{get_or_default}
 use Rattle.ds_codec.specs.declared.cell.Cell.{Cell}
 use Rattle.ds_codec.specs.declared.cell.Cell.TheVariants.{Field, Char}
 use Rattle.ds_places.specs.Places.{at_place, IsRising}
-use Rattle.ds_places.specs.Nearest.{IsFirstFrom}
+use Rattle.ds_places.specs.Nearest.{IsFirstFrom, IsLastBelow}
 use Rattle.ds_places.proofs.ListLaws.{rises_order, at_none, at_held}
 use Rattle.ds_screen.specs.Ring.{ring_on, ring_back}
 use Rattle.ds_screen.specs.Picture.{cell_at}
@@ -134,6 +134,42 @@ before_round index cells p k listed inside last later =
           ])
     ])
     there.0
+
+-- ---- the search back by the entries below a place
+pub before_last : (index : List ℕ) (cells : List Cell) (p q : ℕ) → IsIndex index cells → p < length cells → IsLastBelow itself index (p + 1) (Some q) → Some q ≡ attribute_before cells p
+before_last index cells p q listed inside found =
+    let n : ℕ = length cells in
+    let back : ring_back n p (p - q) ≡ q = elim (back_cases n p (p - q)) [ inl a ↦ omega (arith, a.1, found.0) | inr a ↦ omega (arith, a.0) ] in
+    before_found cells n p (p - q) q refl (omega (arith, inside)) (sym back)
+    (λ e few. elim (back_cases n p e) [
+      | inl a ↦ none_held index cells (ring_back n p e) listed (found.2 (ring_back n p e) (omega (arith, a.1, few)) (omega (arith, a.1)))
+      | inr a ↦ absurd (omega (arith, a.0, few))
+    ])
+    (held_attribute index cells q q listed found.1).0
+
+before_wrap : (index : List ℕ) (cells : List Cell) (p q : ℕ) → IsIndex index cells → p < length cells → IsLastBelow itself index (p + 1) None → IsLastBelow itself index (length cells) (Some q)
+    → Some q ≡ attribute_before cells p
+before_wrap index cells p q listed inside none found =
+    let n : ℕ = length cells in
+    let ahead : p < q = elim (cases_lt p q) [
+      | inl less ↦ less
+      | inr more ↦ let e = sym (none q (omega (arith, more))) ∙ found.1 in absurd cc
+    ] in
+    let d : ℕ = p + n - q in
+    let back : ring_back n p d ≡ q = elim (back_cases n p d) [ inl a ↦ omega (arith, a.0, found.0, ahead) | inr a ↦ omega (arith, a.1, found.0) ] in
+    before_found cells n p d q refl (omega (arith, found.0, ahead)) (sym back)
+    (λ e few. elim (back_cases n p e) [
+      | inl a ↦ none_held index cells (ring_back n p e) listed (none (ring_back n p e) (omega (arith, a.1)))
+      | inr a ↦ none_held index cells (ring_back n p e) listed (found.2 (ring_back n p e) (omega (arith, a.1, few, found.0, ahead)) (omega (arith, a.0, a.1, few, found.0, ahead)))
+    ])
+    (held_attribute index cells q q listed found.1).0
+
+pub before_again : (index : List ℕ) (cells : List Cell) (p : ℕ) (o : Option ℕ) → IsIndex index cells → p < length cells → IsLastBelow itself index (p + 1) None → IsLastBelow itself index (length cells) o
+    → o ≡ attribute_before cells p
+before_again index cells p None listed inside none found =
+    before_none cells (length cells) p refl (λ e few. none_held index cells (ring_back (length cells) p e) listed (found (ring_back (length cells) p e)
+    (elim (back_cases (length cells) p e) [ inl a ↦ omega (arith, a.1, inside) | inr a ↦ omega (arith, a.0, a.1) ])))
+before_again index cells p (Some q) listed inside none found = before_wrap index cells p q listed inside none found
 
 -- ---- the search on
 pub from_ahead : (index : List ℕ) (cells : List Cell) (p q : ℕ) → IsIndex index cells → IsFirstFrom itself index p (Some q) → Some q ≡ attribute_from cells p

@@ -1,15 +1,13 @@
 -- What is done to the cells of planes, and to the index of their attributes.
-use Rattle.std.proofs.Common.{◌≡◌, ℕ, zero, suc, ◌+◌, ◌-◌, ◌%◌, min, ◌<◌, ◌≤◌, ◌&&◌, ◌||◌, Bool, true, false, cond, eqb, leb, ltb, List, [], ◌∷◌, length, get_or, set, Option, Some, None, refl, sym, ◌∙◌, ap, subst, arith, inl, inr, get_or-set_same, get_or-set_other}
+use Rattle.std.proofs.Common.{◌≡◌, ℕ, zero, suc, ◌+◌, ◌-◌, ◌%◌, min, ◌<◌, ◌≤◌, ◌&&◌, ◌||◌, Bool, true, false, cond, eqb, leb, ltb, List, length, get_or, set, Option, Some, None, refl, sym, ◌∙◌, ap, subst, arith, inl, inr, get_or-set_same, get_or-set_other}
 use Rattle.std.specs.Option.{unwrap_or, option_map}
 use Rattle.std.proofs.Math.Nat.{mod-add-mod, mod-eq_of_lt, mod_self}
-use Rattle.std.proofs.lemmas.Bool.{cond-true, cond-false, cases_Bool, cases_lt, cases_eq, eqb-true, eq-eqb, ne_eqb, leb-true, ltb-true, lt-ltb, le-ltb, le-leb, lt-leb}
+use Rattle.std.proofs.lemmas.Bool.{cond-true, cond-false, cases_lt, cases_eq, eq-eqb, ne_eqb, leb-true, ltb-true, lt-ltb, le-ltb, le-leb, lt-leb}
 use Rattle.ds_codec.specs.declared.cell.Cell.{Cell}
 use Rattle.ds_codec.specs.declared.cell.Cell.TheVariants.{Field, Char}
 use Rattle.ds_codec.specs.Character.{Glyph, glyph, null}
 use Rattle.ds_places.specs.Places.{at_place, IsRising, IsWithin, is_round}
 use Rattle.ds_places.specs.Nearest.{IsFirstFrom}
-use Rattle.ds_places.proofs.ListLaws.{rises_order}
-use Rattle.ds_places.proofs.SearchLaws.{Parts}
 use Rattle.ds_screen.specs.declared.records.Reset.{Reset}
 use Rattle.ds_screen.specs.declared.records.Reset.TheVariants.{Every, Unprotected}
 use Rattle.ds_screen.specs.declared.mark.Mark.{Mark}
@@ -23,10 +21,10 @@ use Rattle.ds_screen.specs.Planes.{filled_cell, written_cell, itself, spot_of, I
 use Rattle.ds_screen.proofs.RuledLaws.{length-ruled, cell_at-ruled, ruled_same, as_ruled}
 use Rattle.ds_screen.proofs.TabLaws.{first_hit, first_miss}
 use Rattle.ds_screen.proofs.EraseLaws.{reaches}
-use Rattle.ds_screen.proofs.MarkLaws.{past_blank, round_distance, not_unprotected, text_each}
+use Rattle.ds_screen.proofs.MarkLaws.{past_blank, round_distance, not_unprotected, text_each, NoneFree}
 use Rattle.ds_screen.proofs.RunLaws.{run_cell, greatest_hit, greatest_miss}
 use Rattle.ds_screen.proofs.PlaneLaws.{both_ends}
-use Rattle.ds_screen.proofs.HalvingLaws.{held_attribute, none_held, gap, here_held}
+use Rattle.ds_screen.proofs.HalvingLaws.{held_attribute, none_held}
 
 -- ---- an index of cells that a rule says
 pub listed_ruled : (index : List ℕ) (n : ℕ) (rule : ℕ → Cell) → IsRising itself index → IsWithin itself n index
@@ -104,92 +102,41 @@ pub null_cells : (cells : List Cell) (b stop : ℕ) → ruled (length cells) (fi
 unfolding nulled_cell
 null_cells cells b stop = refl
 
--- ---- the entries of an index
-pub place_index : (xs : List ℕ) (q r : ℕ) → at_place itself xs q ≡ Some r → (k : ℕ) × (k < length xs) × (get_or xs k 0 ≡ q)
-place_index [] q r held = absurd (let e = held in cc)
-place_index (x ∷ xs) q r held =
-    elim (cases_Bool (eqb x q)) [
-      | inl same ↦ (0, omega arith, eqb-true x q same)
-      | inr apart ↦
-          let more = place_index xs q r (sym (cond-false (eqb x q) (Some x) (at_place itself xs q) apart) ∙ held) in
-          (suc more.0, omega (arith, more.1), more.2)
-    ]
-
-spot_there : (q : ℕ) (cell : Cell) → is_attribute cell ≡ true → spot_of q cell ≡ Some q
-spot_there q (Field bits) e = refl
-spot_there q (Char c) e = absurd cc
-
--- an attribute from a place on is one of the entries from the place's rank on
-pub entry_from : (index : List ℕ) (cells : List Cell) (from start r : ℕ) → IsIndex index cells → Parts itself index from start → from ≤ r → is_attribute (cell_at cells r) ≡ true
-    → (k : ℕ) × (start ≤ k) × (k < length index) × (get_or index k 0 ≡ r)
-entry_from index cells from start r listed parts above there =
-    let found = place_index index r r (listed.each r ∙ spot_there r (cell_at cells r) there) in (
-      found.0,
-      elim (cases_lt found.0 start) [
-        | inl early ↦ let small : get_or index found.0 0 < from = parts.0 found.0 0 (omega (arith, found.1)) early in absurd (omega (arith, small, found.2, above))
-        | inr late ↦ late
-      ],
-      found.1,
-      found.2,
-    )
-
--- none of the entries up to i is unprotected
-abbrev pub NoneOfThese : List ℕ → List Cell → ℕ → ℕ → Type 0
-NoneOfThese index cells start i = (k : ℕ) → start ≤ k → k < i → is_unprotected_attribute (cell_at cells (get_or index k 0)) ≡ false
-
-entry_below : (index : List ℕ) (k i : ℕ) → IsRising itself index → k < length index → i < length index → get_or index k 0 < get_or index i 0 → k < i
-entry_below index k i rising lk li less =
-    elim (cases_lt k i) [
-      | inl lt ↦ lt
-      | inr ge ↦ elim (cases_eq k i) [
-        | inl same ↦ absurd (omega (arith, less, ap (λ z. get_or index z 0) same))
-        | inr apart ↦ let more = rises_order itself 0 index rising i k 0 (omega arith) lk in absurd (omega (arith, more, less))
-      ]
-    ]
-
-pub stop_found : (index : List ℕ) (cells : List Cell) (from start i : ℕ) → IsIndex index cells → Parts itself index from start → start ≤ i → i < length index
-    → NoneOfThese index cells start i → is_unprotected_attribute (cell_at cells (get_or index i 0)) ≡ true
-    → ring_on (length cells) (get_or index i 0) 1 ≡ tab_stop cells from
-stop_found index cells from start i listed parts order lt misses hit =
-    let q : ℕ = get_or index i 0 in
+pub stop_found : (index : List ℕ) (cells : List Cell) (from at q : ℕ) → IsIndex index cells → from ≤ at → IsFirstFrom itself index at (Some q)
+    → NoneFree cells from at → is_unprotected_attribute (cell_at cells q) ≡ true → ring_on (length cells) q 1 ≡ tab_stop cells from
+stop_found index cells from at q listed order found misses hit =
     sym (ap (behind (length cells)) (first_hit is_unprotected_attribute cells from q
     (record {
-      ahead = parts.1 i 0 order lt;
-      inside = (here_held index cells i listed lt).1;
-      misses = λ r low below. elim (cases_Bool (is_attribute (cell_at cells r))) [
-        | inl there ↦
-            let found = entry_from index cells from start r listed parts low there in
-            ap (λ z. is_unprotected_attribute (cell_at cells z)) (sym found.3)
-            ∙ misses found.0 found.1 (entry_below index found.0 i listed.rising found.2 lt (omega (arith, found.3, below)))
-        | inr none ↦ not_unprotected (cell_at cells r) none
+      ahead = omega (arith, found.0);
+      inside = (held_attribute index cells q q listed found.1).2;
+      misses = λ r low below. elim (cases_lt r at) [
+        | inl early ↦ misses r low early
+        | inr late ↦ not_unprotected (cell_at cells r) (none_held index cells r listed (found.2 r late below))
       ];
       hit = hit;
     })))
 
-pub stop_nowhere : (index : List ℕ) (cells : List Cell) (from start : ℕ) → IsIndex index cells → Parts itself index from start
-    → NoneOfThese index cells start (length index) → 0 ≡ tab_stop cells from
-stop_nowhere index cells from start listed parts misses =
+pub stop_nowhere : (index : List ℕ) (cells : List Cell) (from at : ℕ) → IsIndex index cells → IsFirstFrom itself index at None
+    → NoneFree cells from at → 0 ≡ tab_stop cells from
+stop_nowhere index cells from at listed none misses =
     sym (ap (behind (length cells)) (first_miss is_unprotected_attribute cells from
-    (λ r low lt. elim (cases_Bool (is_attribute (cell_at cells r))) [
-      | inl there ↦
-          let found = entry_from index cells from start r listed parts low there in
-          ap (λ z. is_unprotected_attribute (cell_at cells z)) (sym found.3) ∙ misses found.0 found.1 found.2
-      | inr none ↦ not_unprotected (cell_at cells r) none
+    (λ r low lt. elim (cases_lt r at) [
+      | inl early ↦ misses r low early
+      | inr late ↦ not_unprotected (cell_at cells r) (none_held index cells r listed (none r late))
     ])))
 
-pub stop_more : (index : List ℕ) (cells : List Cell) (start i : ℕ) → NoneOfThese index cells start i → is_unprotected_attribute (cell_at cells (get_or index i 0)) ≡ false
-    → NoneOfThese index cells start (i + 1)
-stop_more index cells start i misses shut k from below =
-    elim (cases_eq k i) [
-      | inl same ↦ ap (λ z. is_unprotected_attribute (cell_at cells (get_or index z 0))) same ∙ shut
-      | inr apart ↦ misses k from (omega arith)
+pub stop_more : (index : List ℕ) (cells : List Cell) (from at q : ℕ) → IsIndex index cells → IsFirstFrom itself index at (Some q)
+    → NoneFree cells from at → is_unprotected_attribute (cell_at cells q) ≡ false → NoneFree cells from (q + 1)
+stop_more index cells from at q listed found misses shut r low below =
+    elim (cases_lt r at) [
+      | inl early ↦ misses r low early
+      | inr late ↦ elim (cases_eq r q) [
+        | inl same ↦ ap (λ z. is_unprotected_attribute (cell_at cells z)) same ∙ shut
+        | inr apart ↦ not_unprotected (cell_at cells r) (none_held index cells r listed (found.2 r late (omega arith)))
+      ]
     ]
 
 -- ---- the tags of the attributes that are listed
--- the place after the entries up to i
-abbrev pub bound : List ℕ → ℕ → ℕ
-bound index i = cond (eqb i 0) 0 (get_or index (i - 1) 0 + 1)
-
 -- the cells of the places below a bound are reset
 abbrev pub reset_below : Reset → List Cell → ℕ → ℕ → Cell
 reset_below which cells low p = cond (ltb p low) (after_reset which (cell_at cells p)) (cell_at cells p)
@@ -200,88 +147,43 @@ keep_char Every (Char c) e = refl
 keep_char Unprotected (Field bits) e = absurd cc
 keep_char Unprotected (Char c) e = refl
 
--- no attribute lies between two entries
-quiet : (index : List ℕ) (cells : List Cell) (i p : ℕ) → IsIndex index cells → i ≤ length index → bound index i ≤ p → (i < length index → p < get_or index i 0) → is_attribute (cell_at cells p) ≡ false
-quiet index cells i p listed within low high =
-    gap index cells p listed (λ k lk same. elim (cases_lt k i) [
-      | inl early ↦
-          let last : bound index i ≡ get_or index (i - 1) 0 + 1 = cond-false (eqb i 0) 0 (get_or index (i - 1) 0 + 1) (not_zero i early) in
-          elim (cases_eq k (i - 1)) [
-            | inl one ↦ omega (arith, last, low, same, ap (λ z. get_or index z 0) one)
-            | inr less ↦ let rise = rises_order itself 0 index listed.rising k (i - 1) 0 (omega arith) (omega arith) in omega (arith, last, low, same, rise)
-          ]
-      | inr late ↦
-          let li : i < length index = omega arith in
-          let up = high li in
-          elim (cases_eq k i) [
-            | inl one ↦ omega (arith, up, same, ap (λ z. get_or index z 0) one)
-            | inr more ↦ let rise = rises_order itself 0 index listed.rising i k 0 (omega arith) lk in omega (arith, rise, up, same)
-          ]
-    ])
-  where
-    not_zero : (i : ℕ) {k : ℕ} → k < i → eqb i 0 ≡ false
-    not_zero i lt = ne_eqb i 0 (λ same. omega (arith, same))
+pub reset_reads : (cells now : List Cell) (which : Reset) (at q : ℕ) → at ≤ q → q < length cells
+    → ((p : ℕ) → p < length cells → cell_at now p ≡ reset_below which cells at p) → cell_at now q ≡ cell_at cells q
+reset_reads cells now which at q from lt each = each q lt ∙ cond-false (ltb q at) _ _ (le-ltb _ _ from)
 
-pub bound_next : (index : List ℕ) (i : ℕ) → bound index (i + 1) ≡ get_or index i 0 + 1
-bound_next index i =
-    let back : i + 1 - 1 ≡ i = omega arith in
-    cond-false (eqb (i + 1) 0) 0 (get_or index (i + 1 - 1) 0 + 1) (ne_eqb (i + 1) 0 (λ same. omega (arith, same))) ∙ ap (λ k. get_or index k 0 + 1) back
-
-bound_low : (index : List ℕ) (i : ℕ) → IsRising itself index → i < length index → bound index i ≤ get_or index i 0
-bound_low index zero rising lt = omega arith
-bound_low index (suc i) rising lt =
-    let next : bound index (i + 1) ≡ get_or index i 0 + 1 = bound_next index i in
-    let one : suc i ≡ i + 1 = omega arith in
-    let rise = rises_order itself 0 index rising i (suc i) 0 (omega arith) lt in
-    omega (arith, next, rise, ap (bound index) one)
-
-pub reset_reads : (index : List ℕ) (cells now : List Cell) (which : Reset) (i : ℕ) → IsIndex index cells → i < length index
-    → ((p : ℕ) → p < length cells → cell_at now p ≡ reset_below which cells (bound index i) p) → cell_at now (get_or index i 0) ≡ cell_at cells (get_or index i 0)
-reset_reads index cells now which i listed lt each =
-    each (get_or index i 0) (here_held index cells i listed lt).1
-    ∙ cond-false (ltb (get_or index i 0) (bound index i)) _ _ (le-ltb _ _ (bound_low index i listed.rising lt))
-
-pub reset_more : (index : List ℕ) (cells now : List Cell) (which : Reset) (i : ℕ) (cell : Cell) → IsIndex index cells → i < length index → length now ≡ length cells
-    → cell ≡ after_reset which (cell_at cells (get_or index i 0))
-    → ((p : ℕ) → p < length cells → cell_at now p ≡ reset_below which cells (bound index i) p)
-    → (p : ℕ) → p < length cells → cell_at (set now (get_or index i 0) cell) p ≡ reset_below which cells (bound index (i + 1)) p
-reset_more index cells now which i cell listed lt len is each p below =
-    let q : ℕ = get_or index i 0 in
-    let next : bound index (i + 1) ≡ q + 1 = bound_next index i in
-    let low = bound_low index i listed.rising lt in
+pub reset_more : (index : List ℕ) (cells now : List Cell) (which : Reset) (at q : ℕ) (cell : Cell) → IsIndex index cells → IsFirstFrom itself index at (Some q)
+    → length now ≡ length cells → cell ≡ after_reset which (cell_at cells q) → ((p : ℕ) → p < length cells → cell_at now p ≡ reset_below which cells at p)
+    → (p : ℕ) → p < length cells → cell_at (set now q cell) p ≡ reset_below which cells (q + 1) p
+reset_more index cells now which at q cell listed found len is each p below =
     elim (cases_eq p q) [
       | inl same ↦
-          ap (λ k. get_or (set now q cell) k blank) same ∙ get_or-set_same now q cell blank (omega (arith, (here_held index cells i listed lt).1, len)) ∙ is
+          ap (λ k. get_or (set now q cell) k blank) same ∙ get_or-set_same now q cell blank (omega (arith, below, same, len)) ∙ is
           ∙ ap (λ k. after_reset which (cell_at cells k)) (sym same)
-          ∙ sym (cond-true (ltb p (bound index (i + 1))) _ _ (lt-ltb _ _ (omega (arith, next, same))))
+          ∙ sym (cond-true (ltb p (q + 1)) _ _ (lt-ltb _ _ (omega (arith, same))))
       | inr apart ↦
           get_or-set_other now q p cell blank apart ∙ each p below
-          ∙ (elim (cases_lt p (bound index i)) [
+          ∙ (elim (cases_lt p at) [
             | inl early ↦
-                cond-true (ltb p (bound index i)) _ _ (lt-ltb _ _ early)
-                ∙ sym (cond-true (ltb p (bound index (i + 1))) _ _ (lt-ltb _ _ (omega (arith, next, low, early))))
+                cond-true (ltb p at) _ _ (lt-ltb _ _ early) ∙ sym (cond-true (ltb p (q + 1)) _ _ (lt-ltb _ _ (omega (arith, found.0, early))))
             | inr late ↦ elim (cases_lt p q) [
               | inl less ↦
-                  cond-false (ltb p (bound index i)) _ _ (le-ltb _ _ late)
-                  ∙ sym (keep_char which (cell_at cells p) (quiet index cells i p listed (omega arith) late (λ _. less)))
-                  ∙ sym (cond-true (ltb p (bound index (i + 1))) _ _ (lt-ltb _ _ (omega (arith, next, less))))
+                  cond-false (ltb p at) _ _ (le-ltb _ _ late)
+                  ∙ sym (keep_char which (cell_at cells p) (none_held index cells p listed (found.2 p late less)))
+                  ∙ sym (cond-true (ltb p (q + 1)) _ _ (lt-ltb _ _ (omega (arith, less))))
               | inr more ↦
-                  cond-false (ltb p (bound index i)) _ _ (le-ltb _ _ late)
-                  ∙ sym (cond-false (ltb p (bound index (i + 1))) _ _ (le-ltb _ _ (omega (arith, next, more, apart))))
+                  cond-false (ltb p at) _ _ (le-ltb _ _ late) ∙ sym (cond-false (ltb p (q + 1)) _ _ (le-ltb _ _ (omega (arith, more, apart))))
             ]
           ])
     ]
 
-pub reset_all : (index : List ℕ) (cells now : List Cell) (which : Reset) → IsIndex index cells → length now ≡ length cells
-    → ((p : ℕ) → p < length cells → cell_at now p ≡ reset_below which cells (bound index (length index)) p)
+pub reset_all : (index : List ℕ) (cells now : List Cell) (which : Reset) (at : ℕ) → IsIndex index cells → IsFirstFrom itself index at None → length now ≡ length cells
+    → ((p : ℕ) → p < length cells → cell_at now p ≡ reset_below which cells at p)
     → now ≡ ruled (length cells) (λ p. after_reset which (cell_at cells p))
-reset_all index cells now which listed len each =
+reset_all index cells now which at listed none len each =
     as_ruled now (length cells) (λ p. after_reset which (cell_at cells p)) len
-    (λ p lt. each p lt ∙ (elim (cases_lt p (bound index (length index))) [
-      | inl early ↦ cond-true (ltb p (bound index (length index))) _ _ (lt-ltb _ _ early)
-      | inr late ↦
-          cond-false (ltb p (bound index (length index))) _ _ (le-ltb _ _ late)
-          ∙ sym (keep_char which (cell_at cells p) (quiet index cells (length index) p listed (omega arith) late (λ more. absurd (omega arith))))
+    (λ p lt. each p lt ∙ (elim (cases_lt p at) [
+      | inl early ↦ cond-true (ltb p at) _ _ (lt-ltb _ _ early)
+      | inr late ↦ cond-false (ltb p at) _ _ (le-ltb _ _ late) ∙ sym (keep_char which (cell_at cells p) (none_held index cells p listed (none p late)))
     ]))
 
 spot_reset : (which : Reset) (p : ℕ) (c : Cell) → spot_of p c ≡ spot_of p (after_reset which c)

@@ -2,7 +2,7 @@
 
 pub(crate) mod worst;
 
-ghost use Rattle.std.specs.Prelude.{◌≡◌, ◌≤◌, ◌<◌, ◌+◌, ◌%◌, map, vec_capacity};
+ghost use Rattle.std.specs.Prelude.{◌≡◌, ◌≤◌, ◌<◌, ◌+◌, ◌%◌};
 ghost use Rattle.ds_screen.specs.Marks.{reset_mark};
 
 use crate::field::FieldAt;
@@ -12,41 +12,38 @@ use crate::records::{Reset, reset_attribute};
 use crate::ring::{distance, forward, next};
 use crate::surface::Surface;
 use ds_codec::{Attr, Cell, Char};
-use ds_places::{cut, cut_round, first_from, held, last_below, store};
+use ds_places::{Change, Pages};
 use std::alloc::{AllocError, Global};
 use std::marker::Model;
 
 /// The attributes of a buffer, and how many positions it has.
 #[derive(Drop)]
 pub(crate) struct Marks {
-    marks: Vec<Mark>,
+    marks: Pages<Mark>,
     size: u32,
     limit: u32,
 }
 
 impl Model for Marks {
-    ghost use Rattle.std.specs.Prelude.{◌≤◌, vec_capacity};
+    ghost use Rattle.std.specs.Prelude.{◌≤◌};
     ghost use Rattle.ds_screen.specs.Marks.{Marked, IsKept, marked};
 
     ghost Value = { Marked };
 
-    ghost view = { λ s. marked s.marks.items s.size s.limit };
+    ghost view = { λ s. marked s.marks.entries s.size s.limit };
 
-    ghost invariant = { λ s. IsKept (marked s.marks.items s.size s.limit)
-        × (s.limit ≤ vec_capacity s.marks) };
+    ghost invariant = { λ s. IsKept (marked s.marks.entries s.size s.limit)
+        × (s.limit ≤ s.marks.room) };
 }
 
-/// Resets modified data tags, one mark after the other.
-fn reset_marks(marks: &mut Vec<Mark>, which: Reset)
-    ensures reset { marks.new.items ≡ map (reset_mark which) marks.old.items }
-    ensures room { vec_capacity marks.new ≡ vec_capacity marks.old }
-{
-    'marks: for i in 0..marks.len() {
-        let mark = marks[i];
-        marks[i] = Mark {
-            at: mark.at,
-            attribute: reset_attribute(which, mark.attribute),
-        };
+impl Change<Mark> for Reset {
+    ghost changed = { reset_mark };
+
+    fn change(&self, entry: Mark) -> Mark {
+        Mark {
+            at: entry.at,
+            attribute: reset_attribute(*self, entry.attribute),
+        }
     }
 }
 
@@ -75,7 +72,7 @@ impl Marks {
         ensures empty { IfOk result (λ marks. (marks.marks ≡ []) × (marks.size ≡ 0)) }
         ensures room { IfOk result (λ marks. most ≤ marks.room) }
     {
-        let marks = Vec::with_capacity(alloc, most as usize)?;
+        let marks = Pages::reserved(alloc, most)?;
         Ok(Marks {
             marks,
             size: 0,
@@ -89,7 +86,7 @@ impl Marks {
         ensures { Tells IsMarked self.now
             (λ cells. result ≡ ruling_bits cells (ring_back (length cells) 0 1)) }
     {
-        match last_below(&self.marks, self.size) {
+        match self.marks.last_below(self.size) {
             Some(mark) => mark.attribute,
             None => Attr::new(0),
         }
@@ -110,10 +107,10 @@ impl Marks {
         ensures nearest { Tells IsMarked self.now (λ cells. result ≡ attribute_from cells place) }
         ensures inside { IfSome result (λ q. q < self.now.size) }
     {
-        if let Some(mark) = first_from(&self.marks, place) {
+        if let Some(mark) = self.marks.first_from(place) {
             return Some(mark.at);
         }
-        match first_from(&self.marks, 0) {
+        match self.marks.first_from(0) {
             Some(mark) => Some(mark.at),
             None => None,
         }
@@ -154,7 +151,7 @@ impl Marks {
     pub(crate) fn field_held(&self, p: u32) -> Option<FieldAt>
         ensures { Tells IsMarked self.now (λ cells. result ≡ field_there cells p) }
     {
-        match held(&self.marks, p) {
+        match self.marks.held(p) {
             Some(mark) => Some(self.field_of(mark)),
             None => None,
         }
@@ -168,7 +165,7 @@ impl Marks {
             × (field ≡ field_at (bare_cells self.now) field.at)) }
         ensures small { IfSome result (λ field. field.at + 1 < 2 ^ 32) }
     {
-        match first_from(&self.marks, from) {
+        match self.marks.first_from(from) {
             Some(mark) => Some(self.field_of(mark)),
             None => None,
         }
@@ -196,15 +193,12 @@ impl Surface for Marks {
     }
 
     fn make_copy(&mut self, other: &Marks) {
-        self.marks.clear();
-        self.marks
-            .extend_from_slice(other.marks.as_slice())
-            .unwrap();
+        self.marks.copy_from(&other.marks);
         self.size = other.size;
     }
 
     fn attribute_at(&self, p: u32) -> Option<Attr> {
-        match held(&self.marks, p) {
+        match self.marks.held(p) {
             Some(mark) => Some(mark.attribute),
             None => None,
         }
@@ -212,27 +206,27 @@ impl Surface for Marks {
 
     fn store(&mut self, p: u32, cell: Cell) {
         match cell {
-            Cell::Field(attribute) => store(&mut self.marks, self.size, Mark { at: p, attribute }),
-            Cell::Char(_) => cut(&mut self.marks, p, p + 1),
+            Cell::Field(attribute) => self.marks.store(Mark { at: p, attribute }),
+            Cell::Char(_) => self.marks.cut(p, p + 1),
         }
     }
 
     fn store_text(&mut self, b: u32, run: &[u8]) -> u32 {
         let n = self.size;
         let steps = run.len().min(n as usize) as u32;
-        cut_round(&mut self.marks, n, b, steps);
+        self.marks.cut_round(n, b, steps);
         behind(n, b, run.len())
     }
 
     fn repeat(&mut self, b: u32, stop: u32, _character: Char) {
         let steps = reach(self.size, b, stop);
-        cut_round(&mut self.marks, self.size, b, steps);
+        self.marks.cut_round(self.size, b, steps);
     }
 
     fn erase(&mut self, _b: u32, _stop: u32) {}
 
     fn null_to_attribute(&mut self, b: u32) -> u32 {
-        let Some(mark) = first_from(&self.marks, b) else {
+        let Some(mark) = self.marks.first_from(b) else {
             return self.size;
         };
         mark.at
@@ -241,7 +235,7 @@ impl Surface for Marks {
     fn stop_from(&self, from: u32) -> u32 {
         let n = self.size;
         let mut at = from;
-        'marks: while let Some(mark) = first_from(&self.marks, at) {
+        'marks: while let Some(mark) = self.marks.first_from(at) {
             if !mark.attribute.protected() {
                 return next(n, mark.at);
             }
@@ -251,14 +245,14 @@ impl Surface for Marks {
     }
 
     fn reset_modified(&mut self, which: Reset) {
-        reset_marks(&mut self.marks, which);
+        self.marks.change_each(&which);
     }
 
     fn first_open(&self) -> u32 {
         let n = self.size;
         let mut before = self.last_ruling();
         let mut place = 0;
-        'marks: while let Some(mark) = first_from(&self.marks, place) {
+        'marks: while let Some(mark) = self.marks.first_from(place) {
             if place < mark.at && !before.protected() {
                 return place;
             }

@@ -1,17 +1,16 @@
 //! A buffer kept in planes, with a sorted index of its attributes.
 
-ghost use Rattle.std.specs.Prelude.{◌≡◌, ◌≤◌, ◌<◌, ◌+◌, ◌%◌, ℕ, ◌==◌, true, if◌then◌else◌, length, vec_capacity};
+ghost use Rattle.std.specs.Prelude.{◌≡◌, ◌≤◌, ◌<◌, ◌+◌, ◌%◌, ℕ, ◌==◌, true, if◌then◌else◌, length};
 ghost use Rattle.std.specs.List.{list_all};
 ghost use Rattle.ds_codec.specs.declared.cell.Cell.{Cell};
 ghost use Rattle.ds_codec.specs.Character.{is_text};
-ghost use Rattle.ds_places.specs.Places.{IsRising, IsWithin, at_place, is_round};
+ghost use Rattle.ds_places.specs.Places.{IsRising, at_place, is_round};
 ghost use Rattle.ds_screen.specs.Picture.{cell_at, ruled};
 ghost use Rattle.ds_screen.specs.Orders.{text_cell};
 ghost use Rattle.ds_screen.specs.Reset.{after_reset};
 ghost use Rattle.ds_screen.specs.Planes.{itself, spot_if, IsIndex};
 
 use crate::cells::Cells;
-use crate::counted::attr_before_counted;
 use crate::planes::Planes;
 use crate::probed::Probed;
 use crate::ranges::reach;
@@ -20,7 +19,7 @@ use crate::ring::{distance, forward, next, previous};
 use crate::ruling::ruled_on;
 use crate::tab::is_unprotected_field;
 use ds_codec::{Attr, Cell, Char};
-use ds_places::{cut, cut_round, first_from, rank, store};
+use ds_places::Pages;
 use std::alloc::{AllocError, Global};
 use std::marker::Model;
 
@@ -29,37 +28,36 @@ use std::marker::Model;
 #[derive(Drop)]
 pub struct PlaneCells {
     planes: Planes,
-    index: Vec<u32>,
+    index: Pages<u32>,
 }
 
 impl Model for PlaneCells {
-    ghost use Rattle.std.specs.Prelude.{◌≤◌, vec_capacity};
+    ghost use Rattle.std.specs.Prelude.{◌≤◌};
     ghost use Rattle.ds_screen.specs.Planes.{Held, IsIndex};
 
     ghost Value = { Held };
 
     ghost view = { λ s. s.planes };
 
-    ghost invariant = { λ s. IsIndex s.index.items s.planes.cells
-        × (s.planes.room ≤ vec_capacity s.index) };
+    ghost invariant = { λ s. IsIndex s.index.entries s.planes.cells
+        × (s.planes.room ≤ s.index.room) };
 }
 
 /// Notes whether a position holds an attribute from now on, where it is known whether it held one.
-fn note(index: &mut Vec<u32>, places: u32, p: u32, was: bool, is: bool)
-    requires rising { IsRising itself index.old.items }
-    requires inside { IsWithin itself places index.old.items }
+fn note(index: &mut Pages<u32>, places: u32, p: u32, was: bool, is: bool)
+    requires rising { IsRising itself index.old.entries }
     requires below { p < places }
-    requires room { places ≤ vec_capacity index.old }
-    requires known { at_place itself index.old.items p ≡ spot_if p was }
-    ensures noted { (q : ℕ) → at_place itself index.new.items q
-        ≡ (if p == q then spot_if p is else at_place itself index.old.items q) }
-    ensures rising { IsRising itself index.new.items }
-    ensures room { vec_capacity index.new ≡ vec_capacity index.old }
+    requires room { places ≤ index.old.room }
+    requires known { at_place itself index.old.entries p ≡ spot_if p was }
+    ensures noted { (q : ℕ) → at_place itself index.new.entries q
+        ≡ (if p == q then spot_if p is else at_place itself index.old.entries q) }
+    ensures rising { IsRising itself index.new.entries }
+    ensures room { index.new.room ≡ index.old.room }
 {
     if is && !was {
-        store(index, places, p);
+        index.store(p);
     } else if was && !is {
-        cut(index, p, p + 1);
+        index.cut(p, p + 1);
     }
 }
 
@@ -105,16 +103,19 @@ fn write_round(planes: &mut Planes, b: u32, run: &[u8]) -> u32
 }
 
 /// Resets the modified data tags of the attributes that are listed.
-fn reset_listed(planes: &mut Planes, index: &[u32], which: Reset)
-    requires { IsIndex index.now planes.old.cells }
+fn reset_listed(planes: &mut Planes, index: &Pages<u32>, which: Reset)
+    requires { IsIndex index.now.entries planes.old.cells }
     ensures reset { planes.new ≡ record planes.old {
       cells = ruled (length planes.old.cells)
           (λ p. after_reset which (cell_at planes.old.cells p));
     } }
 {
-    'listed: for i in 0..index.len() {
-        let cell = reset_cell(which, &planes.cell(index[i]));
-        planes.put(index[i], cell);
+    let _places = planes.len();
+    let mut at = 0;
+    'listed: while let Some(q) = index.first_from(at) {
+        let cell = reset_cell(which, &planes.cell(q));
+        planes.put(q, cell);
+        at = q + 1;
     }
 }
 
@@ -132,7 +133,7 @@ impl PlaneCells {
         ensures count { result.probes ≡ 0 }
     {
         let _places = self.planes.len();
-        Probed::new(self.index.as_slice())
+        Probed::new(&self.index)
     }
 
     /// The attribute that rules a position; 00, an unprotected one, in a buffer without attributes.
@@ -238,7 +239,7 @@ impl Cells for PlaneCells {
 
     fn reserved(alloc: Global, most: u32) -> Result<PlaneCells, AllocError> {
         let planes = Planes::reserved(alloc, most)?;
-        let index = Vec::with_capacity(alloc, most as usize)?;
+        let index = Pages::reserved(alloc, most)?;
         Ok(PlaneCells { planes, index })
     }
 
@@ -263,28 +264,29 @@ impl Cells for PlaneCells {
     }
 
     fn attr_before(&self, p: u32) -> Option<u32> {
-        attr_before_counted(&mut self.probed(), p)
+        let n = self.planes.len();
+        if let Some(q) = self.index.last_below(p + 1) {
+            return Some(q);
+        }
+        self.index.last_below(n)
     }
 
     fn attr_from(&self, p: u32) -> Option<u32> {
-        if let Some(q) = first_from(&self.index, p) {
+        if let Some(q) = self.index.first_from(p) {
             return Some(q);
         }
-        first_from(&self.index, 0)
+        self.index.first_from(0)
     }
 
     fn copy_from(&mut self, other: &PlaneCells) {
-        self.index.clear();
-        self.index
-            .extend_from_slice(other.index.as_slice())
-            .unwrap();
+        self.index.copy_from(&other.index);
         self.planes.copy_from(&other.planes);
     }
 
     fn put_text(&mut self, b: u32, run: &[u8]) -> u32 {
         let n = self.planes.len();
         let steps = run.len().min(n as usize) as u32;
-        cut_round(&mut self.index, n, b, steps);
+        self.index.cut_round(n, b, steps);
         write_round(&mut self.planes, b, run)
     }
 
@@ -292,7 +294,7 @@ impl Cells for PlaneCells {
         let n = self.planes.len();
         let steps = reach(n, b, stop);
         fill_round(&mut self.planes, b, steps, character);
-        cut_round(&mut self.index, n, b, steps);
+        self.index.cut_round(n, b, steps);
     }
 
     fn erase(&mut self, b: u32, stop: u32) {
@@ -302,19 +304,19 @@ impl Cells for PlaneCells {
 
     fn null_to_attribute(&mut self, b: u32) -> u32 {
         let n = self.planes.len();
-        let stop = first_from(&self.index, b).unwrap_or(n);
+        let stop = self.index.first_from(b).unwrap_or(n);
         self.planes.fill(b, stop, Char::null());
         stop
     }
 
     fn stop_from(&self, from: u32) -> u32 {
         let n = self.planes.len();
-        let start = rank(&self.index, from);
-        'stops: for i in start..self.index.len() {
-            let q = self.index[i];
+        let mut at = from;
+        'stops: while let Some(q) = self.index.first_from(at) {
             if is_unprotected_field(self.planes.cell(q)) {
                 return next(n, q);
             }
+            at = q + 1;
         }
         0
     }

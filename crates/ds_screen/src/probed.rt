@@ -1,11 +1,12 @@
 //! An index that counts how often it is looked at. No other module sees the positions or sets the count.
 
+use ds_places::Pages;
 use std::marker::Model;
 
 /// The positions of a buffer's attributes in rising order, and how many of them were looked at.
 #[derive(Drop)]
 pub struct Probed<'a> {
-    positions: &'a [u32],
+    index: &'a Pages<u32>,
     probes: u64,
 }
 
@@ -15,30 +16,27 @@ impl<'a> Model for Probed<'a> {
 
     ghost Value = { Probing };
 
-    ghost view = { λ s. record { positions = s.positions.now; probes = s.probes } };
+    ghost view = { λ s. record { positions = s.index.now.entries; probes = s.probes } };
 
-    ghost invariant = { λ s. length s.positions.now < 2 ^ 32 };
+    ghost invariant = { λ s. length s.index.now.entries < 2 ^ 32 };
 }
 
 impl<'a> Probed<'a> {
     ghost use Rattle.std.specs.Prelude.{◌≡◌, ◌+◌, ◌<◌, ◌^◌, length, slice_index};
 
     /// An index that was not looked at yet.
-    pub(crate) fn new(positions: &'a [u32]) -> Probed<'a>
-        requires { length positions.now < 2 ^ 32 }
-        ensures { result ≡ record { positions = positions.now; probes = 0 } }
+    pub(crate) fn new(index: &'a Pages<u32>) -> Probed<'a>
+        requires { length index.now.entries < 2 ^ 32 }
+        ensures { result ≡ record { positions = index.now.entries; probes = 0 } }
     {
-        Probed {
-            positions,
-            probes: 0,
-        }
+        Probed { index, probes: 0 }
     }
 
     /// The number of positions.
     pub fn len(&self) -> u32
         ensures { result ≡ length self.now.positions }
     {
-        self.positions.len() as u32
+        self.index.len() as u32
     }
 
     /// How many positions were looked at.
@@ -57,6 +55,6 @@ impl<'a> Probed<'a> {
             ≡ record { positions = self.old.positions; probes = self.old.probes + 1 } }
     {
         self.probes += 1;
-        self.positions[i as usize]
+        self.index.get(i as usize).unwrap_or(0)
     }
 }

@@ -5,7 +5,7 @@ use Rattle.std.proofs.lemmas.Bool.{cases_lt, lt-ltb, eq-eqb, le-leb}
 use Rattle.std.proofs.lemmas.List.{get_or_past, get_or_append_left, get_or-append-add}
 use Rattle.hex.specs.Hex.{IsBytes}
 use Rattle.ds_codec.specs.declared.size.Mode.{Mode}
-use Rattle.ds_codec.specs.declared.size.Mode.TheVariants.{Bits14}
+use Rattle.ds_codec.specs.declared.size.Mode.TheVariants.{Bits14, Bits16}
 use Rattle.ds_codec.specs.Address.{SpellsAddress}
 use Rattle.ds_codec.specs.Character.{glyph}
 use Rattle.ds_codec.specs.Command.{wcc_of}
@@ -33,9 +33,10 @@ right_bytes part rest bytes i = let same : get_or (part ++ rest) (length part + 
 
 -- ---- one order
 
-near_address : (mode : Mode) (address first second : ℕ) → SpellsAddress mode address first second → second < 256 → address < 4294967296
-near_address Bits14 address first second (inl spelled) small = let e = spelled.1 in omega arith
-near_address Bits14 address first second (inr spelled) small = let e = spelled.1 in omega arith
+near_address : (mode : Mode) (address first second : ℕ) → SpellsAddress mode address first second → first < 256 → second < 256 → address < 4294967296
+near_address Bits14 address first second (inl spelled) byte small = let e = spelled.1 in omega arith
+near_address Bits14 address first second (inr spelled) byte small = let e = spelled.1 in omega arith
+near_address Bits16 address first second spelled byte small = omega arith
 
 code_small : (code : ℕ) (alt : Bool) (rest : List ℕ) → SpellsCharacter (glyph code alt) rest → IsBytes rest → code < 256
 code_small code true rest (good, is) bytes = (rw is at bytes) 1
@@ -45,15 +46,15 @@ line_item : (mode : Mode) (item : Item) (part : List ℕ) → SpellsOrder mode i
 line_item mode (text run) part (is, some, all) bytes = (some, rw is at bytes)
 line_item mode (start_field attribute) part (byte, is, six) bytes = omega arith
 line_item mode (start_field_extended pairs) part (rest, is, (count, more, even, types)) bytes = (count, even, let all : IsBytes (0x29 ∷ count ∷ pairs) = rw (is, more) at bytes in λ i. all (suc (suc i)))
-line_item mode (set_buffer_address address) part (first, second, is, spelled) bytes = near_address mode address first second spelled ((rw is at bytes) 2)
+line_item mode (set_buffer_address address) part (first, second, is, spelled) bytes = near_address mode address first second spelled ((rw is at bytes) 1) ((rw is at bytes) 2)
 line_item mode (set_attribute kind value) part (is, good) bytes = ((rw is at bytes) 1, (rw is at bytes) 2)
 line_item mode (modify_field pairs) part (rest, is, (count, more, even, types)) bytes = (count, even, let all : IsBytes (0x2C ∷ count ∷ pairs) = rw (is, more) at bytes in λ i. all (suc (suc i)))
 line_item mode insert_cursor part is bytes = tt
 line_item mode program_tab part is bytes = tt
 line_item mode (repeat_to_address address character) part (first, second, rest, is, spelled, told) bytes =
     let all : IsBytes (0x3C ∷ first ∷ second ∷ rest) = rw is at bytes in
-    (near_address mode address first second spelled (all 2), code_small character.code character.alt rest told (λ i. all (suc (suc (suc i)))), told.0)
-line_item mode (erase_unprotected_to_address address) part (first, second, is, spelled) bytes = near_address mode address first second spelled ((rw is at bytes) 2)
+    (near_address mode address first second spelled (all 1) (all 2), code_small character.code character.alt rest told (λ i. all (suc (suc (suc i)))), told.0)
+line_item mode (erase_unprotected_to_address address) part (first, second, is, spelled) bytes = near_address mode address first second spelled ((rw is at bytes) 1) ((rw is at bytes) 2)
 line_item mode (graphic_escape code) part (is, good) bytes = (rw is at bytes) 1
 
 good_pairs : (pairs rest : List ℕ) → SpellsPairs pairs rest → IsBytes rest → are_good_pairs pairs ≡ true

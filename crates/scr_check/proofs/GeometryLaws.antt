@@ -4,7 +4,7 @@ use Rattle.std.proofs.Math.Seq.{drop-cons}
 use Rattle.std.proofs.lemmas.Bool.{and_parts, eqb-true, eq-eqb}
 use Rattle.std.proofs.lemmas.List.{drop_all}
 use Rattle.ds_codec.specs.declared.size.Mode.{Mode}
-use Rattle.ds_codec.specs.declared.size.Mode.TheVariants.{Bits14}
+use Rattle.ds_codec.specs.declared.size.Mode.TheVariants.{Bits14, Bits16}
 use Rattle.ds_codec.specs.declared.size.Size.{Size}
 use Rattle.ds_codec.specs.Geometry.{Sizes}
 use Rattle.scr_check.specs.declared.talk.Turn.{Turn}
@@ -14,11 +14,21 @@ use Rattle.scr_check.specs.TalkSeen.{rounds_of, AreOfGeometry}
 abbrev pub sizes_equal : Size → Size → Bool
 sizes_equal a b = (a.rows == b.rows) && (a.cols == b.cols)
 
-abbrev pub is_same : Sizes → Sizes → Bool
-is_same a b = sizes_equal a.default b.default && (sizes_equal a.alternate b.alternate && true)
+abbrev pub modes_equal : Mode → Mode → Bool
+modes_equal a b = denote.Enum.Bare.sameb Rattle.ds_codec.specs.contracts.size.Mode.the_type a b
 
-modes : (a b : Mode) → a ≡ b
-modes Bits14 Bits14 = refl
+abbrev pub is_same : Sizes → Sizes → Bool
+is_same a b = sizes_equal a.default b.default && (sizes_equal a.alternate b.alternate && modes_equal a.mode b.mode)
+
+mode_same : (a b : Mode) → modes_equal a b ≡ true → a ≡ b
+mode_same Bits14 Bits14 is = refl
+mode_same Bits14 Bits16 is = absurd cc
+mode_same Bits16 Bits14 is = absurd cc
+mode_same Bits16 Bits16 is = refl
+
+mode_equal : (a : Mode) → modes_equal a a ≡ true
+mode_equal Bits14 = refl
+mode_equal Bits16 = refl
 
 size_same : (a b : Size) → sizes_equal a b ≡ true → a ≡ b
 size_same a b is =
@@ -28,11 +38,11 @@ size_same a b is =
 
 pub same_is : (a b : Sizes) → is_same a b ≡ true → a ≡ b
 same_is a b is =
-    let first = and_parts (sizes_equal a.default b.default) (sizes_equal a.alternate b.alternate && true) is in
-    let second = and_parts (sizes_equal a.alternate b.alternate) true first.1 in
+    let first = and_parts (sizes_equal a.default b.default) (sizes_equal a.alternate b.alternate && modes_equal a.mode b.mode) is in
+    let second = and_parts (sizes_equal a.alternate b.alternate) (modes_equal a.mode b.mode) first.1 in
     ap (λ (d : Size). let s : Sizes = record { default = d; alternate = a.alternate; mode = a.mode } in s) (size_same a.default b.default first.0)
     ∙ ap (λ (d : Size). let s : Sizes = record { default = b.default; alternate = d; mode = a.mode } in s) (size_same a.alternate b.alternate second.0)
-    ∙ ap (λ (m : Mode). let s : Sizes = record { default = b.default; alternate = b.alternate; mode = m } in s) (modes a.mode b.mode)
+    ∙ ap (λ (m : Mode). let s : Sizes = record { default = b.default; alternate = b.alternate; mode = m } in s) (mode_same a.mode b.mode second.1)
 
 both : (s t : Bool) → s ≡ true → t ≡ true → (s && t) ≡ true
 both true t one two = two
@@ -44,7 +54,7 @@ self_equal a = both (a.rows == a.rows) (a.cols == a.cols) (eq-eqb a.rows a.rows 
 pub is_same_self : (a b : Sizes) → a ≡ b → is_same a b ≡ true
 is_same_self a b same =
     subst (λ c. is_same a c ≡ true) same
-    (both (sizes_equal a.default a.default) _ (self_equal a.default) (both (sizes_equal a.alternate a.alternate) true (self_equal a.alternate) refl))
+    (both (sizes_equal a.default a.default) _ (self_equal a.default) (both (sizes_equal a.alternate a.alternate) (modes_equal a.mode a.mode) (self_equal a.alternate) (mode_equal a.mode)))
 
 -- ---- the turns from one on
 pub turn_split : (turns : List Turn) (index : ℕ) (one : Turn) → index < length turns → one ≡ get_or turns index one → drop index turns ≡ one ∷ drop (suc index) turns

@@ -1,3 +1,4 @@
+pub mod TakingLaws
 pub mod OpenLaw
 pub mod BoundLaw
 pub mod BindLaw
@@ -21,3 +22,4 @@ pub mod WalkLaws
 pub mod TalkLaws
 pub mod GeometryLaws
 pub mod TalkKeeps
+pub mod Rows

@@ -1,27 +1,17 @@
 -- What the opening is where the screen isn't ready.
-use Rattle.std.proofs.Common.{◌≡◌, ℕ, suc, ◌+◌, ◌<◌, ◌==◌, false, List, [], ◌∷◌, map, length, get_or, drop, Ok, Err, sym, ◌∙◌, ap, arith}
-use Rattle.std.proofs.Math.Seq.{drop-cons}
-use Rattle.ds_codec.specs.Reading.{◌>>=◌, read_of}
+use Rattle.std.proofs.Common.{◌≡◌, ℕ, ◌==◌, false, List, [], ◌∷◌, map, length, Ok, Err, sym, ◌∙◌, ap}
+use Rattle.ds_codec.specs.Reading.{◌>>=◌}
 use Rattle.ds_screen.specs.Picture.{Picture}
 use Rattle.ds_screen.specs.Records.{new_picture}
 use Rattle.scr_layout.specs.Layout.{Declaration}
 use Rattle.scr_check.specs.declared.finding.Finding.{Finding}
-use Rattle.scr_check.specs.Opening.{taken, taken_from, ready, opening_of}
+use Rattle.scr_check.specs.Opening.{taken_from, ready, opening_of}
 
 pub open_err : {A : Type 0} (f : A → List ℕ) (layout : Declaration) (records : List A) (v : Picture) (finding : Finding) → (length records == 0) ≡ false
     → taken_from 0 (new_picture layout.geometry) (map f records) ≡ Ok v → ready layout.size v ≡ Err finding
     → Err finding ≡ opening_of layout (map f records)
 open_err f layout [] v finding some takes is = absurd cc
 open_err f layout (b ∷ bs) v finding some takes is = sym (ap (λ r. r >>= ready layout.size) takes ∙ is)
-
--- one record further
-pub step_on : {A : Type 0} (f : A → List ℕ) (records : List A) (index : ℕ) (d : A) (w next : Picture) → index < length records
-    → taken index w (read_of w.geometry.mode (f (get_or records index d))) ≡ Ok next
-    → taken_from (index + 1) next (map f (drop (index + 1) records)) ≡ taken_from index w (map f (drop index records))
-step_on f records index d w next lt takes =
-    ap (λ k. taken_from (index + 1) next (map f (drop k records))) (let e : index + 1 ≡ suc index = omega arith in e)
-    ∙ sym (ap (λ l. taken_from index w (map f l)) (drop-cons records index d lt)
-    ∙ ap (λ r. r >>= λ later. taken_from (index + 1) later (map f (drop (suc index) records))) takes)
 
 pub open_ok : {A : Type 0} (f : A → List ℕ) (layout : Declaration) (records : List A) (v : Picture) → (length records == 0) ≡ false
     → taken_from 0 (new_picture layout.geometry) (map f records) ≡ Ok v → ready layout.size v ≡ Ok v

@@ -1,5 +1,5 @@
 -- What the findings of a verdict promise.
-use Rattle.std.proofs.Common.{◌≡◌, ℕ, List, [], Result, Ok, Err, sym, ◌∙◌, ap, subst}
+use Rattle.std.proofs.Common.{◌≡◌, ◌↔◌, ℕ, List, [], Result, Ok, Err, sym, ◌∙◌, ap, subst}
 use Rattle.std.specs.Prelude.{IfOk}
 use Rattle.ds_screen.specs.Picture.{Picture, IsSound}
 use Rattle.scr_layout.specs.Layout.{Declaration}
@@ -7,7 +7,7 @@ use Rattle.scr_check.specs.declared.finding.Finding.{Finding}
 use Rattle.scr_check.specs.declared.verdict.Verdict.{Verdict}
 use Rattle.scr_check.specs.declared.verdict.Verdict.TheVariants.{Yes}
 use Rattle.scr_check.specs.Opening.{opening_of}
-use Rattle.scr_check.specs.Findings.{findings_of, told}
+use Rattle.scr_check.specs.Findings.{findings_of, told, answer_of, Conforms}
 use Rattle.scr_check.specs.Seen.{findings_in}
 use Rattle.scr_check.specs.Promise.{KeepsPromise}
 use Rattle.scr_check.specs.Leads.{IsPromised}
@@ -70,3 +70,17 @@ pub all_shown : (layout : Declaration) (records : List (List ℕ)) (r : Result P
 all_shown layout records r verdict opens sound listed =
     let P : List Finding → Type 0 = AreShown layout records in
     subst P (sym listed) (told_shown layout records r (sym opens) sound)
+
+-- what is listed are the findings of the records
+pub all_listed : (layout : Declaration) (records : List (List ℕ)) (v : Picture) (findings : List Finding) → opening_of layout records ≡ Ok v → findings ≡ findings_of layout v
+    → findings ≡ answer_of layout records
+all_listed layout records v findings opens found = found ∙ sym (ap (told layout) opens)
+
+pub yes_means : (layout : Declaration) (records : List (List ℕ)) (v : Picture) (verdict : Verdict) (findings : List Finding) → opening_of layout records ≡ Ok v → findings ≡ findings_of layout v
+    → (verdict ≡ Yes ↔ findings ≡ []) → (verdict ≡ Yes ↔ Conforms layout records)
+yes_means layout records v verdict findings opens found means = (
+  λ is. record { picture = v; opens = opens; clean = sym found ∙ means.0 is },
+  λ conforms.
+      let same : conforms.picture ≡ v = ok_is conforms.picture v (opening_of layout records) conforms.opens opens in
+      means.1 (found ∙ subst (λ (p : Picture). findings_of layout p ≡ []) same conforms.clean),
+)

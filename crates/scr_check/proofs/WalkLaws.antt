@@ -3,7 +3,7 @@ use Rattle.std.proofs.Common.{◌≡◌, ℕ, suc, ◌+◌, ◌<◌, ◌≤◌, 
 use Rattle.std.proofs.Math.Seq.{drop-cons}
 use Rattle.std.proofs.lemmas.Bool.{eqb-true}
 use Rattle.std.proofs.lemmas.List.{drop_all}
-use Rattle.ds_codec.specs.Reading.{◌>>=◌, read_of}
+use Rattle.ds_codec.specs.Reading.{◌>>=◌}
 use Rattle.ds_codec.specs.declared.size.Size.{Size}
 use Rattle.ds_screen.specs.Picture.{Picture}
 use Rattle.ds_screen.specs.Outline.{Outlined, IsOutlineOf}
@@ -13,25 +13,11 @@ use Rattle.scr_check.specs.declared.finding.Finding.{Finding}
 use Rattle.scr_check.specs.Opening.{ready, opening_of}
 use Rattle.scr_check.specs.Findings.{findings_of, told}
 use Rattle.scr_check.specs.Seen.{IsReadyOn}
-use Rattle.scr_check.specs.Walk.{Round, Stop, taken_later, later_from, opened_later, later_opening, without_keys, later_told, stops_or, goes_on, walk_from, walk_of}
-use Rattle.scr_check.specs.TalkSeen.{LaterTakesAllOn, OpensLater, Judges}
+use Rattle.scr_check.specs.Walk.{Round, Stop, later_fault, later_from, opened_later, later_opening, without_keys, later_told, stops_or, goes_on, walk_from, walk_of}
+use Rattle.scr_check.specs.Taking.{TakesAllOn}
+use Rattle.scr_check.specs.TalkSeen.{OpensLater, Judges}
 use Rattle.scr_check.proofs.LeadLaws.{bind_ok, ready_ok}
-
--- one record further
-pub later_on : {A : Type 0} (f : A → List ℕ) (records : List A) (index : ℕ) (d : A) (w next : Picture) → index < length records
-    → taken_later index w (read_of w.geometry.mode (f (get_or records index d))) ≡ Ok next
-    → later_from (index + 1) next (map f (drop (index + 1) records)) ≡ later_from index w (map f (drop index records))
-later_on f records index d w next lt takes =
-    ap (λ k. later_from (index + 1) next (map f (drop k records))) (let e : index + 1 ≡ suc index = omega arith in e)
-    ∙ sym (ap (λ l. later_from index w (map f l)) (drop-cons records index d lt)
-    ∙ ap (λ r. r >>= λ later. later_from (index + 1) later (map f (drop (suc index) records))) takes)
-
-pub later_stops : {A : Type 0} (f : A → List ℕ) (records : List A) (index : ℕ) (d : A) (w : Picture) (finding : Finding) → index < length records
-    → taken_later index w (read_of w.geometry.mode (f (get_or records index d))) ≡ Err finding
-    → later_from index w (map f (drop index records)) ≡ Err finding
-later_stops f records index d w finding lt stands =
-    ap (λ l. later_from index w (map f l)) (drop-cons records index d lt)
-    ∙ ap (λ r. r >>= λ later. later_from (index + 1) later (map f (drop (suc index) records))) stands
+use Rattle.scr_check.proofs.TakingLaws.{is_later}
 
 -- ---- the opening of a later turn
 pub later_opens : {A : Type 0} (f : A → List ℕ) (layout : Declaration) (records : List A) (v w : Picture) (r : Result Picture Finding) → (length records == 0) ≡ false
@@ -46,18 +32,18 @@ later_stands f layout (b ∷ bs) v finding some takes = ap (λ s. s >>= ready la
 
 -- the same of outlines
 pub opens_by : {A : Type 0} (f : A → List ℕ) (old worse new : Outlined) (records : List A) (size : Size) (r : Result (Unit {0}) Finding) → (length records == 0) ≡ false
-    → OutlinesWorst old worse → LaterTakesAllOn worse new (map f records) (Ok tt) → IsReadyOn new size r → OpensLater old new (map f records) size r
+    → OutlinesWorst old worse → TakesAllOn later_fault worse new (map f records) (Ok tt) → IsReadyOn new size r → OpensLater old new (map f records) size r
 opens_by f old worse new records size (Ok done) some worst takes is = λ v outlines layout sized.
     let led = takes (worst_of v) (worst v outlines) in
-    (led.0, later_opens f layout records v led.0 (Ok led.0) some led.1 (ap (λ s. ready s led.0) sized ∙ is led.0 led.2), led.2)
+    (led.0, later_opens f layout records v led.0 (Ok led.0) some (sym (is_later 0 (worst_of v) (map f records)) ∙ led.1) (ap (λ s. ready s led.0) sized ∙ is led.0 led.2), led.2)
 opens_by f old worse new records size (Err finding) some worst takes is = λ v outlines layout sized.
     let led = takes (worst_of v) (worst v outlines) in
-    later_opens f layout records v led.0 (Err finding) some led.1 (ap (λ s. ready s led.0) sized ∙ is led.0 led.2)
+    later_opens f layout records v led.0 (Err finding) some (sym (is_later 0 (worst_of v) (map f records)) ∙ led.1) (ap (λ s. ready s led.0) sized ∙ is led.0 led.2)
 
 pub stands_by : {A : Type 0} (f : A → List ℕ) (old worse new : Outlined) (records : List A) (size : Size) (finding : Finding) → (length records == 0) ≡ false
-    → OutlinesWorst old worse → LaterTakesAllOn worse new (map f records) (Err finding) → OpensLater old new (map f records) size (Err finding)
+    → OutlinesWorst old worse → TakesAllOn later_fault worse new (map f records) (Err finding) → OpensLater old new (map f records) size (Err finding)
 stands_by f old worse new records size finding some worst takes = λ v outlines layout sized.
-    later_stands f layout records v finding some (takes (worst_of v) (worst v outlines))
+    later_stands f layout records v finding some (sym (is_later 0 (worst_of v) (map f records)) ∙ takes (worst_of v) (worst v outlines))
 
 mapped_none : (findings : List Finding) → map without_keys findings ≡ [] → findings ≡ []
 mapped_none [] none = refl

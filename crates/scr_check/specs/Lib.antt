@@ -1,6 +1,7 @@
 pub mod Opening
 pub mod Findings
 pub mod Seen
+pub mod Taking
 pub mod Binding
 pub mod Bound
 pub mod Bindable

@@ -1,7 +1,6 @@
 -- The checker's values as the program holds them.
 use Rattle.std.specs.Prelude.{◌≡◌, ℕ, List, [], length, Result, Ok, Err}
 use Rattle.ds_codec.specs.declared.size.Size.{Size}
-use Rattle.ds_codec.specs.Reading.{read_of}
 use Rattle.ds_screen.specs.Picture.{Picture}
 use Rattle.ds_screen.specs.Outline.{Outlined, IsOutlineOf}
 use Rattle.scr_layout.specs.Layout.{Declaration}
@@ -11,7 +10,7 @@ use Rattle.scr_check.specs.declared.verdict.Verdict.{Verdict}
 use Rattle.scr_check.specs.declared.verdict.Verdict.TheVariants.{Yes, No}
 use Rattle.scr_check.specs.declared.opening.Opening.{Opening}
 use Rattle.scr_check.specs.declared.opening.Opening.TheVariants.{Leads, Stands}
-use Rattle.scr_check.specs.Opening.{taken, taken_from, ready, opening_of}
+use Rattle.scr_check.specs.Opening.{ready, opening_of}
 
 -- what a verdict tells
 abbrev pub findings_in : Verdict → List Finding
@@ -22,17 +21,6 @@ findings_in (No findings) = findings.items
 abbrev pub TellsSome : Verdict → Type 0
 TellsSome Yes = Unit {0}
 TellsSome (No findings) = findings.items ≡ [] → ⊥
-
--- whatever picture it outlined, the record led to the one that it outlines, or something stands against it
-abbrev pub TakesOn : Outlined → Outlined → ℕ → List ℕ → Result (Unit {0}) Finding → Type 0
-TakesOn old new index bytes (Ok done) =
-    (v : Picture) → IsOutlineOf old v → (w : Picture) × (taken index v (read_of v.geometry.mode bytes) ≡ Ok w) × IsOutlineOf new w
-TakesOn old new index bytes (Err finding) = (v : Picture) → IsOutlineOf old v → taken index v (read_of v.geometry.mode bytes) ≡ Err finding
-
--- the same of all records
-abbrev pub TakesAllOn : Outlined → Outlined → List (List ℕ) → Result (Unit {0}) Finding → Type 0
-TakesAllOn old new records (Ok done) = (v : Picture) → IsOutlineOf old v → (w : Picture) × (taken_from 0 v records ≡ Ok w) × IsOutlineOf new w
-TakesAllOn old new records (Err finding) = (v : Picture) → IsOutlineOf old v → taken_from 0 v records ≡ Err finding
 
 abbrev pub IsReady : Picture → Size → Result (Unit {0}) Finding → Type 0
 IsReady v size (Ok done) = ready size v ≡ Ok v

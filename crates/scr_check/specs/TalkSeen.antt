@@ -2,7 +2,6 @@
 use Rattle.std.specs.Prelude.{◌≡◌, ℕ, List, [], ◌∷◌, map, Option, Some, None, Result, Ok, Err}
 use Rattle.ds_codec.specs.declared.size.Size.{Size}
 use Rattle.ds_codec.specs.Geometry.{Sizes}
-use Rattle.ds_codec.specs.Reading.{read_of}
 use Rattle.ds_screen.specs.Picture.{Picture}
 use Rattle.ds_screen.specs.Outline.{Outlined, IsOutlineOf}
 use Rattle.scr_layout.specs.Layout.{Declaration}
@@ -10,7 +9,7 @@ use Rattle.scr_check.specs.declared.finding.Finding.{Finding}
 use Rattle.scr_check.specs.declared.talk.Turn.{Turn}
 use Rattle.scr_check.specs.declared.talk.TalkVerdict.{TalkVerdict}
 use Rattle.scr_check.specs.declared.talk.TalkVerdict.TheVariants.{Yes, No}
-use Rattle.scr_check.specs.Walk.{Round, Stop, taken_later, later_from, opened_later, later_told}
+use Rattle.scr_check.specs.Walk.{Round, Stop, opened_later, later_told}
 
 abbrev pub round_of : Turn → Round
 round_of turn = record { records = map (λ bytes. bytes.now) turn.records.now; layout = turn.layout.now }
@@ -34,15 +33,6 @@ HaveOneGeometry [] = Unit {0}
 HaveOneGeometry (round ∷ rounds) = AreOfGeometry round.layout.geometry rounds
 
 -- ---- for the code's own proofs: what a later turn leaves of an outline
-
-abbrev pub LaterTakesOn : Outlined → Outlined → ℕ → List ℕ → Result (Unit {0}) Finding → Type 0
-LaterTakesOn old new index bytes (Ok done) =
-    (v : Picture) → IsOutlineOf old v → (w : Picture) × (taken_later index v (read_of v.geometry.mode bytes) ≡ Ok w) × IsOutlineOf new w
-LaterTakesOn old new index bytes (Err finding) = (v : Picture) → IsOutlineOf old v → taken_later index v (read_of v.geometry.mode bytes) ≡ Err finding
-
-abbrev pub LaterTakesAllOn : Outlined → Outlined → List (List ℕ) → Result (Unit {0}) Finding → Type 0
-LaterTakesAllOn old new records (Ok done) = (v : Picture) → IsOutlineOf old v → (w : Picture) × (later_from 0 v records ≡ Ok w) × IsOutlineOf new w
-LaterTakesAllOn old new records (Err finding) = (v : Picture) → IsOutlineOf old v → later_from 0 v records ≡ Err finding
 
 abbrev pub OpensLater : Outlined → Outlined → List (List ℕ) → Size → Result (Unit {0}) Finding → Type 0
 OpensLater old new records size (Ok done) =

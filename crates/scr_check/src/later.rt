@@ -1,15 +1,15 @@
 //! A later turn of a dialogue: its records on the worst that the operator can have left.
 
 ghost use Rattle.std.specs.Prelude.{◌≡◌, map, IfOk};
-ghost use Rattle.scr_check.specs.Walk.{start_at_cursor, depends_on_cursor, later_fault, without_keys};
-ghost use Rattle.scr_check.specs.TalkSeen.{LaterTakesOn, LaterTakesAllOn, OpensLater, Judges};
+ghost use Rattle.scr_check.specs.Walk.{start_at_cursor, depends_on_cursor, without_keys};
+ghost use Rattle.scr_check.specs.TalkSeen.{OpensLater, Judges};
 
 use crate::fields::findings_of;
 use crate::finding::{Demo, Finding, Overlong};
 use crate::opening::{ready, writes};
+use crate::taking::{Rule, take_all};
 use ds_codec::{Command, Order, Record, Size};
 use ds_screen::Outline;
-use ds_terminal::{apply_record, read_record};
 use scr_layout::Layout;
 use std::alloc::{AllocError, Global};
 
@@ -37,45 +37,23 @@ fn depends_on_cursor(outbound: &Record<'_>) -> bool
     }
 }
 
-/// What the record of this number is at fault for before it is applied.
-fn later_fault(index: usize, outbound: &Record<'_>) -> Option<Finding>
-    ensures { result ≡ later_fault index outbound.now.command outbound.now.orders }
-{
-    if !writes(outbound.command()) {
-        Some(Finding::NotAWrite(index))
-    } else if depends_on_cursor(outbound) {
-        Some(Finding::CursorDependent(index))
-    } else {
-        None
-    }
-}
+/// The rule of a later turn: each record writes, and none depends on the cursor.
+enum LaterTurn {}
 
-/// Reads and applies the record of this number.
-fn take_later(outline: &mut Outline, index: usize, bytes: &[u8]) -> Result<(), Finding>
-    ensures { LaterTakesOn outline.old outline.new index bytes.now result }
-{
-    let record = match read_record(outline, bytes) {
-        Ok(record) => record,
-        Err(refused) => return Err(Finding::RecordRefused(index, refused)),
-    };
-    if let Some(finding) = later_fault(index, &record) {
-        return Err(finding);
-    }
-    match apply_record(outline, &record) {
-        Ok(_) => Ok(()),
-        Err(refused) => Err(Finding::RecordRefused(index, refused)),
-    }
-}
+impl Rule for LaterTurn {
+    ghost use Rattle.scr_check.specs.Walk.{later_fault};
 
-/// Takes the records in turn, up to the first against which something stands.
-fn take_all_later(outline: &mut Outline, records: &[&[u8]]) -> Result<(), Finding>
-    ensures { LaterTakesAllOn outline.old outline.new
-        (map (λ bytes. bytes.now) records.now) result }
-{
-    for (index, bytes) in records.iter().enumerate() {
-        take_later(outline, index, bytes)?;
+    ghost fault_of = { later_fault };
+
+    fn fault(index: usize, outbound: &Record<'_>) -> Option<Finding> {
+        if !writes(outbound.command()) {
+            Some(Finding::NotAWrite(index))
+        } else if depends_on_cursor(outbound) {
+            Some(Finding::CursorDependent(index))
+        } else {
+            None
+        }
     }
-    Ok(())
 }
 
 /// Takes the records of a later turn, and asks whether the operator can go on.
@@ -87,7 +65,7 @@ fn open_later(outline: &mut Outline, records: &[&[u8]], size: Size) -> Result<()
         return Err(Finding::NoRecord);
     }
     outline.worsen();
-    if let Err(finding) = take_all_later(outline, records) {
+    if let Err(finding) = take_all::<LaterTurn>(outline, records) {
         return Err(finding);
     }
     ready(outline, size)

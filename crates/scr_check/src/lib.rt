@@ -10,6 +10,7 @@ mod finding_text;
 mod later;
 mod laws;
 mod opening;
+mod taking;
 mod talk;
 mod verdict;
 

@@ -2,12 +2,12 @@
 
 ghost use Rattle.std.specs.Prelude.{◌≡◌, map, IfOk};
 ghost use Rattle.scr_check.specs.Opening.{erases, writes, command_fault, is_size};
-ghost use Rattle.scr_check.specs.Seen.{TakesOn, TakesAllOn, IsReadyOn, IsOpening};
+ghost use Rattle.scr_check.specs.Seen.{IsReadyOn, IsOpening};
 
 use crate::finding::Finding;
-use ds_codec::{Command, Size};
+use crate::taking::{Rule, take_all};
+use ds_codec::{Command, Record, Size};
 use ds_screen::{Lock, Outline};
-use ds_terminal::{apply_record, read_record};
 use scr_layout::Layout;
 use std::alloc::{AllocError, Global};
 
@@ -52,31 +52,17 @@ fn command_fault(index: usize, command: Command) -> Option<Finding>
     }
 }
 
-/// Reads and applies the record of this number.
-fn take(outline: &mut Outline, index: usize, bytes: &[u8]) -> Result<(), Finding>
-    ensures { TakesOn outline.old outline.new index bytes.now result }
-{
-    let record = match read_record(outline, bytes) {
-        Ok(record) => record,
-        Err(refused) => return Err(Finding::RecordRefused(index, refused)),
-    };
-    if let Some(finding) = command_fault(index, record.command()) {
-        return Err(finding);
-    }
-    match apply_record(outline, &record) {
-        Ok(_) => Ok(()),
-        Err(refused) => Err(Finding::RecordRefused(index, refused)),
-    }
-}
+/// The rule of the first turn: the first record erases, and each one writes.
+pub(crate) enum FirstTurn {}
 
-/// Takes the records in turn, up to the first against which something stands.
-fn take_all(outline: &mut Outline, records: &[&[u8]]) -> Result<(), Finding>
-    ensures { TakesAllOn outline.old outline.new (map (λ bytes. bytes.now) records.now) result }
-{
-    for (index, bytes) in records.iter().enumerate() {
-        take(outline, index, bytes)?;
+impl Rule for FirstTurn {
+    ghost use Rattle.scr_check.specs.Opening.{command_fault};
+
+    ghost fault_of = { λ index command orders. command_fault index command };
+
+    fn fault(index: usize, outbound: &Record<'_>) -> Option<Finding> {
+        command_fault(index, outbound.command())
     }
-    Ok(())
 }
 
 fn is_size(size: Size, other: Size) -> bool
@@ -109,7 +95,7 @@ pub(crate) fn open(alloc: Global, records: &[&[u8]], layout: &Layout) -> Result<
         return Ok(Opening::Stands(Finding::NoRecord));
     }
     let mut outline = Outline::new(alloc, layout.geometry())?;
-    if let Err(finding) = take_all(&mut outline, records) {
+    if let Err(finding) = take_all::<FirstTurn>(&mut outline, records) {
         return Ok(Opening::Stands(finding));
     }
     match ready(&outline, layout.size()) {

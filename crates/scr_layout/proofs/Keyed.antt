@@ -4,10 +4,10 @@ use Rattle.ds_codec.specs.declared.size.Size.{Size}
 use Rattle.toml.specs.Data.{Data, Members, as_array, as_str, as_integer}
 use Rattle.scr_layout.specs.declared.fault.LayoutFault.{LayoutFault}
 use Rattle.scr_layout.specs.declared.fault.LayoutKey.{LayoutKey}
-use Rattle.scr_layout.specs.declared.fault.LayoutKey.TheVariants.{Unknown, Default, Alternate, Screen, Field, Name, Row, Col, Length, Kind}
+use Rattle.scr_layout.specs.declared.fault.LayoutKey.TheVariants.{Unknown, Addresses, Default, Alternate, Screen, Field, Name, Row, Col, Length, Kind}
 use Rattle.scr_layout.specs.declared.fault.Why.TheVariants.{MissingKey, WrongKind, UnknownKey, BadSize, BadName, NameTwice, PlaceOutside, PlaceTwice, BadLength, TooManyFields}
 use Rattle.scr_layout.specs.declared.entry.Kind.TheVariants.{Input, Fixed}
-use Rattle.ds_codec.specs.declared.size.Mode.TheVariants.{Bits14}
+use Rattle.ds_codec.specs.declared.size.Mode.{Mode}
 use Rattle.ds_codec.specs.Geometry.{cells_of}
 use Rattle.scr_layout.specs.SizeText.{size_of_text}
 use Rattle.scr_layout.specs.declared.fault.Why.{Why}
@@ -16,8 +16,8 @@ use Rattle.scr_layout.specs.Fault.{at_key, not_toml}
 use Rattle.scr_layout.specs.Field.{field_keys, has_name, has_place, name_of, integer_at, place_of, length_of, kind_or, kind_of, entry_of}
 use Rattle.scr_layout.specs.Layout.{entries_of, declaration_of}
 use Rattle.scr_layout.specs.Results.{◌>>=◌, tested, in_field}
-use Rattle.scr_layout.specs.Top.{top_keys, are_tables, tables_in, size_of, size_or, default_of, alternate_of, screen_or, screen_of, tables_of, tables_or, fields_of}
-use Rattle.scr_layout.specs.Values.{value_at, needed_at, text_of, from_one_to, has_only, with_only}
+use Rattle.scr_layout.specs.Top.{top_keys, mode_of_bits, named_mode, mode_or, mode_of, are_tables, tables_in, size_of, size_or, default_of, alternate_of, screen_or, screen_of, tables_of, tables_or, fields_of}
+use Rattle.scr_layout.specs.Values.{value_at, needed_at, text_of, integer_of, from_one_to, has_only, with_only}
 
 -- a fault that has a key
 abbrev HasKey : {A : Type 0} → Result A LayoutFault → Type 0
@@ -62,13 +62,21 @@ numbered : {A : Type 0} (n : ℕ) (r : Result A LayoutFault) → IsKeyed r → I
 numbered n (Ok x) h = good
 numbered n (Err e) h = record { key = h.key }
 
-size : (key : LayoutKey) (value : Data) → IsKeyed (size_of key value)
-unfolding size_of
-size key value = bound (text_of key value) _ (text key value) (λ t. found (size_of_text Bits14 t) key BadSize)
+named : (value : Data) → IsKeyed (named_mode value)
+unfolding named_mode
+named value = bound (integer_of Addresses value) _ (found (as_integer value) Addresses WrongKind) (λ bits. found (mode_of_bits (from_one_to 16 bits)) Addresses WrongKind)
 
-size_where : (absent : Size) (key : LayoutKey) (o : Option Data) → IsKeyed (size_or absent key o)
-size_where absent key None = good
-size_where absent key (Some value) = size key value
+mode_where : (o : Option Data) → IsKeyed (mode_or o)
+mode_where None = good
+mode_where (Some value) = named value
+
+size : (mode : Mode) (key : LayoutKey) (value : Data) → IsKeyed (size_of mode key value)
+unfolding size_of
+size mode key value = bound (text_of key value) _ (text key value) (λ t. found (size_of_text mode t) key BadSize)
+
+size_where : (mode : Mode) (absent : Size) (key : LayoutKey) (o : Option Data) → IsKeyed (size_or mode absent key o)
+size_where mode absent key None = good
+size_where mode absent key (Some value) = size mode key value
 
 screen_where : (default alternate : Size) (o : Option Data) → IsKeyed (screen_or default alternate o)
 screen_where default alternate None = good
@@ -86,13 +94,17 @@ tables_where : (o : Option Data) → IsKeyed (tables_or o)
 tables_where None = good
 tables_where (Some value) = tables value
 
-default : (top : Members) → IsKeyed (default_of top)
-unfolding default_of
-default top = size_where (record { rows = 24; cols = 80 }) Default (value_at Default top)
+mode : (top : Members) → IsKeyed (mode_of top)
+unfolding mode_of
+mode top = mode_where (value_at Addresses top)
 
-alternate : (size : Size) (top : Members) → IsKeyed (alternate_of size top)
+default : (m : Mode) (top : Members) → IsKeyed (default_of m top)
+unfolding default_of
+default m top = size_where m (record { rows = 24; cols = 80 }) Default (value_at Default top)
+
+alternate : (m : Mode) (size : Size) (top : Members) → IsKeyed (alternate_of m size top)
 unfolding alternate_of
-alternate size top = size_where size Alternate (value_at Alternate top)
+alternate m size top = size_where m size Alternate (value_at Alternate top)
 
 screen : (a b : Size) (top : Members) → IsKeyed (screen_of a b top)
 unfolding screen_of
@@ -155,11 +167,12 @@ declaration : (table : Members) → IsKeyed (declaration_of table)
 unfolding declaration_of
 declaration table =
     bound (with_only top_keys table) _ (only top_keys table) (λ top.
-    bound (default_of top) _ (default top) (λ d.
-    bound (alternate_of d top) _ (alternate d top) (λ a.
+    bound (mode_of top) _ (mode top) (λ m.
+    bound (default_of m top) _ (default m top) (λ d.
+    bound (alternate_of m d top) _ (alternate m d top) (λ a.
     bound (screen_of d a top) _ (screen d a top) (λ size.
     bound (fields_of top) _ (fields top) (λ tables.
-    bound (entries_of size 0 [] tables) _ (entries size 0 [] tables) (λ es. good))))))
+    bound (entries_of size 0 [] tables) _ (entries size 0 [] tables) (λ es. good)))))))
 
 same_err : {A : Type 0} (f g : LayoutFault) → ◌≡◌ {A = Result A LayoutFault} (Err f) (Err g) → f ≡ g
 same_err f g e = cc

@@ -8,7 +8,7 @@ use Rattle.std.proofs.lemmas.Map.Keys.{IsDistinct-push}
 use Rattle.std.proofs.lemmas.Nat.{mul-add-lt}
 use Rattle.ds_codec.specs.declared.size.Size.{Size}
 use Rattle.ds_codec.specs.declared.size.Mode.{Mode}
-use Rattle.ds_codec.specs.declared.size.Mode.TheVariants.{Bits14}
+use Rattle.ds_codec.specs.declared.size.Mode.TheVariants.{Bits14, Bits16}
 use Rattle.ds_codec.specs.Geometry.{IsGood, cells_of, is_good}
 use Rattle.std.proofs.lemmas.List.{map-append}
 use Rattle.toml.specs.Data.{Data, Members, as_array}
@@ -22,7 +22,7 @@ use Rattle.scr_layout.specs.Field.{field_keys, has_name, has_place, name_of, int
 use Rattle.scr_layout.specs.Layout.{Declaration, IsLayout, entries_of, declaration_of, table_of, layout_of}
 use Rattle.scr_layout.specs.Results.{tested, in_field}
 use Rattle.scr_layout.specs.SizeText.{is_x, number_of, size_of_text}
-use Rattle.scr_layout.specs.Top.{top_keys, size_of, size_or, default_of, alternate_of, screen_or, screen_of, tables_in, are_tables, tables_of, tables_or, fields_of}
+use Rattle.scr_layout.specs.Top.{top_keys, mode_of, size_of, size_or, default_of, alternate_of, screen_or, screen_of, tables_in, are_tables, tables_of, tables_or, fields_of}
 use Rattle.scr_layout.specs.Values.{value_at, needed_at, text_of, from_one_to, with_only}
 use Rattle.scr_layout.proofs.Steps.{bind_ok, tested_ok, ok_or_ok, in_field_ok, cond_some, cond_then, and_then_some, same_ok}
 
@@ -55,23 +55,28 @@ size_of_text-good mode text s h =
     let cols = and_then_some (number_of (after_first is_x text)) _ s rows.2 in
     good_size mode rows.0 cols.0 s cols.2
 
-size_of-good : (key : LayoutKey) (value : Data) (s : Size) → size_of key value ≡ Ok s → IsGood Bits14 s
+size_of-good : (mode : Mode) (key : LayoutKey) (value : Data) (s : Size) → size_of mode key value ≡ Ok s → IsGood mode s
 unfolding size_of
-size_of-good key value s h =
+size_of-good mode key value s h =
     let text = bind_ok (text_of key value) _ s h in
-    size_of_text-good Bits14 text.0 s (ok_or_ok _ _ s text.2)
+    size_of_text-good mode text.0 s (ok_or_ok _ _ s text.2)
 
-size_or-good : (absent : Size) (key : LayoutKey) (o : Option Data) (s : Size) → IsGood Bits14 absent → size_or absent key o ≡ Ok s → IsGood Bits14 s
-size_or-good absent key None s good h = let P : Size → Type 0 = λ x. IsGood Bits14 x in subst P (same_ok absent s h) good
-size_or-good absent key (Some value) s good h = size_of-good key value s h
+size_or-good : (mode : Mode) (absent : Size) (key : LayoutKey) (o : Option Data) (s : Size) → IsGood mode absent → size_or mode absent key o ≡ Ok s → IsGood mode s
+size_or-good mode absent key None s good h = let P : Size → Type 0 = λ x. IsGood mode x in subst P (same_ok absent s h) good
+size_or-good mode absent key (Some value) s good h = size_of-good mode key value s h
 
-pub default_of-good : (top : Members) (s : Size) → default_of top ≡ Ok s → IsGood Bits14 s
+-- 24x80 in either mode
+usual-good : (mode : Mode) → IsGood mode (record { rows = 24; cols = 80 })
+usual-good Bits14 = IsGood-from_test Bits14 (record { rows = 24; cols = 80 }) refl
+usual-good Bits16 = IsGood-from_test Bits16 (record { rows = 24; cols = 80 }) refl
+
+pub default_of-good : (mode : Mode) (top : Members) (s : Size) → default_of mode top ≡ Ok s → IsGood mode s
 unfolding default_of
-default_of-good top s h = size_or-good _ _ _ s (IsGood-from_test Bits14 (record { rows = 24; cols = 80 }) refl) h
+default_of-good mode top s h = size_or-good mode _ _ _ s (usual-good mode) h
 
-pub alternate_of-good : (default : Size) (top : Members) (s : Size) → IsGood Bits14 default → alternate_of default top ≡ Ok s → IsGood Bits14 s
+pub alternate_of-good : (mode : Mode) (default : Size) (top : Members) (s : Size) → IsGood mode default → alternate_of mode default top ≡ Ok s → IsGood mode s
 unfolding alternate_of
-alternate_of-good default top s good h = size_or-good _ _ _ s good h
+alternate_of-good mode default top s good h = size_or-good mode _ _ _ s good h
 
 one_of_two : (a b : Bool) (default alternate s : Size) (e : LayoutFault)
     → cond {A = Result Size LayoutFault} a (Ok default) (cond b (Ok alternate) (Err e)) ≡ Ok s → (s ≡ default) ⊎ (s ≡ alternate)
@@ -227,16 +232,16 @@ entries_of-good size n before (table ∷ tables) entries h good =
 
 -- ---- the layout
 
-pub parts-law : (top : Members) (default alternate size : Size) (fields : List Members) (entries : List Declared)
-    → default_of top ≡ Ok default → alternate_of default top ≡ Ok alternate → screen_of default alternate top ≡ Ok size
+pub parts-law : (top : Members) (mode : Mode) (default alternate size : Size) (fields : List Members) (entries : List Declared)
+    → default_of mode top ≡ Ok default → alternate_of mode default top ≡ Ok alternate → screen_of default alternate top ≡ Ok size
     → fields_of top ≡ Ok fields → entries_of size 0 [] fields ≡ Ok entries
-    → IsLayout (record { geometry = record { default = default; alternate = alternate; mode = Bits14 }; size = size; entries = entries })
-parts-law top default alternate size fields entries d a s f e =
-    let good = default_of-good top default d in
+    → IsLayout (record { geometry = record { default = default; alternate = alternate; mode = mode }; size = size; entries = entries })
+parts-law top mode default alternate size fields entries d a s f e =
+    let good = default_of-good mode top default d in
     let all = entries_of-good size 0 [] fields entries e (none_yet size) in
     record {
       default = good;
-      alternate = alternate_of-good default top alternate good a;
+      alternate = alternate_of-good mode default top alternate good a;
       screen = screen_of-named default alternate top size s;
       named = all.0.named;
       inside = all.0.inside;
@@ -250,13 +255,14 @@ pub declaration_of-law : (table : Members) (layout : Declaration) → declaratio
 unfolding declaration_of
 declaration_of-law table layout h =
     let top = bind_ok (with_only top_keys table) _ layout h in
-    let default = bind_ok (default_of top.0) _ layout top.2 in
-    let alternate = bind_ok (alternate_of default.0 top.0) _ layout default.2 in
+    let mode = bind_ok (mode_of top.0) _ layout top.2 in
+    let default = bind_ok (default_of mode.0 top.0) _ layout mode.2 in
+    let alternate = bind_ok (alternate_of mode.0 default.0 top.0) _ layout default.2 in
     let size = bind_ok (screen_of default.0 alternate.0 top.0) _ layout alternate.2 in
     let fields = bind_ok (fields_of top.0) _ layout size.2 in
     let entries = bind_ok (entries_of size.0 0 [] fields.0) _ layout fields.2 in
     let P : Declaration → Type 0 = λ l. IsLayout l in
-    subst P (same_ok _ layout entries.2) (parts-law top.0 default.0 alternate.0 size.0 fields.0 entries.0 default.1 alternate.1 size.1 fields.1 entries.1)
+    subst P (same_ok _ layout entries.2) (parts-law top.0 mode.0 default.0 alternate.0 size.0 fields.0 entries.0 default.1 alternate.1 size.1 fields.1 entries.1)
 
 pub layout_of-law : (text : List ℕ) (layout : Declaration) → layout_of text ≡ Ok layout → IsLayout layout
 layout_of-law text layout h =

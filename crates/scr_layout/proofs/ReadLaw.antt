@@ -6,7 +6,7 @@ use Rattle.std.proofs.lemmas.Cmp.{nat_eq_equiv, nat_list_eq_equiv}
 use Rattle.std.proofs.lemmas.List.{append-nil}
 use Rattle.ds_codec.specs.declared.size.Size.{Size}
 use Rattle.ds_codec.specs.declared.size.Mode.{Mode}
-use Rattle.ds_codec.specs.declared.size.Mode.TheVariants.{Bits14}
+use Rattle.ds_codec.specs.declared.size.Mode.TheVariants.{Bits14, Bits16}
 use Rattle.ds_codec.specs.Geometry.{Sizes, IsGood, cells_of}
 use Rattle.toml.specs.Data.{string, integer, float, boolean, datetime, array, table, Items, no_items, item, Members}
 use Rattle.scr_layout.specs.declared.entry.Kind.{Kind as EntryKind}
@@ -16,30 +16,36 @@ use Rattle.scr_layout.specs.declared.fault.LayoutKey.TheVariants.{Default, Alter
 use Rattle.scr_layout.specs.Entry.{Declared, is_name}
 use Rattle.scr_layout.specs.Field.{has_name, has_place, name_of, integer_at, place_of, length_of, kind_of, entry_of}
 use Rattle.scr_layout.specs.Layout.{Declaration, entries_of, declaration_of, layout_of}
-use Rattle.scr_layout.specs.Says.{HasText, HasNumber, SaysSize, SaysScreen, SaysKind, SaysEntry, SayEntries, SaysFields, Says, TextSays}
+use Rattle.scr_layout.specs.Says.{HasText, HasNumber, SaysMode, SaysSize, SaysScreen, SaysKind, SaysEntry, SayEntries, SaysFields, Says, TextSays}
 use Rattle.scr_layout.specs.SizeText.{size_text}
-use Rattle.scr_layout.specs.Top.{size_of, size_or, default_of, alternate_of, screen_of, tables_in, are_tables, tables_of, fields_of}
+use Rattle.scr_layout.specs.Top.{named_mode, mode_of, size_of, size_or, default_of, alternate_of, screen_of, tables_in, are_tables, tables_of, fields_of}
 use Rattle.scr_layout.specs.Values.{value_at, from_one_to}
 use Rattle.scr_layout.proofs.LayoutLaw.{AreEntries}
 use Rattle.scr_layout.proofs.SizeLaw.{size_text-read}
 
 -- ---- the top
 
-size_of-read : (key : LayoutKey) (s : Size) → IsGood Bits14 s → size_of key (string (size_text s)) ≡ Ok s
+mode_of-read : (top : Members) (mode : Mode) → SaysMode top mode → mode_of top ≡ Ok mode
+unfolding mode_of named_mode
+mode_of-read top Bits14 (inl h) = rw h refl
+mode_of-read top Bits14 (inr h) = rw h refl
+mode_of-read top Bits16 h = rw h refl
+
+size_of-read : (mode : Mode) (key : LayoutKey) (s : Size) → IsGood mode s → size_of mode key (string (size_text s)) ≡ Ok s
 unfolding size_of
-size_of-read key s good = rw (size_text-read Bits14 s good)
+size_of-read mode key s good = rw (size_text-read mode s good)
 
-size_or-read : (absent : Size) (key : LayoutKey) (top : Members) (s : Size) → IsGood Bits14 s → SaysSize key absent top s → size_or absent key (value_at key top) ≡ Ok s
-size_or-read absent key top s good (inl h) = rw h.0 (ap Ok (sym h.1))
-size_or-read absent key top s good (inr h) = rw h (size_of-read key s good)
+size_or-read : (mode : Mode) (absent : Size) (key : LayoutKey) (top : Members) (s : Size) → IsGood mode s → SaysSize key absent top s → size_or mode absent key (value_at key top) ≡ Ok s
+size_or-read mode absent key top s good (inl h) = rw h.0 (ap Ok (sym h.1))
+size_or-read mode absent key top s good (inr h) = rw h (size_of-read mode key s good)
 
-default_of-read : (top : Members) (s : Size) → IsGood Bits14 s → SaysSize Default (record { rows = 24; cols = 80 }) top s → default_of top ≡ Ok s
+default_of-read : (mode : Mode) (top : Members) (s : Size) → IsGood mode s → SaysSize Default (record { rows = 24; cols = 80 }) top s → default_of mode top ≡ Ok s
 unfolding default_of
-default_of-read top s good h = size_or-read (record { rows = 24; cols = 80 }) Default top s good h
+default_of-read mode top s good h = size_or-read mode (record { rows = 24; cols = 80 }) Default top s good h
 
-alternate_of-read : (default : Size) (top : Members) (s : Size) → IsGood Bits14 s → SaysSize Alternate default top s → alternate_of default top ≡ Ok s
+alternate_of-read : (mode : Mode) (default : Size) (top : Members) (s : Size) → IsGood mode s → SaysSize Alternate default top s → alternate_of mode default top ≡ Ok s
 unfolding alternate_of
-alternate_of-read default top s good h = size_or-read default Alternate top s good h
+alternate_of-read mode default top s good h = size_or-read mode default Alternate top s good h
 
 screen_of-read : (geometry : Sizes) (top : Members) (s : Size) → SaysScreen top geometry s → screen_of geometry.default geometry.alternate top ≡ Ok s
 unfolding screen_of
@@ -159,19 +165,18 @@ pub declaration_of-read : (whole : Members) (layout : Declaration) → Says whol
 unfolding declaration_of
 declaration_of-read whole layout said =
     let law = said.is_one in
-    let M : Mode → Type 0 = λ m. IsGood m layout.geometry.default in
-    let N : Mode → Type 0 = λ m. IsGood m layout.geometry.alternate in
     let all : AreEntries layout.size layout.entries = record { named = law.named; inside = law.inside; long = law.long; names = law.names; places = law.places } in
     let fields = fields_of-read layout.size whole layout.entries said.fields all law.few in
     rw (
       said.keys,
-      default_of-read whole layout.geometry.default (subst M said.mode law.default) said.default,
-      alternate_of-read layout.geometry.default whole layout.geometry.alternate (subst N said.mode law.alternate) said.alternate,
+      mode_of-read whole layout.geometry.mode said.mode,
+      default_of-read layout.geometry.mode whole layout.geometry.default law.default said.default,
+      alternate_of-read layout.geometry.mode layout.geometry.default whole layout.geometry.alternate law.alternate said.alternate,
       screen_of-read layout.geometry whole layout.size said.screen,
       fields.1,
       fields.2,
     )
-    (ap (λ m. Ok (record { geometry = record { default = layout.geometry.default; alternate = layout.geometry.alternate; mode = m }; size = layout.size; entries = layout.entries })) (sym said.mode))
+    refl
 
 -- the layout that a text says is read of it
 pub layout_of-read : (text : List ℕ) (layout : Declaration) → TextSays text layout → layout_of text ≡ Ok layout

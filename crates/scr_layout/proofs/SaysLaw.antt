@@ -1,10 +1,11 @@
 -- What a reading gives is what the table says.
-use Rattle.std.proofs.Common.{◌≡◌, ◌∙◌, ℕ, ℤ, pos, negsuc, ◌+◌, ◌-◌, ◌*◌, ◌<◌, ◌≤◌, ◌⊎◌, inl, inr, Bool, true, false, ◌&&◌, not, nat_le, bytes_eq, cond, codes, ap, sym, subst, refl, length, List, [], ◌∷◌, ◌++◌, append_assoc, Option, Some, None, ok_or, Result, Ok, Err, arith}
-use Rattle.std.proofs.lemmas.Bool.{and_parts, leb-true}
+use Rattle.std.proofs.Common.{◌≡◌, ◌∙◌, ℕ, ℤ, pos, negsuc, ◌+◌, ◌-◌, ◌*◌, ◌<◌, ◌≤◌, ◌⊎◌, inl, inr, Bool, true, false, ◌&&◌, not, ◌==◌, nat_le, bytes_eq, cond, codes, ap, sym, subst, refl, length, List, [], ◌∷◌, ◌++◌, append_assoc, Option, Some, None, ok_or, Result, Ok, Err, arith}
+use Rattle.std.proofs.lemmas.Bool.{and_parts, leb-true, eqb-true}
 use Rattle.std.proofs.lemmas.List.{append-nil}
 use Rattle.std.proofs.lemmas.Slice.Eq.{bytes_eq-Decides}
 use Rattle.ds_codec.specs.declared.size.Size.{Size}
-use Rattle.ds_codec.specs.declared.size.Mode.TheVariants.{Bits14}
+use Rattle.ds_codec.specs.declared.size.Mode.{Mode}
+use Rattle.ds_codec.specs.declared.size.Mode.TheVariants.{Bits14, Bits16}
 use Rattle.ds_codec.specs.Geometry.{Sizes, cells_of}
 use Rattle.toml.specs.Parse.{parse_document}
 use Rattle.toml.specs.Data.{Data, string, integer, float, boolean, datetime, array, table, Items, no_items, item, Members, as_str, as_integer, as_array}
@@ -12,17 +13,17 @@ use Rattle.scr_layout.specs.declared.entry.Kind.{Kind as EntryKind}
 use Rattle.scr_layout.specs.declared.entry.Kind.TheVariants.{Input, Fixed}
 use Rattle.scr_layout.specs.declared.fault.LayoutFault.{LayoutFault}
 use Rattle.scr_layout.specs.declared.fault.LayoutKey.{LayoutKey}
-use Rattle.scr_layout.specs.declared.fault.LayoutKey.TheVariants.{Unknown, Default, Alternate, Screen, Field, Name, Row, Col, Length, Kind}
+use Rattle.scr_layout.specs.declared.fault.LayoutKey.TheVariants.{Unknown, Addresses, Default, Alternate, Screen, Field, Name, Row, Col, Length, Kind}
 use Rattle.scr_layout.specs.declared.fault.Why.TheVariants.{MissingKey, WrongKind, UnknownKey, BadName, NameTwice, PlaceOutside, PlaceTwice, TooManyFields}
 use Rattle.scr_layout.specs.Entry.{Declared, is_name}
 use Rattle.scr_layout.specs.Fault.{at_key, not_toml}
 use Rattle.scr_layout.specs.Field.{field_keys, has_name, has_place, name_of, integer_at, place_of, length_of, kind_or, kind_of, entry_of}
 use Rattle.scr_layout.specs.Layout.{Declaration, IsLayout, entries_of, declaration_of, table_of, layout_of}
 use Rattle.scr_layout.specs.Results.{tested, in_field}
-use Rattle.scr_layout.specs.Says.{HasText, HasNumber, SaysSize, SaysScreen, SaysKind, SaysEntry, SayEntries, SaysFields, Says, TextSays}
+use Rattle.scr_layout.specs.Says.{HasText, HasNumber, SaysMode, SaysSize, SaysScreen, SaysKind, SaysEntry, SayEntries, SaysFields, Says, TextSays}
 use Rattle.scr_layout.specs.SizeText.{size_text}
-use Rattle.scr_layout.specs.Top.{top_keys, size_of, size_or, default_of, alternate_of, screen_or, screen_of, tables_in, are_tables, tables_of, tables_or, fields_of}
-use Rattle.scr_layout.specs.Values.{value_at, needed_at, text_of, from_one_to, has_only, with_only}
+use Rattle.scr_layout.specs.Top.{top_keys, mode_of_bits, named_mode, mode_or, mode_of, size_of, size_or, default_of, alternate_of, screen_or, screen_of, tables_in, are_tables, tables_of, tables_or, fields_of}
+use Rattle.scr_layout.specs.Values.{value_at, needed_at, text_of, integer_of, from_one_to, has_only, with_only}
 use Rattle.scr_layout.proofs.LayoutLaw.{declaration_of-law}
 use Rattle.scr_layout.proofs.SizeLaw.{size_of_text-spelled}
 use Rattle.scr_layout.proofs.Steps.{bind_ok, tested_ok, ok_or_ok, in_field_ok, cond_some, same_ok}
@@ -71,24 +72,24 @@ same_text s t h = (bytes_eq-Decides s t).0 h
 
 -- ---- the top
 
-size_of-spelled : (key : LayoutKey) (top : Members) (d : Data) (s : Size) → value_at key top ≡ Some d → size_of key d ≡ Ok s → HasText key (size_text s) top
+size_of-spelled : (mode : Mode) (key : LayoutKey) (top : Members) (d : Data) (s : Size) → value_at key top ≡ Some d → size_of mode key d ≡ Ok s → HasText key (size_text s) top
 unfolding size_of
-size_of-spelled key top d s at h =
+size_of-spelled mode key top d s at h =
     let text = bind_ok (text_of key d) _ s h in
-    let spelled = size_of_text-spelled Bits14 text.0 s (ok_or_ok _ _ s text.2) in
+    let spelled = size_of_text-spelled mode text.0 s (ok_or_ok _ _ s text.2) in
     found_text key top d text.0 at text.1 ∙ ap (λ t. Some (string t)) spelled
 
-size_or-says : (absent : Size) (key : LayoutKey) (top : Members) (o : Option Data) (s : Size) → value_at key top ≡ o → size_or absent key o ≡ Ok s → SaysSize key absent top s
-size_or-says absent key top None s at h = inl (at, sym (same_ok absent s h))
-size_or-says absent key top (Some d) s at h = inr (size_of-spelled key top d s at h)
+size_or-says : (mode : Mode) (absent : Size) (key : LayoutKey) (top : Members) (o : Option Data) (s : Size) → value_at key top ≡ o → size_or mode absent key o ≡ Ok s → SaysSize key absent top s
+size_or-says mode absent key top None s at h = inl (at, sym (same_ok absent s h))
+size_or-says mode absent key top (Some d) s at h = inr (size_of-spelled mode key top d s at h)
 
-default_of-says : (top : Members) (s : Size) → default_of top ≡ Ok s → SaysSize Default (record { rows = 24; cols = 80 }) top s
+default_of-says : (mode : Mode) (top : Members) (s : Size) → default_of mode top ≡ Ok s → SaysSize Default (record { rows = 24; cols = 80 }) top s
 unfolding default_of
-default_of-says top s h = size_or-says (record { rows = 24; cols = 80 }) Default top (value_at Default top) s refl h
+default_of-says mode top s h = size_or-says mode (record { rows = 24; cols = 80 }) Default top (value_at Default top) s refl h
 
-alternate_of-says : (default : Size) (top : Members) (s : Size) → alternate_of default top ≡ Ok s → SaysSize Alternate default top s
+alternate_of-says : (mode : Mode) (default : Size) (top : Members) (s : Size) → alternate_of mode default top ≡ Ok s → SaysSize Alternate default top s
 unfolding alternate_of
-alternate_of-says default top s h = size_or-says default Alternate top (value_at Alternate top) s refl h
+alternate_of-says mode default top s h = size_or-says mode default Alternate top (value_at Alternate top) s refl h
 
 chosen : {A : Type 0} (a b : Bool) (x y z : A) (e : LayoutFault) → cond {A = Result A LayoutFault} a (Ok x) (cond b (Ok y) (Err e)) ≡ Ok z
     → ((a ≡ true) × (z ≡ x)) ⊎ ((b ≡ true) × (z ≡ y))
@@ -237,25 +238,62 @@ fields-say size top (Some d) tables entries at h e =
     let P : List Declared → Type 0 = λ es. SayEntries size found.0 es in
     inr (found.0, at ∙ ap Some found.1, subst P (sym said.1) said.2)
 
+-- ---- the mode of addresses
+
+chosen_mode : (a b : Bool) (m : Mode) → cond a (Some Bits14) (cond b (Some Bits16) None) ≡ Some m → ((a ≡ true) × (m ≡ Bits14)) ⊎ ((b ≡ true) × (m ≡ Bits16))
+chosen_mode true b m h = inl (refl, cc)
+chosen_mode false true m h = inr (refl, cc)
+chosen_mode false false m h = absurd cc
+
+mode_of_bits-is : (bits : Option ℕ) (m : Mode) → mode_of_bits bits ≡ Some m → ((bits ≡ Some 14) × (m ≡ Bits14)) ⊎ ((bits ≡ Some 16) × (m ≡ Bits16))
+mode_of_bits-is None m h = absurd cc
+mode_of_bits-is (Some n) m h =
+    elim (chosen_mode (n == 14) (n == 16) m h) [
+      | inl w ↦ inl (ap Some (eqb-true n 14 w.0), w.1)
+      | inr w ↦ inr (ap Some (eqb-true n 16 w.0), w.1)
+    ]
+
+named_mode-says : (top : Members) (d : Data) (m : Mode) → value_at Addresses top ≡ Some d → named_mode d ≡ Ok m → SaysMode top m
+unfolding named_mode
+named_mode-says top d m at h =
+    let number = bind_ok (integer_of Addresses d) _ m h in
+    let whole : d ≡ integer number.0 = as_integer-is d number.0 (ok_or_ok (as_integer d) (at_key Addresses WrongKind) number.0 number.1) in
+    let P : Mode → Type 0 = λ x. SaysMode top x in
+    elim (mode_of_bits-is (from_one_to 16 number.0) m (ok_or_ok _ _ m number.2)) [
+      | inl w ↦ let is = from_one_to-is 16 number.0 14 w.0 in subst P (sym w.1) (inr (at ∙ ap Some whole ∙ ap (λ z. Some (integer z)) is.0))
+      | inr w ↦ let is = from_one_to-is 16 number.0 16 w.0 in subst P (sym w.1) (at ∙ ap Some whole ∙ ap (λ z. Some (integer z)) is.0)
+    ]
+
+mode_or-says : (top : Members) (o : Option Data) (m : Mode) → value_at Addresses top ≡ o → mode_or o ≡ Ok m → SaysMode top m
+mode_or-says top None m at h = let P : Mode → Type 0 = λ x. SaysMode top x in subst P (same_ok Bits14 m h) (inl at)
+mode_or-says top (Some d) m at h = named_mode-says top d m at h
+
+mode_of-says : (top : Members) (m : Mode) → mode_of top ≡ Ok m → SaysMode top m
+unfolding mode_of
+mode_of-says top m h = mode_or-says top (value_at Addresses top) m refl h
+
+-- ---- the whole
+
 pub declaration_of-says : (whole : Members) (layout : Declaration) → declaration_of whole ≡ Ok layout → Says whole layout
 unfolding declaration_of fields_of
 declaration_of-says whole layout h =
     let top = bind_ok (with_only top_keys whole) _ layout h in
-    let default = bind_ok (default_of top.0) _ layout top.2 in
-    let alternate = bind_ok (alternate_of default.0 top.0) _ layout default.2 in
+    let mode = bind_ok (mode_of top.0) _ layout top.2 in
+    let default = bind_ok (default_of mode.0 top.0) _ layout mode.2 in
+    let alternate = bind_ok (alternate_of mode.0 default.0 top.0) _ layout default.2 in
     let size = bind_ok (screen_of default.0 alternate.0 top.0) _ layout alternate.2 in
     let fields = bind_ok (fields_of top.0) _ layout size.2 in
     let entries = bind_ok (entries_of size.0 0 [] fields.0) _ layout fields.2 in
     let only = tested_ok (has_only top_keys whole) whole (at_key Unknown UnknownKey) top.0 top.1 in
-    let geometry : Sizes = record { default = default.0; alternate = alternate.0; mode = Bits14 } in
+    let geometry : Sizes = record { default = default.0; alternate = alternate.0; mode = mode.0 } in
     let made : Declaration = record { geometry = geometry; size = size.0; entries = entries.0 } in
     let same = same_ok made layout entries.2 in
     let L : Declaration → Type 0 = λ l. IsLayout l in
     let said : Says top.0 made = record {
       keys = ap (has_only top_keys) (sym only.1) ∙ only.0;
-      mode = refl;
-      default = default_of-says top.0 default.0 default.1;
-      alternate = alternate_of-says default.0 top.0 alternate.0 alternate.1;
+      mode = mode_of-says top.0 mode.0 mode.1;
+      default = default_of-says mode.0 top.0 default.0 default.1;
+      alternate = alternate_of-says mode.0 default.0 top.0 alternate.0 alternate.1;
       screen = screen_of-says geometry top.0 size.0 size.1;
       fields = fields-say size.0 top.0 (value_at Field top.0) fields.0 entries.0 refl fields.1 entries.1;
       is_one = subst L (sym same) (declaration_of-law whole layout h);

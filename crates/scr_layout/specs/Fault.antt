@@ -1,7 +1,7 @@
 -- What is refused of a layout, and the words that are printed of it.
 use Rattle.std.specs.Prelude.{codes, decimal, ℕ, List, [], ◌++◌, Option, Some, None}
 use Rattle.scr_layout.specs.declared.fault.LayoutKey.{LayoutKey}
-use Rattle.scr_layout.specs.declared.fault.LayoutKey.TheVariants.{Unknown, Default, Alternate, Screen, Field, Name, Row, Col, Length, Kind}
+use Rattle.scr_layout.specs.declared.fault.LayoutKey.TheVariants.{Unknown, Addresses, Default, Alternate, Screen, Field, Name, Row, Col, Length, Kind}
 use Rattle.scr_layout.specs.declared.fault.Why.{Why}
 use Rattle.scr_layout.specs.declared.fault.Why.TheVariants.{NotToml, MissingKey, WrongKind, UnknownKey, BadSize, BadName, NameTwice, PlaceOutside, PlaceTwice, BadLength, TooManyFields}
 use Rattle.scr_layout.specs.declared.fault.LayoutFault.{LayoutFault}
@@ -23,6 +23,7 @@ refusal_text TooManyFields = codes "L11 TooManyFields"
 -- a key as it stands in the text
 abbrev pub key_text : LayoutKey → List ℕ
 key_text Unknown = codes "unknown"
+key_text Addresses = codes "addresses"
 key_text Default = codes "default"
 key_text Alternate = codes "alternate"
 key_text Screen = codes "screen"

@@ -2,7 +2,6 @@
 use Rattle.std.specs.Prelude.{◌≡◌, ℕ, ◌+◌, ◌≤◌, ◌<◌, ◌⊎◌, nat_eq, bytes_eq, IsTrue, List, [], ◌∷◌, ◌++◌, map, length, All, ok_or, Result, Ok}
 use Rattle.std.specs.List.{IsDistinct}
 use Rattle.ds_codec.specs.declared.size.Size.{Size}
-use Rattle.ds_codec.specs.declared.size.Mode.TheVariants.{Bits14}
 use Rattle.ds_codec.specs.Geometry.{Sizes, IsGood, cells_of}
 use Rattle.toml.specs.Data.{Members}
 use Rattle.toml.specs.Parse.{parse_document}
@@ -11,7 +10,7 @@ use Rattle.scr_layout.specs.Entry.{Declared, is_name}
 use Rattle.scr_layout.specs.Fault.{not_toml}
 use Rattle.scr_layout.specs.Results.{◌>>=◌, in_field}
 use Rattle.scr_layout.specs.Values.{with_only}
-use Rattle.scr_layout.specs.Top.{top_keys, default_of, alternate_of, screen_of, fields_of}
+use Rattle.scr_layout.specs.Top.{top_keys, mode_of, default_of, alternate_of, screen_of, fields_of}
 use Rattle.scr_layout.specs.Field.{entry_of}
 
 -- what a layout says: the sizes of the terminal, the size of the named screen, and the entries in the order of the text
@@ -31,12 +30,13 @@ entries_of size n before (table ∷ tables) = do
 unfoldable pub declaration_of : Members → Result Declaration LayoutFault
 declaration_of table = do
   top ← with_only top_keys table
-  default ← default_of top
-  alternate ← alternate_of default top
+  mode ← mode_of top
+  default ← default_of mode top
+  alternate ← alternate_of mode default top
   size ← screen_of default alternate top
   fields ← fields_of top
   entries ← entries_of size 0 [] fields
-  Ok (record { geometry = record { default = default; alternate = alternate; mode = Bits14 }; size = size; entries = entries })
+  Ok (record { geometry = record { default = default; alternate = alternate; mode = mode }; size = size; entries = entries })
 
 -- the table that a text is, by TOML
 abbrev pub table_of : List ℕ → Result Members LayoutFault

@@ -1,14 +1,15 @@
 -- What it is for a table to say a layout: what each key holds, in no order.
 use Rattle.std.specs.Prelude.{◌≡◌, ◌⊎◌, ℕ, ◌+◌, ◌*◌, ◌<◌, pos, codes, IsTrue, List, [], ◌∷◌, Some, None}
 use Rattle.ds_codec.specs.declared.size.Size.{Size}
-use Rattle.ds_codec.specs.declared.size.Mode.TheVariants.{Bits14}
+use Rattle.ds_codec.specs.declared.size.Mode.{Mode}
+use Rattle.ds_codec.specs.declared.size.Mode.TheVariants.{Bits14, Bits16}
 use Rattle.ds_codec.specs.Geometry.{Sizes}
 use Rattle.toml.specs.Parse.{parse_document}
 use Rattle.toml.specs.Data.{string, integer, array, table, Items, no_items, item, Members}
 use Rattle.scr_layout.specs.declared.entry.Kind.{Kind as EntryKind}
 use Rattle.scr_layout.specs.declared.entry.Kind.TheVariants.{Input, Fixed}
 use Rattle.scr_layout.specs.declared.fault.LayoutKey.{LayoutKey}
-use Rattle.scr_layout.specs.declared.fault.LayoutKey.TheVariants.{Default, Alternate, Screen, Field, Name, Row, Col, Length, Kind}
+use Rattle.scr_layout.specs.declared.fault.LayoutKey.TheVariants.{Addresses, Default, Alternate, Screen, Field, Name, Row, Col, Length, Kind}
 use Rattle.scr_layout.specs.Entry.{Declared}
 use Rattle.scr_layout.specs.Field.{field_keys}
 use Rattle.scr_layout.specs.Layout.{Declaration, IsLayout}
@@ -24,6 +25,11 @@ HasText key text top = value_at key top ≡ Some (string text)
 
 abbrev pub HasNumber : LayoutKey → ℕ → Members → Type 0
 HasNumber key n top = value_at key top ≡ Some (integer (pos n))
+
+-- the number of an address's bits
+abbrev pub SaysMode : Members → Mode → Type 0
+SaysMode top Bits14 = IsAbsent Addresses top ⊎ HasNumber Addresses 14 top
+SaysMode top Bits16 = HasNumber Addresses 16 top
 
 -- the key spells the size, or is absent where the size is this one
 abbrev pub SaysSize : LayoutKey → Size → Members → Size → Type 0
@@ -63,7 +69,7 @@ SaysFields top size entries =
 -- the table says the layout, which is one
 pub record Says (top : Members) (layout : Declaration) : Type 0 where
   pub keys : IsTrue (has_only top_keys top)
-  pub mode : layout.geometry.mode ≡ Bits14
+  pub mode : SaysMode top layout.geometry.mode
   pub default : SaysSize Default (record { rows = 24; cols = 80 }) top layout.geometry.default
   pub alternate : SaysSize Alternate layout.geometry.default top layout.geometry.alternate
   pub screen : SaysScreen top layout.geometry layout.size

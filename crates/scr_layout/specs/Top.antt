@@ -1,38 +1,58 @@
 -- The keys at the top of a layout.
-use Rattle.std.specs.Prelude.{codes, ℕ, Bool, true, false, nat_le, bytes_eq, if◌then◌else◌, List, [], ◌∷◌, length, Option, Some, None, ok_or, Result, Ok, Err}
+use Rattle.std.specs.Prelude.{codes, ℕ, ◌==◌, Bool, true, false, nat_le, bytes_eq, if◌then◌else◌, List, [], ◌∷◌, length, Option, Some, None, ok_or, Result, Ok, Err}
 use Rattle.ds_codec.specs.declared.size.Size.{Size}
-use Rattle.ds_codec.specs.declared.size.Mode.TheVariants.{Bits14}
+use Rattle.ds_codec.specs.declared.size.Mode.{Mode}
+use Rattle.ds_codec.specs.declared.size.Mode.TheVariants.{Bits14, Bits16}
 use Rattle.toml.specs.Data.{Data, table, Items, no_items, item, Members, as_array}
 use Rattle.scr_layout.specs.declared.fault.LayoutKey.{LayoutKey}
-use Rattle.scr_layout.specs.declared.fault.LayoutKey.TheVariants.{Default, Alternate, Screen, Field}
+use Rattle.scr_layout.specs.declared.fault.LayoutKey.TheVariants.{Addresses, Default, Alternate, Screen, Field}
 use Rattle.scr_layout.specs.declared.fault.LayoutFault.{LayoutFault}
 use Rattle.scr_layout.specs.declared.fault.Why.TheVariants.{WrongKind, BadSize, TooManyFields}
 use Rattle.scr_layout.specs.Fault.{at_key}
 use Rattle.scr_layout.specs.Results.{◌>>=◌, tested}
 use Rattle.scr_layout.specs.SizeText.{size_of_text}
-use Rattle.scr_layout.specs.Values.{value_at, text_of}
+use Rattle.scr_layout.specs.Values.{value_at, text_of, integer_of, from_one_to}
 
 abbrev pub top_keys : List LayoutKey
-top_keys = Default ∷ Alternate ∷ Screen ∷ Field ∷ []
+top_keys = Addresses ∷ Default ∷ Alternate ∷ Screen ∷ Field ∷ []
+
+-- the mode of addresses of so many bits
+abbrev pub mode_of_bits : Option ℕ → Option Mode
+mode_of_bits None = None
+mode_of_bits (Some bits) = if bits == 14 then Some Bits14 else if bits == 16 then Some Bits16 else None
+
+-- the mode that the value names by its bits
+unfoldable pub named_mode : Data → Result Mode LayoutFault
+named_mode value = do
+  bits ← integer_of Addresses value
+  ok_or (mode_of_bits (from_one_to 16 bits)) (at_key Addresses WrongKind)
+
+abbrev pub mode_or : Option Data → Result Mode LayoutFault
+mode_or None = Ok Bits14
+mode_or (Some value) = named_mode value
+
+-- `addresses`: of 14 or of 16 bits, of 14 where it is absent
+unfoldable pub mode_of : Members → Result Mode LayoutFault
+mode_of top = mode_or (value_at Addresses top)
 
 -- the size that the value is
-unfoldable pub size_of : LayoutKey → Data → Result Size LayoutFault
-size_of key value = do
+unfoldable pub size_of : Mode → LayoutKey → Data → Result Size LayoutFault
+size_of mode key value = do
   text ← text_of key value
-  ok_or (size_of_text Bits14 text) (at_key key BadSize)
+  ok_or (size_of_text mode text) (at_key key BadSize)
 
 -- a size, or what stands for it where the key is absent
-abbrev pub size_or : Size → LayoutKey → Option Data → Result Size LayoutFault
-size_or absent key None = Ok absent
-size_or absent key (Some value) = size_of key value
+abbrev pub size_or : Mode → Size → LayoutKey → Option Data → Result Size LayoutFault
+size_or mode absent key None = Ok absent
+size_or mode absent key (Some value) = size_of mode key value
 
 -- `default`: a size, 24x80 where it is absent
-unfoldable pub default_of : Members → Result Size LayoutFault
-default_of top = size_or (record { rows = 24; cols = 80 }) Default (value_at Default top)
+unfoldable pub default_of : Mode → Members → Result Size LayoutFault
+default_of mode top = size_or mode (record { rows = 24; cols = 80 }) Default (value_at Default top)
 
 -- `alternate`: a size, the default one where it is absent
-unfoldable pub alternate_of : Size → Members → Result Size LayoutFault
-alternate_of default top = size_or default Alternate (value_at Alternate top)
+unfoldable pub alternate_of : Mode → Size → Members → Result Size LayoutFault
+alternate_of mode default top = size_or mode default Alternate (value_at Alternate top)
 
 -- the size that the word names
 abbrev pub named_size : Size → Size → List ℕ → Result Size LayoutFault

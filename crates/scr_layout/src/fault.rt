@@ -12,6 +12,7 @@ use thiserror::Error;
 pub enum LayoutKey {
     /// A key that a layout does not have.
     Unknown,
+    Addresses,
     Default,
     Alternate,
     Screen,
@@ -30,6 +31,7 @@ impl LayoutKey {
     {
         match self {
             LayoutKey::Unknown => "unknown",
+            LayoutKey::Addresses => "addresses",
             LayoutKey::Default => "default",
             LayoutKey::Alternate => "alternate",
             LayoutKey::Screen => "screen",

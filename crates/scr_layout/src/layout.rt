@@ -11,8 +11,8 @@ use crate::entry::Entry;
 use crate::fault::{LayoutError, LayoutFault};
 use crate::field::entry_of;
 use crate::located::{Located, places_of};
-use crate::top::{alternate_of, default_of, fields_of, screen_of, top_of};
-use ds_codec::{Geometry, Mode, Size};
+use crate::top::{alternate_of, default_of, fields_of, mode_of, screen_of, top_of};
+use ds_codec::{Geometry, Size};
 use ds_places::held;
 use std::alloc::Global;
 use std::marker::Model;
@@ -87,13 +87,14 @@ impl Layout {
         ensures { Gives (λ l. l) result (declaration_of (table_view document.now)) }
     {
         let top = top_of(document)?;
-        let default = default_of(top)?;
-        let alternate = alternate_of(default, top)?;
+        let mode = mode_of(top)?;
+        let default = default_of(mode, top)?;
+        let alternate = alternate_of(mode, default, top)?;
         let size = screen_of(default, alternate, top)?;
         let fields = fields_of(top)?;
         let entries = entries_of(alloc, size, fields)?;
         let table = places_of(alloc, &entries)?;
-        let geometry = Geometry::new(default, alternate, Mode::usual()).unwrap();
+        let geometry = Geometry::new(default, alternate, mode).unwrap();
         Ok(Layout {
             geometry,
             size,

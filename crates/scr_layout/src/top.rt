@@ -4,15 +4,16 @@ ghost use Rattle.std.specs.Prelude.{◌≡◌, option_map};
 ghost use Rattle.toml.specs.View.{view, table_view, items_view};
 ghost use Rattle.scr_layout.specs.Results.{Tells};
 ghost use Rattle.scr_layout.specs.Values.{with_only};
-ghost use Rattle.scr_layout.specs.Top.{top_keys, size_of, default_of, alternate_of, named_size, screen_of, tables_in, are_tables, tables_of, fields_of};
+ghost use Rattle.scr_layout.specs.Top.{top_keys, mode_of_bits, named_mode, mode_of, size_of, default_of, alternate_of, named_size, screen_of, tables_in, are_tables, tables_of, fields_of};
 
 use crate::fault::{LayoutFault, LayoutKey, Why};
 use crate::size_text::size_of_text;
-use crate::values::{text_of, value_at, with_only};
+use crate::values::{from_one_to, integer_of, text_of, value_at, with_only};
 use ds_codec::{Mode, Size};
 use toml::{Table, Value};
 
-const TOP_KEYS: [LayoutKey; 4] = [
+const TOP_KEYS: [LayoutKey; 5] = [
+    LayoutKey::Addresses,
     LayoutKey::Default,
     LayoutKey::Alternate,
     LayoutKey::Screen,
@@ -26,12 +27,44 @@ pub(crate) fn top_of(table: &Table) -> Result<&Table, LayoutFault>
     with_only(&TOP_KEYS, table)
 }
 
+fn mode_of_bits(bits: Option<u32>) -> Option<Mode>
+    ensures { result ≡ mode_of_bits bits }
+{
+    match bits {
+        Some(14) => Some(Mode::Bits14),
+        Some(16) => Some(Mode::Bits16),
+        _ => None,
+    }
+}
+
+#[tactic(auto, unfolding(crate::specs::Top::named_mode))]
+fn named_mode(value: &Value) -> Result<Mode, LayoutFault>
+    ensures { result ≡ named_mode (view value.now) }
+{
+    let bits = integer_of(LayoutKey::Addresses, value)?;
+    match mode_of_bits(from_one_to(16, bits)) {
+        Some(mode) => Ok(mode),
+        None => Err(LayoutFault::at_key(LayoutKey::Addresses, Why::WrongKind)),
+    }
+}
+
+/// `addresses`: of 14 or of 16 bits, of 14 where it is absent.
+#[tactic(auto, unfolding(crate::specs::Top::mode_of))]
+pub(crate) fn mode_of(top: &Table) -> Result<Mode, LayoutFault>
+    ensures { result ≡ mode_of (table_view top.now) }
+{
+    match value_at(LayoutKey::Addresses, top) {
+        Some(value) => named_mode(value),
+        None => Ok(Mode::usual()),
+    }
+}
+
 #[tactic(auto, unfolding(crate::specs::Top::size_of))]
-fn size_of(key: LayoutKey, value: &Value) -> Result<Size, LayoutFault>
-    ensures { result ≡ size_of key (view value.now) }
+fn size_of(mode: Mode, key: LayoutKey, value: &Value) -> Result<Size, LayoutFault>
+    ensures { result ≡ size_of mode key (view value.now) }
 {
     let text = text_of(key, value)?;
-    match size_of_text(Mode::usual(), text) {
+    match size_of_text(mode, text) {
         Some(size) => Ok(size),
         None => Err(LayoutFault::at_key(key, Why::BadSize)),
     }
@@ -39,22 +72,22 @@ fn size_of(key: LayoutKey, value: &Value) -> Result<Size, LayoutFault>
 
 /// `default`: a size, 24x80 where it is absent.
 #[tactic(auto, unfolding(crate::specs::Top::default_of))]
-pub(crate) fn default_of(top: &Table) -> Result<Size, LayoutFault>
-    ensures { result ≡ default_of (table_view top.now) }
+pub(crate) fn default_of(mode: Mode, top: &Table) -> Result<Size, LayoutFault>
+    ensures { result ≡ default_of mode (table_view top.now) }
 {
     match value_at(LayoutKey::Default, top) {
-        Some(value) => size_of(LayoutKey::Default, value),
+        Some(value) => size_of(mode, LayoutKey::Default, value),
         None => Ok(Size { rows: 24, cols: 80 }),
     }
 }
 
 /// `alternate`: a size, the default one where it is absent.
 #[tactic(auto, unfolding(crate::specs::Top::alternate_of))]
-pub(crate) fn alternate_of(default: Size, top: &Table) -> Result<Size, LayoutFault>
-    ensures { result ≡ alternate_of default (table_view top.now) }
+pub(crate) fn alternate_of(mode: Mode, default: Size, top: &Table) -> Result<Size, LayoutFault>
+    ensures { result ≡ alternate_of mode default (table_view top.now) }
 {
     match value_at(LayoutKey::Alternate, top) {
-        Some(value) => size_of(LayoutKey::Alternate, value),
+        Some(value) => size_of(mode, LayoutKey::Alternate, value),
         None => Ok(default),
     }
 }

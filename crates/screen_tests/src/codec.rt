@@ -1,5 +1,8 @@
 //! Records read and written, addresses and sizes.
 
+ghost use Rattle.std.specs.Prelude.{◌≡◌};
+ghost use Rattle.ds_codec.specs.Geometry.{limit_of};
+
 use crate::refusals::{push_bad_size, push_read_refused};
 use crate::script::bytes_of;
 use crate::size_of;
@@ -15,8 +18,15 @@ use test_words::{
     two_bytes, two_numbers,
 };
 
-/// The most cells of a terminal with addresses of 14 bits.
-const MOST_CELLS: u32 = 16_384;
+/// The most cells of a terminal.
+fn most_cells(mode: Mode) -> u32
+    ensures { result ≡ limit_of mode }
+{
+    match mode {
+        Mode::Bits14 => 16_384,
+        Mode::Bits16 => 65_025,
+    }
+}
 
 fn name_of(code: CommandCode) -> &'static str {
     match code {
@@ -100,16 +110,16 @@ fn push_record(out: &mut String, record: &Record<'_>) -> Result<(), AllocError> 
 }
 
 /// The command and the orders of a record with their places, or its refusal.
-fn push_read(out: &mut String, bytes: &[u8]) -> Result<(), AllocError> {
-    match Record::read(Mode::Bits14, bytes) {
+fn push_read(mode: Mode, out: &mut String, bytes: &[u8]) -> Result<(), AllocError> {
+    match Record::read(mode, bytes) {
         Ok(record) => push_record(out, &record),
         Err(refused) => push_read_refused(out, refused),
     }
 }
 
 /// A record's command: its written byte, its write control character, and whether the byte is read as it.
-fn push_record_command(out: &mut String, bytes: &[u8]) -> Result<()> {
-    let record = Record::read(Mode::Bits14, bytes)?;
+fn push_record_command(mode: Mode, out: &mut String, bytes: &[u8]) -> Result<()> {
+    let record = Record::read(mode, bytes)?;
     let command = record.command();
     push_command(out, command)?;
     let code = command.code();
@@ -192,21 +202,21 @@ fn orders_of_lines(alloc: Global, lines: &str) -> Result<Vec<OwnedOrder>> {
 }
 
 /// A record of order lines that are parted by commas, its command first, for so many cells.
-fn push_lines(alloc: Global, out: &mut String, cells: u32, lines: &str) -> Result<()> {
-    if cells > MOST_CELLS {
+fn push_lines(alloc: Global, mode: Mode, out: &mut String, cells: u32, lines: &str) -> Result<()> {
+    if cells > most_cells(mode) {
         return None.context("cells of a terminal");
     }
     let (command, rest) = lines.split_once(", ").unwrap_or((lines, ""));
     let command = command_of(alloc, command)?;
     let orders = orders_of_lines(alloc, rest)?;
     let lent = lent(alloc, orders.as_slice())?;
-    let written = write_record(alloc, command, lent.as_slice(), Mode::Bits14, cells);
+    let written = write_record(alloc, command, lent.as_slice(), mode, cells);
     Ok(push_written(out, written)?)
 }
 
-fn push_write(alloc: Global, out: &mut String, words: &str) -> Result<()> {
+fn push_write(alloc: Global, mode: Mode, out: &mut String, words: &str) -> Result<()> {
     let (cells, lines) = cut_word(words)?;
-    push_lines(alloc, out, number(cells)?, lines)
+    push_lines(alloc, mode, out, number(cells)?, lines)
 }
 
 fn orders_of<'a>(alloc: Global, record: &Record<'a>) -> Result<Vec<Order<'a>>, AllocError> {
@@ -229,37 +239,31 @@ fn push_same(out: &mut String, bytes: &[u8], written: &[u8]) -> Result<(), Alloc
 }
 
 /// How many orders a record has, and whether they are written as the same bytes for 1,920 cells.
-fn push_again(alloc: Global, out: &mut String, bytes: &[u8]) -> Result<()> {
-    let record = Record::read(Mode::Bits14, bytes)?;
+fn push_again(alloc: Global, mode: Mode, out: &mut String, bytes: &[u8]) -> Result<()> {
+    let record = Record::read(mode, bytes)?;
     let orders = orders_of(alloc, &record)?;
     push_length(out, orders.len())?;
     out.push_str(" orders, ")?;
-    let written = write_record(
-        alloc,
-        record.command(),
-        orders.as_slice(),
-        Mode::Bits14,
-        1_920,
-    )?;
+    let written = write_record(alloc, record.command(), orders.as_slice(), mode, 1_920)?;
     Ok(push_same(out, bytes, written.as_slice())?)
 }
 
 /// The address of two bytes.
-fn push_address(out: &mut String, words: &str) -> Result<()> {
+fn push_address(mode: Mode, out: &mut String, words: &str) -> Result<()> {
     let (first, second) = two_bytes(words)?;
-    match decode_address(Mode::Bits14, first, second) {
+    match decode_address(mode, first, second) {
         Some(address) => Ok(push_number(out, address)?),
         None => Ok(out.push_str("none")?),
     }
 }
 
 /// The bytes of an address of so many cells.
-fn push_encoded(out: &mut String, words: &str) -> Result<()> {
+fn push_encoded(mode: Mode, out: &mut String, words: &str) -> Result<()> {
     let (cells, address) = two_numbers(words)?;
-    if address >= cells || cells > MOST_CELLS {
+    if address >= cells || cells > most_cells(mode) {
         return None.context("an address inside");
     }
-    let [first, second] = encode_address(Mode::Bits14, cells, address);
+    let [first, second] = encode_address(mode, cells, address);
     push_word_hex(out, "", first)?;
     Ok(push_word_hex(out, " ", second)?)
 }
@@ -270,13 +274,14 @@ fn push_geometry(out: &mut String, geometry: Geometry) -> Result<(), AllocError>
     push_word_number(out, " ", geometry.alternate_size().cells())?;
     out.push_str(match geometry.mode() {
         Mode::Bits14 => " Bits14",
+        Mode::Bits16 => " Bits16",
     })
 }
 
 /// Whether a terminal can have these sizes.
-fn push_sizes(out: &mut String, words: &str) -> Result<()> {
+fn push_sizes(mode: Mode, out: &mut String, words: &str) -> Result<()> {
     let (default, alternate) = cut_word(words)?;
-    match Geometry::new(size_of(default)?, size_of(alternate)?, Mode::Bits14) {
+    match Geometry::new(size_of(default)?, size_of(alternate)?, mode) {
         Ok(geometry) => Ok(push_geometry(out, geometry)?),
         Err(fault) => Ok(push_bad_size(out, fault)?),
     }
@@ -285,18 +290,19 @@ fn push_sizes(out: &mut String, words: &str) -> Result<()> {
 /// Adds what a verb answers; whether it is one of these.
 pub(crate) fn push_answer(
     alloc: Global,
+    mode: Mode,
     out: &mut String,
     verb: &str,
     words: &str,
 ) -> Result<bool> {
     match verb {
-        "read" => push_read(out, bytes_of(alloc, words)?.as_slice())?,
-        "command" => push_record_command(out, bytes_of(alloc, words)?.as_slice())?,
-        "write" => push_write(alloc, out, words)?,
-        "again" => push_again(alloc, out, bytes_of(alloc, words)?.as_slice())?,
-        "decode" => push_address(out, words)?,
-        "encode" => push_encoded(out, words)?,
-        "sizes" => push_sizes(out, words)?,
+        "read" => push_read(mode, out, bytes_of(alloc, words)?.as_slice())?,
+        "command" => push_record_command(mode, out, bytes_of(alloc, words)?.as_slice())?,
+        "write" => push_write(alloc, mode, out, words)?,
+        "again" => push_again(alloc, mode, out, bytes_of(alloc, words)?.as_slice())?,
+        "decode" => push_address(mode, out, words)?,
+        "encode" => push_encoded(mode, out, words)?,
+        "sizes" => push_sizes(mode, out, words)?,
         _ => return Ok(false),
     }
     Ok(true)

@@ -52,11 +52,11 @@ fn push_inbound(out: &mut String, answer: &Inbound<'_>) -> Result<(), AllocError
 }
 
 /// What bytes say of a buffer of so many cells.
-fn push_read(alloc: Global, out: &mut String, words: &str) -> Result<()> {
+fn push_read(alloc: Global, mode: Mode, out: &mut String, words: &str) -> Result<()> {
     let (cells, bytes) = cut_word(words)?;
     let cells = number(cells)?;
     let bytes = bytes_of(alloc, bytes)?;
-    match Inbound::read(Mode::Bits14, cells, bytes.as_slice()) {
+    match Inbound::read(mode, cells, bytes.as_slice()) {
         Ok(answer) => Ok(push_inbound(out, &answer)?),
         Err(refused) => Ok(push_answer_refused(out, refused)?),
     }
@@ -115,7 +115,7 @@ pub(crate) fn push_answer<C: Cells>(
     words: &str,
 ) -> Result<bool> {
     match verb {
-        "answer" => push_read(alloc, out, words)?,
+        "answer" => push_read(alloc, setup.mode, out, words)?,
         "characters" => push_codes(out, bytes_of(alloc, words)?.as_slice())?,
         "sent" => push_sent::<C>(alloc, setup, out, words)?,
         "buffer" => push_buffer(alloc, out, &screen_after::<C>(alloc, setup, words)?)?,

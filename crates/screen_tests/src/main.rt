@@ -4,7 +4,7 @@
 //! docs/PROFILE.md. Data in place of test functions: neither is proved.
 //!
 //! `screen 2x10 3x10` gives the sizes and `after RECORD; RECORD` the records of the screens that the lines below begin
-//! with, each on a new one. Every other line is a verb and its words. Bytes are words of hexadecimal: `C1C2*100` are these
+//! with, each on a new one; `addresses 16` or `addresses 14` says how addresses are spelled. Every other line is a verb and its words. Bytes are words of hexadecimal: `C1C2*100` are these
 //! two a hundred times, `110001^100` the same where the number of the last two goes on by one each time, and `[C1*100]` is
 //! printed for a hundred equal ones. Lines of `#` say what comes.
 #![tactic(auto)]
@@ -26,7 +26,7 @@ mod terminal;
 mod words;
 
 use anyhow::{Context, Result};
-use ds_codec::Size;
+use ds_codec::{Mode, Size};
 use ds_screen::{Cells, PlainCells, PlaneCells};
 use std::alloc::Global;
 use test_words::is_row;
@@ -36,6 +36,7 @@ use test_words::is_row;
 pub(crate) struct Setup {
     default: Size,
     alternate: Size,
+    mode: Mode,
     after: String,
 }
 
@@ -54,11 +55,20 @@ fn set_sizes(setup: &mut Setup, sizes: &str) -> Result<()> {
     Ok(())
 }
 
+fn mode_of(bits: &str) -> Result<Mode> {
+    match bits {
+        "14" => Ok(Mode::Bits14),
+        "16" => Ok(Mode::Bits16),
+        _ => None.context("14 or 16"),
+    }
+}
+
 /// Takes a line that says what the screens begin with; whether it is one.
 fn take_line(alloc: Global, setup: &mut Setup, line: &str) -> Result<bool> {
     let (verb, words) = line.split_once(' ').unwrap_or((line, ""));
     match verb {
         "screen" => set_sizes(setup, words)?,
+        "addresses" => setup.mode = mode_of(words)?,
         "after" => setup.after = String::from_str(alloc, words)?,
         _ => return Ok(false),
     }
@@ -104,9 +114,15 @@ fn push_either_answer(
 }
 
 /// Adds what any other verb answers; whether it is one.
-fn push_plain_answer(alloc: Global, out: &mut String, verb: &str, words: &str) -> Result<bool> {
+fn push_plain_answer(
+    alloc: Global,
+    mode: Mode,
+    out: &mut String,
+    verb: &str,
+    words: &str,
+) -> Result<bool> {
     Ok(
-        codec::push_answer(alloc, out, verb, words)?
+        codec::push_answer(alloc, mode, out, verb, words)?
             || codes::push_answer(alloc, out, verb, words)?
             || ring::push_answer(out, verb, words)?
             || words::push_answer(out, verb)?,
@@ -116,7 +132,7 @@ fn push_plain_answer(alloc: Global, out: &mut String, verb: &str, words: &str) -
 /// Adds what a row answers.
 fn push_answer(alloc: Global, setup: &Setup, out: &mut String, line: &str) -> Result<()> {
     let (verb, words) = line.split_once(' ').unwrap_or((line, ""));
-    if push_plain_answer(alloc, out, verb, words)?
+    if push_plain_answer(alloc, setup.mode, out, verb, words)?
         || both::push_answer(alloc, setup, out, verb, words)?
         || outlines::push_answer(alloc, setup, out, verb, words)?
         || push_either_answer(alloc, setup, out, verb, words)?
@@ -142,6 +158,7 @@ fn main(rt: HostRuntime) -> Result<()> {
     let mut setup = Setup {
         default: small,
         alternate: small,
+        mode: Mode::Bits14,
         after: String::new(alloc),
     };
     for line in rt.lines(alloc) {

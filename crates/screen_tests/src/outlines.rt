@@ -6,14 +6,14 @@ use crate::refusals::push_apply_refused;
 use crate::screens::{opened, push_field, push_state};
 use crate::script::bytes_of;
 use anyhow::Result;
-use ds_codec::{Geometry, Mode, Record, last_attr};
+use ds_codec::{Geometry, Record, last_attr};
 use ds_screen::{Outline, PlainCells};
 use std::alloc::{AllocError, Global};
 use test_words::{number, push_hex, push_number};
 
 /// A new outline of the setup's sizes.
 fn blank(alloc: Global, setup: &Setup) -> Result<Outline> {
-    let geometry = Geometry::new(setup.default, setup.alternate, Mode::Bits14)?;
+    let geometry = Geometry::new(setup.default, setup.alternate, setup.mode)?;
     Ok(Outline::new(alloc, geometry)?)
 }
 

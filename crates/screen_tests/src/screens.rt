@@ -4,7 +4,7 @@ use crate::Setup;
 use crate::refusals::push_apply_refused;
 use crate::script::bytes_of;
 use anyhow::{Context, Result};
-use ds_codec::{Aid, Attr, Char, Geometry, Mode, Record, Size};
+use ds_codec::{Aid, Attr, Char, Geometry, Record, Size};
 use ds_screen::{Cells, Effect, FieldAt, Lock, Screen};
 use std::alloc::{AllocError, Global};
 use test_words::{
@@ -13,7 +13,7 @@ use test_words::{
 
 /// A new screen of the setup's sizes after its records.
 pub(crate) fn opened<C: Cells>(alloc: Global, setup: &Setup) -> Result<Screen<C>> {
-    let geometry = Geometry::new(setup.default, setup.alternate, Mode::Bits14)?;
+    let geometry = Geometry::new(setup.default, setup.alternate, setup.mode)?;
     let mut screen = Screen::new(alloc, geometry)?;
     write_all(alloc, &mut screen, setup.after.as_str())?;
     Ok(screen)
@@ -33,7 +33,7 @@ pub(crate) fn screen_after<C: Cells>(
 /// Applies a record.
 fn write<C: Cells>(alloc: Global, screen: &mut Screen<C>, text: &str) -> Result<Effect> {
     let bytes = bytes_of(alloc, text)?;
-    let record = Record::read(Mode::Bits14, bytes.as_slice())?;
+    let record = Record::read(screen.geometry().mode(), bytes.as_slice())?;
     Ok(screen.apply(&record)?)
 }
 
@@ -137,7 +137,7 @@ fn push_refused<C: Cells>(
 ) -> Result<()> {
     let mut screen = opened::<C>(alloc, setup)?;
     let bytes = bytes_of(alloc, text)?;
-    let record = Record::read(Mode::Bits14, bytes.as_slice())?;
+    let record = Record::read(setup.mode, bytes.as_slice())?;
     push_applied(out, &mut screen, &record)?;
     out.push_str(": ")?;
     Ok(push_cells(alloc, out, &screen)?)

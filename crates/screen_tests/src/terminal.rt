@@ -4,7 +4,7 @@ use crate::Setup;
 use crate::refusals::{push_apply_refused, push_read_refused, push_terminal_refused};
 use crate::script::bytes_of;
 use anyhow::{Context, Result};
-use ds_codec::{Geometry, Mode};
+use ds_codec::Geometry;
 use ds_keys::key_of_line;
 use ds_screen::{Cells, Effect, Screen};
 use ds_terminal::{
@@ -32,7 +32,7 @@ fn show_all<C: Cells>(alloc: Global, terminal: &mut Terminal<C>, records: &str) 
 
 /// A terminal of the setup's sizes after its records.
 fn opened<C: Cells>(alloc: Global, setup: &Setup) -> Result<Terminal<C>> {
-    let geometry = Geometry::new(setup.default, setup.alternate, Mode::Bits14)?;
+    let geometry = Geometry::new(setup.default, setup.alternate, setup.mode)?;
     let mut terminal = Terminal::new(alloc, geometry)?;
     show_all(alloc, &mut terminal, setup.after.as_str())?;
     Ok(terminal)
@@ -238,7 +238,7 @@ fn push_read_applied<C: Cells>(
 /// A record that a screen takes at once, and one that it reads and then applies.
 fn push_two<C: Cells>(alloc: Global, setup: &Setup, out: &mut String, records: &str) -> Result<()> {
     let (first, second) = records.split_once(';').context("two records")?;
-    let geometry = Geometry::new(setup.default, setup.alternate, Mode::Bits14)?;
+    let geometry = Geometry::new(setup.default, setup.alternate, setup.mode)?;
     let mut screen = Screen::<C>::new(alloc, geometry)?;
     let first = bytes_of(alloc, first)?;
     let second = bytes_of(alloc, second)?;

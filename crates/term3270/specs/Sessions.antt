@@ -11,7 +11,7 @@ use Rattle.tn_session.specs.declared.device.Device.{Device}
 use Rattle.tn_session.specs.Wire.{WireState}
 use Rattle.term_sessions.specs.Attach.{Attaches}
 use Rattle.term_sessions.specs.Prepare.{Prepared, ready, stops}
-use Rattle.term_sessions.specs.Session.{begun}
+use Rattle.term_sessions.specs.Session.{begun, fresh}
 use Rattle.term_sessions.specs.Serve.{Serves, Visited, serving}
 
 -- nothing was written, and the status is that of a failure
@@ -24,8 +24,7 @@ sockets gone = record { coming = None; gone = gone }
 
 -- a session over a socket, from its beginning
 abbrev pub AttachesSocket : Device → List Key → Option (List ℕ) → Option (List ℕ) → Status → Type 0
-AttachesSocket device keys old new status =
-    (ended : WireState) × Attaches device keys (begun (record { left = None; held = None })) ended old new status
+AttachesSocket device keys old new status = (ended : WireState) × Attaches device keys (begun (fresh None None)) ended old new status
 
 -- the first fault of the inputs, or what stands against the screen; else its terminals, unless the port can't be bound
 abbrev pub ServesPrepared : ℕ → Option (List ℕ) → Option (List ℕ) → Status → Result Prepared Fault → Type 0

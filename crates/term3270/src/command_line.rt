@@ -15,7 +15,7 @@ const STATUSES: &str = "Statuses:
 const SHOW: &str = "Input:
   Records in hexadecimal, one a line, on standard input. Spaces, empty lines and lines that begin with '#'
   are ignored. The first other line may be 'size RxC' or 'size RxC RxC': the default and the alternate size,
-  24x80 without it.
+  24x80 without it. A last word '16' is for addresses of 16 bits.
 
 Example:
   $ printf 'size 2x10\\nF5C21D60C11D40131140C61DF0\\n' | term3270 show

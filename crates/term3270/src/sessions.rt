@@ -16,7 +16,7 @@ use ds_keys::Key;
 use std::io::{Read, Write};
 use term_commands::{Status, finish, read_keys};
 use term_sessions::{Prepared, Screen, Visits, attach_on, prepare_serve, serve_on};
-use tn_session::{Device, Wire};
+use tn_session::Device;
 
 /// Serves a layout's screen at a place to so many terminals. The port is bound once the screen is found fit.
 pub fn run_serve<L: Read, R: Read, W: Write>(
@@ -94,7 +94,10 @@ fn attach_at<W: Write>(
         ⊎ HasFailed (W.contents output.old) (W.contents output.new) result }
 {
     match TcpLine::to(rt, place) {
-        Ok(line) => attach_on(rt.alloc(), &mut Wire::new(line), device, keys, output),
+        Ok(line) => {
+            let (status, _wire) = attach_on(rt.alloc(), line, device, keys, output);
+            status
+        }
         Err(error) => place.report(rt, &error),
     }
 }

@@ -9,7 +9,7 @@ use std::net::{TcpListener, TcpStream};
 use std::test::Fail;
 use term_commands::Status;
 use term_sessions::{Prepared, Screen, Visits, attach_on, prepare_serve, serve_on};
-use tn_session::{Device, Stop, Wire};
+use tn_session::{Device, Stop};
 
 const LAYOUT: &str =
     "default = \"24x80\"\n[[field]]\nname = \"code\"\nrow = 1\ncol = 4\nlength = 3\n";
@@ -87,12 +87,11 @@ impl Write for Stuck {
 
 #[test]
 fn a_flush_that_fails_is_the_lines_fault(rt: HostRuntime) -> Result<(), Fail> {
-    let mut wire = Wire::new(Stuck {});
     let mut text = Vec::new(rt.alloc());
     let Some(device) = Device::from_name(b"IBM-3278-2") else {
         return Err(Fail::from("no device"));
     };
-    let status = attach_on(rt.alloc(), &mut wire, device, &[], &mut text);
+    let (status, wire) = attach_on(rt.alloc(), Stuck {}, device, &[], &mut text);
     assert_eq!(&rt; status, Status::Failed);
     assert_eq!(&rt; text.as_slice(), b"fault N8\n".as_slice());
     assert_eq!(&rt; wire.stop(), Some(Stop::WriteFailed));
@@ -118,8 +117,7 @@ fn a_terminal_attaches(rt: HostRuntime) -> Result<(), Fail> {
         return Err(Fail::from("no device"));
     };
     let mut text = Vec::new(rt.alloc());
-    let mut wire = Wire::new(line);
-    let status = attach_on(rt.alloc(), &mut wire, device, keys.as_slice(), &mut text);
+    let (status, wire) = attach_on(rt.alloc(), line, device, keys.as_slice(), &mut text);
     drop(wire);
     let mut got = Vec::new(rt.alloc());
     host.read_to_end(&mut got)?;

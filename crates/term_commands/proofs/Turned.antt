@@ -10,15 +10,17 @@ use Rattle.ds_codec.specs.Geometry.{Sizes}
 use Rattle.scr_layout.specs.declared.fault.LayoutFault.{LayoutFault}
 use Rattle.scr_layout.specs.Layout.{Declaration}
 use Rattle.scr_check.specs.declared.talk.Turn.{Turn}
+use Rattle.ds_codec.specs.declared.size.Mode.{Mode}
+use Rattle.ds_codec.specs.declared.size.Mode.TheVariants.{Bits14, Bits16}
 use Rattle.scr_check.specs.TalkSeen.{round_of, rounds_of, AreOfGeometry, HaveOneGeometry}
 use Rattle.scr_check.specs.Walk.{Round}
-use Rattle.scr_check.proofs.GeometryLaws.{same_is}
+use Rattle.scr_check.proofs.GeometryLaws.{modes_equal as compared, same_is}
 use Rattle.ds_codec.specs.Reading.{◌>>=◌}
 use Rattle.term_commands.specs.declared.fault.Fault.{Fault}
 use Rattle.term_commands.specs.declared.fault.Fault.TheVariants.{LayoutRefused, TurnLayoutRefused, TooLong}
 use Rattle.term_commands.specs.LayoutText.{layout_said, layout_or_fault, layout_in}
 use Rattle.term_commands.specs.Lines.{within_limit}
-use Rattle.term_commands.specs.Talk.{turn_layout_or_fault, turn_layout_in, layouts_from, is_geometry, other_from, first_other, rounds}
+use Rattle.term_commands.specs.Talk.{turn_layout_or_fault, turn_layout_in, layouts_from, modes_equal, is_geometry, other_from, first_other, rounds}
 use Rattle.term_commands.specs.TurnsHeld.{lent_held, both_known, all_remaining}
 use Rattle.term_commands.specs.declared.fault.CommandError.{CommandError}
 use Rattle.term_commands.specs.declared.fault.CommandError.TheVariants.{Fault as Told, ReadFailed, OutOfMemory}
@@ -89,10 +91,17 @@ pub turn_layout_is : (turn : ℕ) (input : List ℕ) (fault : LayoutFault) → l
 turn_layout_is turn input fault is = told_by turn input fault (within_limit input) refl is
 
 -- ---- layouts of one geometry
-and_same : (a b : Bool) → (a && b) ≡ true → (a && (b && true)) ≡ true
-and_same true true is = refl
-and_same true false is = absurd cc
-and_same false b is = absurd cc
+and_same : (a b c d : Bool) → (a && (b && c)) ≡ true → (c ≡ true → d ≡ true) → (a && (b && d)) ≡ true
+and_same true true true d is leads = leads refl
+and_same true true false d is leads = absurd cc
+and_same true false c d is leads = absurd cc
+and_same false b c d is leads = absurd cc
+
+mode_same : (a b : Mode) → modes_equal a b ≡ true → compared a b ≡ true
+mode_same Bits14 Bits14 is = refl
+mode_same Bits14 Bits16 is = absurd cc
+mode_same Bits16 Bits14 is = absurd cc
+mode_same Bits16 Bits16 is = refl
 
 pub all_same : (geometry : Sizes) (turn : ℕ) (turns : List (List (List ℕ))) (layouts : List Declaration) → other_from geometry turn layouts ≡ None → AreOfGeometry geometry (rounds turns layouts)
 unfolding other_from rounds
@@ -100,7 +109,7 @@ all_same geometry turn [] layouts none = tt
 all_same geometry turn (records ∷ turns) [] none = tt
 all_same geometry turn (records ∷ turns) (layout ∷ layouts) none =
     let parts = none_here (is_geometry layout.geometry geometry) (other_from geometry (turn + 1) layouts) turn none in
-    (same_is layout.geometry geometry (and_same _ _ parts.0), all_same geometry (turn + 1) turns layouts parts.1)
+    (same_is layout.geometry geometry (and_same _ _ _ _ parts.0 (mode_same layout.geometry.mode geometry.mode)), all_same geometry (turn + 1) turns layouts parts.1)
   where
     none_here : (t : Bool) (others : Option ℕ) (turn : ℕ) → cond t others (Some turn) ≡ None → (t ≡ true) × (others ≡ None)
     none_here true others turn none = (refl, none)

@@ -1,8 +1,9 @@
 -- The line that tells the sizes of the terminal.
-use Rattle.std.specs.Prelude.{ℕ, Bool, ◌==◌, List, drop, codes, Option, Some, None, nat_eq, if◌then◌else◌}
+use Rattle.std.specs.Prelude.{ℕ, Bool, ◌==◌, List, drop, codes, Option, Some, None, nat_eq, bytes_eq, if◌then◌else◌}
 use Rattle.std.specs.List.{starts_with, list_any, before_first, after_first}
 use Rattle.ds_codec.specs.declared.size.Size.{Size}
-use Rattle.ds_codec.specs.declared.size.Mode.TheVariants.{Bits14}
+use Rattle.ds_codec.specs.declared.size.Mode.{Mode}
+use Rattle.ds_codec.specs.declared.size.Mode.TheVariants.{Bits14, Bits16}
 use Rattle.ds_codec.specs.Geometry.{Sizes, geometry_of}
 use Rattle.scr_layout.specs.SizeText.{size_of_text}
 use Rattle.term_commands.specs.declared.input.sizes.SizeLine.{SizeLine}
@@ -15,16 +16,31 @@ usual_sizes = record { default = record { rows = 24; cols = 80 }; alternate = re
 abbrev pub is_space : ℕ → Bool
 is_space c = c == 0x20
 
-abbrev pub geometry_from : Option Size → Option Size → Option Sizes
-geometry_from (Some default) (Some alternate) = geometry_of default alternate Bits14
-geometry_from default alternate = None
+abbrev pub geometry_from : Mode → Option Size → Option Size → Option Sizes
+geometry_from mode (Some default) (Some alternate) = geometry_of default alternate mode
+geometry_from mode default alternate = None
 
--- one size, or the default and the alternate size with one space between them
+-- the default and the alternate size, as two words
+abbrev pub geometry_by : Mode → List ℕ → List ℕ → Option Sizes
+geometry_by mode default alternate = geometry_from mode (size_of_text mode default) (size_of_text mode alternate)
+
+abbrev pub is_sixteen : List ℕ → Bool
+is_sixteen words = bytes_eq words (codes "16")
+
+-- the default size, and what follows it: `16`, or the alternate size, which `16` may follow
+abbrev pub geometry_after : List ℕ → List ℕ → Option Sizes
+geometry_after default rest =
+    if is_sixteen rest then geometry_by Bits16 default default
+    else if list_any is_space rest
+    then (if is_sixteen (after_first is_space rest) then geometry_by Bits16 default (before_first is_space rest) else None)
+    else geometry_by Bits14 default rest
+
+-- one size, or the default and the alternate size, with one space between two words; addresses have 16 bits where the last
+-- word is `16`
 abbrev pub geometry_in : List ℕ → Option Sizes
 geometry_in words =
-    if list_any is_space words
-    then geometry_from (size_of_text Bits14 (before_first is_space words)) (size_of_text Bits14 (after_first is_space words))
-    else geometry_from (size_of_text Bits14 words) (size_of_text Bits14 words)
+    if list_any is_space words then geometry_after (before_first is_space words) (after_first is_space words)
+    else geometry_by Bits14 words words
 
 -- the word `size`, a space, and sizes that a terminal can have
 abbrev pub geometry_told : List ℕ → Option Sizes

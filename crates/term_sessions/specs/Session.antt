@@ -51,6 +51,10 @@ pub record FreshLine : Type 0 where
   pub left : Option (List ℕ)
   pub held : Option (List ℕ)
 
+-- a line by what it has left to read and what it holds
+abbrev pub fresh : Option (List ℕ) → Option (List ℕ) → FreshLine
+fresh left held = record { left = left; held = held }
+
 -- a wire over this line, over which nothing has passed
 abbrev pub begun : FreshLine → WireState
 begun line = record {

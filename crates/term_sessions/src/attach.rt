@@ -5,7 +5,7 @@ ghost use Rattle.std.specs.String.{string_bytes};
 ghost use Rattle.term_commands.specs.Fault.{Gives};
 ghost use Rattle.term_commands.specs.Held.{answer_seen};
 ghost use Rattle.term_commands.specs.Streams.{Prints};
-ghost use Rattle.term_sessions.specs.Session.{CanRun};
+ghost use Rattle.term_sessions.specs.Session.{CanRun, begun, fresh};
 ghost use Rattle.term_sessions.specs.Attach.{end_word, report_line, fault_line, printed_attach, IsAttached, Attaches};
 
 use crate::fault::fault_number;
@@ -99,20 +99,22 @@ fn print_session<W: Write>(
     finish(alloc, writer, answer)
 }
 
-/// Runs a terminal of this device over a wire to a host, with TN3270E and RESPONSES where the host asks for them, and presses
+/// Runs a terminal of this device over a line to a host, with TN3270E and RESPONSES where the host asks for them, and presses
 /// the keys; prints `answers A passed B refused C end E`, where E is `keys` or `closed`, or `fault` and the fault's number.
-/// The status is `Done`, or `Failed` where the session or a write failed, or `NoMemory` where memory was refused.
+/// The status is `Done`, or `Failed` where the session or a write failed, or `NoMemory` where memory was refused. With it
+/// comes the wire that was made of the line, by which a caller sees what passed and why the line stopped.
 pub fn attach_on<L: Read + Write, W: Write>(
     alloc: Global,
-    wire: &mut Wire<L>,
+    line: L,
     device: Device,
     keys: &[Key],
     writer: &mut W,
-) -> Status
-    requires { CanRun wire.old }
-    ensures { Attaches device keys.now wire.old wire.new (W.contents writer.old)
-        (W.contents writer.new) result }
+) -> (Status, Wire<L>)
+    ensures { Attaches device keys.now (begun (fresh (L.remaining line) (L.contents line)))
+        result.1 (W.contents writer.old) (W.contents writer.new) result.0 }
 {
-    let session = terminal_session(alloc, wire, device, keys);
-    print_session(alloc, session, writer)
+    let mut wire = Wire::new(line);
+    let session = terminal_session(alloc, &mut wire, device, keys);
+    let status = print_session(alloc, session, writer);
+    (status, wire)
 }

@@ -2,7 +2,8 @@
 use Rattle.std.specs.Prelude.{ℕ, ◌≡◌, ◌⊎◌, Bool, true, false, ◌&&◌, ◌||◌, ◌==◌, if◌then◌else◌, List, [], ◌∷◌, ◌++◌, codes, find, Option, Some, None}
 use Rattle.std.specs.Str.{str_to_ascii_lowercase, str_eq_ignore_ascii_case}
 use Rattle.ds_codec.specs.declared.size.Size.{Size}
-use Rattle.ds_codec.specs.declared.size.Mode.TheVariants.{Bits14}
+use Rattle.ds_codec.specs.declared.size.Mode.{Mode}
+use Rattle.ds_codec.specs.declared.size.Mode.TheVariants.{Bits14, Bits16}
 use Rattle.ds_codec.specs.Geometry.{Sizes}
 use Rattle.tn_session.specs.declared.device.ScreenModel.{ScreenModel}
 use Rattle.tn_session.specs.declared.device.ScreenModel.TheVariants.{Two, Three, Four, Five}
@@ -67,9 +68,14 @@ sizes_of model = record { default = size 24 80; alternate = alternate_of model; 
 abbrev pub is_size : Size → Size → Bool
 is_size one other = (one.rows == other.rows) && (one.cols == other.cols)
 
--- both sizes are those of the terminal that a layout is for
+-- a device's addresses have 12 or 14 bits
+abbrev pub is_device_mode : Mode → Bool
+is_device_mode Bits14 = true
+is_device_mode Bits16 = false
+
+-- the addresses are a device's, and both sizes those of the terminal that a layout is for
 unfoldable pub fits : Sizes → ScreenModel → Bool
-fits sizes model = is_size sizes.default (size 24 80) && is_size sizes.alternate (alternate_of model)
+fits sizes model = is_device_mode sizes.mode && (is_size sizes.default (size 24 80) && is_size sizes.alternate (alternate_of model))
 
 abbrev pub if_fits : Sizes → Option Device → Option Device
 if_fits sizes None = None

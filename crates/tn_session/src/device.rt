@@ -2,7 +2,7 @@
 
 ghost use Rattle.std.specs.Prelude.{◌≡◌, ◌≤◌, ◌↔◌, IfSome, IsSome, Some, length};
 ghost use Rattle.tn_session.specs.Devices.{name_of, name_in, model_digit, alternate_of, sizes_of, device_of, is_name, IsDeviceName};
-ghost use Rattle.tn_session.specs.Devices.{fits, fitting, is_size};
+ghost use Rattle.tn_session.specs.Devices.{fits, fitting, is_device_mode, is_size};
 
 use arrayvec::ArrayVec;
 use ds_codec::{Geometry, Mode, Size};
@@ -155,12 +155,22 @@ impl Device {
     }
 }
 
-/// Whether both sizes are those of a device of this model.
+fn is_device_mode(mode: Mode) -> bool
+    ensures { result ≡ is_device_mode mode }
+{
+    match mode {
+        Mode::Bits14 => true,
+        Mode::Bits16 => false,
+    }
+}
+
+/// Whether the addresses and both sizes are those of a device of this model.
 #[tactic(auto, unfolding(crate::specs::Devices::fits))]
 pub(crate) fn fits(geometry: &Geometry, model: ScreenModel) -> bool
     ensures { result ≡ fits geometry.now model }
 {
-    is_size(geometry.default_size(), Size { rows: 24, cols: 80 })
+    is_device_mode(geometry.mode())
+        && is_size(geometry.default_size(), Size { rows: 24, cols: 80 })
         && is_size(geometry.alternate_size(), model.alternate())
 }
 

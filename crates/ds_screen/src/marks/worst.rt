@@ -11,7 +11,6 @@ use crate::mark::Mark;
 use crate::marks::Marks;
 use crate::surface::Surface;
 use ds_codec::{Attr, Cell};
-use ds_places::first_from;
 
 impl Marks {
     ghost use Rattle.std.specs.Prelude.{◌≡◌, ◌<◌, ◌+◌, ◌^◌, ◌&&◌, nat_lt, not, true, length, IfSome};
@@ -29,7 +28,7 @@ impl Marks {
         ensures small { IfSome result (λ mark. mark.at + 1 < 2 ^ 32) }
     {
         let _positions = self.size;
-        first_from(&self.marks, from)
+        self.marks.first_from(from)
     }
 
     /// Whether an attribute is unprotected and governs a cell.

@@ -9,7 +9,7 @@ ghost use Rattle.term_commands.specs.Fault.{Gives};
 ghost use Rattle.term_commands.specs.Held.{answer_seen};
 ghost use Rattle.term_commands.specs.Printed.{printed};
 ghost use Rattle.term_commands.specs.Streams.{Prints};
-ghost use Rattle.term_commands.specs.Talk.{is_geometry, other_from, first_other, layouts_from, rounds, turn_lines, stop_text, printed_stop, talk, printed_talk, sizes_equal};
+ghost use Rattle.term_commands.specs.Talk.{is_geometry, modes_equal, other_from, first_other, layouts_from, rounds, turn_lines, stop_text, printed_stop, talk, printed_talk, sizes_equal};
 ghost use Rattle.term_commands.specs.TurnsHeld.{turns_held, lent_held, all_remaining};
 ghost use Rattle.std.specs.Prelude.{[]};
 
@@ -20,7 +20,7 @@ use crate::input::turns::read_turns;
 use crate::output::answer::{Answer, finish};
 use crate::output::findings::push_findings;
 use crate::status::Status;
-use ds_codec::{Geometry, Size};
+use ds_codec::{Geometry, Mode, Size};
 use scr_check::{Finding, TalkVerdict, Turn, check_talk};
 use scr_layout::Layout;
 use std::alloc::{AllocError, Global};
@@ -32,6 +32,15 @@ fn sizes_equal(a: Size, b: Size) -> bool
     a.rows == b.rows && a.cols == b.cols
 }
 
+fn modes_equal(a: Mode, b: Mode) -> bool
+    ensures { result ≡ modes_equal a b }
+{
+    match (a, b) {
+        (Mode::Bits14, Mode::Bits14) | (Mode::Bits16, Mode::Bits16) => true,
+        (Mode::Bits14, Mode::Bits16) | (Mode::Bits16, Mode::Bits14) => false,
+    }
+}
+
 /// Whether a layout is for a terminal of this geometry.
 fn is_geometry(layout: &Layout, geometry: &Geometry) -> bool
     ensures { result ≡ is_geometry layout.now.geometry geometry.now }
@@ -39,6 +48,7 @@ fn is_geometry(layout: &Layout, geometry: &Geometry) -> bool
     let other = layout.geometry();
     sizes_equal(other.default_size(), geometry.default_size())
         && sizes_equal(other.alternate_size(), geometry.alternate_size())
+        && modes_equal(other.mode(), geometry.mode())
 }
 
 /// The first of the layouts that is not for a terminal of this geometry; they count from 1.

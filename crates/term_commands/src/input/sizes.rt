@@ -1,32 +1,51 @@
 //! The line that tells the sizes of the terminal.
 
 ghost use Rattle.std.specs.Prelude.{◌≡◌};
-ghost use Rattle.ds_codec.specs.declared.size.Mode.TheVariants.{Bits14};
-ghost use Rattle.scr_layout.specs.SizeText.{size_of_text};
-ghost use Rattle.term_commands.specs.Sizes.{geometry_from, geometry_in, geometry_told, sizes_told, usual_sizes};
+ghost use Rattle.term_commands.specs.Sizes.{geometry_from, geometry_by, geometry_after, geometry_in, geometry_told, sizes_told, usual_sizes};
 
 use ds_codec::{Geometry, Mode, Size};
 use scr_layout::size_of_text;
 
-fn size(word: &str) -> Option<Size>
-    ensures { result ≡ size_of_text Bits14 word.now }
+fn geometry(mode: Mode, default: &str, alternate: &str) -> Option<Geometry>
+    ensures { result ≡ geometry_by mode default.now alternate.now }
 {
-    size_of_text(Mode::usual(), word)
+    let default = size_of_text(mode, default);
+    let alternate = size_of_text(mode, alternate);
+    of_sizes(mode, default, alternate)
 }
 
-fn geometry(default: Option<Size>, alternate: Option<Size>) -> Option<Geometry>
-    ensures { result ≡ geometry_from default alternate }
+fn of_sizes(mode: Mode, default: Option<Size>, alternate: Option<Size>) -> Option<Geometry>
+    ensures { result ≡ geometry_from mode default alternate }
 {
-    Geometry::new(default?, alternate?, Mode::usual()).ok()
+    Geometry::new(default?, alternate?, mode).ok()
 }
 
-/// The sizes that words tell: one for both, or the default and the alternate size.
+/// The sizes that the words after the default size tell with it.
+fn geometry_after(default: &str, rest: &str) -> Option<Geometry>
+    ensures { result ≡ geometry_after default.now rest.now }
+{
+    if rest == "16" {
+        return geometry(Mode::Bits16, default, default);
+    }
+    match rest.split_once(' ') {
+        Some((alternate, last)) => {
+            if last == "16" {
+                geometry(Mode::Bits16, default, alternate)
+            } else {
+                None
+            }
+        }
+        None => geometry(Mode::usual(), default, rest),
+    }
+}
+
+/// The sizes that words tell: one for both, or the default and the alternate size; and `16` for addresses of 16 bits.
 fn geometry_in(words: &str) -> Option<Geometry>
     ensures { result ≡ geometry_in words.now }
 {
     match words.split_once(' ') {
-        Some((default, alternate)) => geometry(size(default), size(alternate)),
-        None => geometry(size(words), size(words)),
+        Some((default, rest)) => geometry_after(default, rest),
+        None => geometry(Mode::usual(), words, words),
     }
 }
 
@@ -48,7 +67,8 @@ pub fn usual_geometry() -> Geometry
     }
 }
 
-/// The sizes that a line tells: `size RxC`, or `size RxC RxC` for the default and the alternate size.
+/// The sizes that a line tells: `size RxC`, or `size RxC RxC` for the default and the alternate size; then ` 16` for addresses
+/// of 16 bits.
 fn told_geometry(line: &str) -> Option<Geometry>
     ensures { result ≡ geometry_told line.now }
 {

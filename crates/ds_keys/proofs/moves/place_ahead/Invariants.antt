@@ -1,13 +1,17 @@
-use Rattle.std.proofs.Common.{◌≡◌, ℕ, ◌+◌, ◌<◌, false, length}
+use Rattle.std.proofs.Common.{◌≡◌, ◌-◌, ◌<◌, ◌≤◌, length}
 use Rattle.ds_screen.specs.Ring.{ring_on}
-use Rattle.ds_keys.specs.Moves.{is_field_start}
+use Rattle.ds_keys.proofs.SearchLaws.{NoStartAhead}
 use Rattle.ds_keys.proofs.moves.place_ahead.Given as goal
 
-abbrev pub invariant-steps : goal.invariant-steps
-invariant-steps g l =
+abbrev pub invariant-attributes : goal.invariant-attributes
+invariant-attributes g l =
     let cells = l.screen.cells in
     record {
-      at_steps : l.at ≡ ring_on (length cells) l.from l.steps;
+      at_steps : l.at ≡ ring_on (length cells) l.from l.gone;
       inside : l.at < length cells;
-      misses : (d : ℕ) → d < l.steps → is_field_start cells (ring_on (length cells) l.from (d + 1)) ≡ false;
+      few : l.gone ≤ length cells;
+      misses : NoStartAhead cells l.from l.gone;
     }
+
+abbrev pub decreases-attributes : goal.decreases-attributes
+decreases-attributes g l = l.n - l.gone

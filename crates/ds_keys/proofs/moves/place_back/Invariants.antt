@@ -1,13 +1,18 @@
-use Rattle.std.proofs.Common.{◌≡◌, ℕ, ◌+◌, ◌<◌, false, length}
+use Rattle.std.proofs.Common.{◌≡◌, ◌-◌, ◌<◌, ◌≤◌, length}
 use Rattle.ds_screen.specs.Ring.{ring_back}
-use Rattle.ds_keys.specs.Moves.{is_field_start}
+use Rattle.ds_keys.proofs.SearchLaws.{NoStartBack}
 use Rattle.ds_keys.proofs.moves.place_back.Given as goal
 
-abbrev pub invariant-steps : goal.invariant-steps
-invariant-steps g l =
+abbrev pub invariant-attributes : goal.invariant-attributes
+invariant-attributes g l =
     let cells = l.screen.cells in
+    let n = length cells in
     record {
-      at_steps : l.at ≡ ring_back (length cells) l.from l.steps;
-      inside : l.at < length cells;
-      misses : (d : ℕ) → d < l.steps → is_field_start cells (ring_back (length cells) l.from (d + 1)) ≡ false;
+      at_steps : l.at ≡ ring_back n (ring_back n (ring_back n l.from 1) 1) l.gone;
+      inside : l.at < n;
+      few : l.gone ≤ n;
+      misses : NoStartBack cells l.from l.gone;
     }
+
+abbrev pub decreases-attributes : goal.decreases-attributes
+decreases-attributes g l = l.n - l.gone

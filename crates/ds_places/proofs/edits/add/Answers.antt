@@ -1,5 +1,4 @@
-use Rattle.std.proofs.Common.{◌≡◌, List, ℕ, length, Ok, Err, vec_len, sym, ap, ◌∙◌}
-use Rattle.std.specs.List.{insert}
+use Rattle.std.proofs.Common.{List, ℕ, Ok, Err}
 use Rattle.ds_places.proofs.EditLaws.{slot_as, kept_at, added_at, inserted_at, inserted_rises}
 use Rattle.ds_places.proofs.edits.add.Goals as goal
 

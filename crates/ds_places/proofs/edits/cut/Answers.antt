@@ -1,7 +1,7 @@
-use Rattle.std.proofs.Common.{◌≡◌, ◌&&◌, leb, ltb, ◌-◌, ◌≤◌, ◌<◌, get_or, List, ℕ, length, vec_len, take, sym, ap, ◌∙◌, arith}
+use Rattle.std.proofs.Common.{◌≡◌, ◌-◌, ◌≤◌, ◌<◌, get_or, List, ℕ, length, vec_len, take, sym, ap, ◌∙◌, arith}
 use Rattle.std.specs.List.{copy_within}
 use Rattle.ds_places.proofs.SearchLaws.{Parts}
-use Rattle.ds_places.proofs.EditLaws.{parts_as, parts_order, cut_at, cut_rises, uncut_at, cut_within}
+use Rattle.ds_places.proofs.EditLaws.{parts_as, parts_order, cut_at, cut_rises, uncut_at}
 use Rattle.ds_places.proofs.edits.cut.Goals as goal
 
 pub rank_from-end-requires-clause-before : goal.rank_from-end-requires-clause-before
@@ -51,8 +51,3 @@ returns-else-start-end-clause-cut g c =
     parts_order g.T.Placed.place_of c.args.entries.now.items c.args.from c.args.to c.rank-start.result c.rank_from-end.result c.requires.order low high
     (omega (arith, c.rank-start.ensures.within, ap length c.deref.ensures.value)) in
     uncut_at g.T.Placed.place_of c.args.entries.now.items c.args.from c.args.to c.rank-start.result c.rank_from-end.result c.requires.order low high (omega arith)
-
-pub returns-then-start-end-clause-inside : goal.returns-then-start-end-clause-inside
-returns-then-start-end-clause-inside g c =
-    λ places within. cut_within g.T.Placed.place_of c.args.entries.now.items c.truncate.new.self.items places (λ q. leb c.args.from q && ltb q c.args.to) within
-    (returns-then-start-end-clause-cut g c)

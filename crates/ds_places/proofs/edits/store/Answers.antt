@@ -1,8 +1,9 @@
-use Rattle.std.proofs.Common.{◌≡◌, ◌<◌, ◌≤◌, ◌+◌, length, vec_len, vec_capacity, List, ℕ, Ok, Err, sym, ap, ◌∙◌, arith, refl}
+use Rattle.std.proofs.Common.{◌≡◌, ◌<◌, length, vec_len, vec_capacity, List, ℕ, Ok, Err, sym, ap, ◌∙◌, arith, refl}
 use Rattle.std.specs.List.{insert}
 use Rattle.std.specs.Result.{is_ok}
 use Rattle.std.proofs.lemmas.Bool.{cond-true}
-use Rattle.ds_places.proofs.EditLaws.{slot_as, has_room, inserted_at, inserted_rises, replaced_at, replaced_rises, stored_within}
+use Rattle.ds_places.proofs.EditLaws.{slot_as, inserted_at, inserted_rises, replaced_at, replaced_rises}
+use Rattle.ds_places.proofs.SearchLaws.{held_none}
 use Rattle.ds_places.proofs.edits.store.Goals as goal
 
 pub unwrap-requires : goal.unwrap-requires
@@ -11,8 +12,8 @@ unwrap-requires g c =
     let i : ℕ = c.in-Err.index in
     let slot = slot_as g.T.Placed.place_of xs c.deref.result.now c.place.result c.args.entry c.slot.result (Err i) c.deref.ensures.value c.place.ensures c.in-Err.is c.slot.ensures in
     let len : vec_len c.args.entries.now ≡ length xs = sym c.deref.ensures.len ∙ ap length c.deref.ensures.value in
-    let room : length xs + 1 ≤ c.args.places = has_room g.T.Placed.place_of xs c.args.places i c.args.entry c.requires.rising c.requires.inside slot.0 c.requires.below slot.2 in
-    let some : vec_len c.args.entries.now < vec_capacity c.args.entries.now = omega (arith, room, len, c.requires.room) in
+    let room : length xs < vec_capacity c.args.entries.now = c.requires.room (sym (held_none g.T.Placed.place_of xs (g.T.Placed.place_of c.args.entry) i c.requires.rising slot)) in
+    let some : vec_len c.args.entries.now < vec_capacity c.args.entries.now = omega (arith, room, len) in
     c.insert.ensures.succeeds some
 
 pub returns-in-Ok-clause-stored : goal.returns-in-Ok-clause-stored
@@ -31,8 +32,8 @@ returns-in-Err-clause-stored g c =
     let i : ℕ = c.in-Err.index in
     let slot = slot_as g.T.Placed.place_of xs c.deref.result.now c.place.result c.args.entry c.slot.result (Err i) c.deref.ensures.value c.place.ensures c.in-Err.is c.slot.ensures in
     let len : vec_len c.args.entries.now ≡ length xs = sym c.deref.ensures.len ∙ ap length c.deref.ensures.value in
-    let room : length xs + 1 ≤ c.args.places = has_room g.T.Placed.place_of xs c.args.places i c.args.entry c.requires.rising c.requires.inside slot.0 c.requires.below slot.2 in
-    let some : vec_len c.args.entries.now < vec_capacity c.args.entries.now = omega (arith, room, len, c.requires.room) in
+    let room : length xs < vec_capacity c.args.entries.now = c.requires.room (sym (held_none g.T.Placed.place_of xs (g.T.Placed.place_of c.args.entry) i c.requires.rising slot)) in
+    let some : vec_len c.args.entries.now < vec_capacity c.args.entries.now = omega (arith, room, len) in
     let is : c.insert.new.self.items ≡ insert xs i c.args.entry = c.insert.ensures.items ∙ cond-true (is_ok c.insert.result) _ _ (c.insert.ensures.succeeds some) in
     inserted_at g.T.Placed.place_of xs c.insert.new.self.items i c.args.entry slot.0 is
 
@@ -42,8 +43,8 @@ returns-in-Err-clause-rising g c =
     let i : ℕ = c.in-Err.index in
     let slot = slot_as g.T.Placed.place_of xs c.deref.result.now c.place.result c.args.entry c.slot.result (Err i) c.deref.ensures.value c.place.ensures c.in-Err.is c.slot.ensures in
     let len : vec_len c.args.entries.now ≡ length xs = sym c.deref.ensures.len ∙ ap length c.deref.ensures.value in
-    let room : length xs + 1 ≤ c.args.places = has_room g.T.Placed.place_of xs c.args.places i c.args.entry c.requires.rising c.requires.inside slot.0 c.requires.below slot.2 in
-    let some : vec_len c.args.entries.now < vec_capacity c.args.entries.now = omega (arith, room, len, c.requires.room) in
+    let room : length xs < vec_capacity c.args.entries.now = c.requires.room (sym (held_none g.T.Placed.place_of xs (g.T.Placed.place_of c.args.entry) i c.requires.rising slot)) in
+    let some : vec_len c.args.entries.now < vec_capacity c.args.entries.now = omega (arith, room, len) in
     let is : c.insert.new.self.items ≡ insert xs i c.args.entry = c.insert.ensures.items ∙ cond-true (is_ok c.insert.result) _ _ (c.insert.ensures.succeeds some) in
     inserted_rises g.T.Placed.place_of xs c.insert.new.self.items i c.args.entry c.requires.rising slot.0 is slot.2
 
@@ -53,14 +54,6 @@ returns-in-Err-clause-room g c =
     let i : ℕ = c.in-Err.index in
     let slot = slot_as g.T.Placed.place_of xs c.deref.result.now c.place.result c.args.entry c.slot.result (Err i) c.deref.ensures.value c.place.ensures c.in-Err.is c.slot.ensures in
     let len : vec_len c.args.entries.now ≡ length xs = sym c.deref.ensures.len ∙ ap length c.deref.ensures.value in
-    let room : length xs + 1 ≤ c.args.places = has_room g.T.Placed.place_of xs c.args.places i c.args.entry c.requires.rising c.requires.inside slot.0 c.requires.below slot.2 in
-    let some : vec_len c.args.entries.now < vec_capacity c.args.entries.now = omega (arith, room, len, c.requires.room) in
+    let room : length xs < vec_capacity c.args.entries.now = c.requires.room (sym (held_none g.T.Placed.place_of xs (g.T.Placed.place_of c.args.entry) i c.requires.rising slot)) in
+    let some : vec_len c.args.entries.now < vec_capacity c.args.entries.now = omega (arith, room, len) in
     (c.insert.ensures.in_place some).1.0
-
-pub returns-in-Ok-clause-inside : goal.returns-in-Ok-clause-inside
-returns-in-Ok-clause-inside g c =
-    stored_within g.T.Placed.place_of c.args.entries.now.items _ c.args.places c.args.entry c.requires.below c.requires.inside (returns-in-Ok-clause-stored g c)
-
-pub returns-in-Err-clause-inside : goal.returns-in-Err-clause-inside
-returns-in-Err-clause-inside g c =
-    stored_within g.T.Placed.place_of c.args.entries.now.items _ c.args.places c.args.entry c.requires.below c.requires.inside (returns-in-Err-clause-stored g c)

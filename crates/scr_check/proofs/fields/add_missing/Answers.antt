@@ -1,5 +1,4 @@
 use Rattle.std.proofs.Common.{◌≡◌, ◌<◌, ◌+◌, ◌++◌, drop, length, ◌∙◌, sym, ap, arith}
-use Rattle.ds_screen.specs.Picture.{Picture}
 use Rattle.scr_layout.specs.Entry.{Declared}
 use Rattle.scr_check.specs.Findings.{has_field, missing_from}
 use Rattle.scr_check.proofs.FieldLaws.{missing_there, missing_told}

@@ -4,10 +4,10 @@ use Rattle.scr_check.proofs.later.open_later.Goals as goal
 
 pub returns-in-Err : goal.returns-in-Err
 returns-in-Err c =
-    stands_by (λ bytes. bytes.now) c.args.outline.now c.worsen.new.self c.take_all_later.new.outline c.args.records.now c.args.size c.in-Err.finding (sym c.is_empty.ensures ∙ c.if-is_empty.false)
+    stands_by (λ bytes. bytes.now) c.args.outline.now c.worsen.new.self c.take_all.new.outline c.args.records.now c.args.size c.in-Err.finding (sym c.is_empty.ensures ∙ c.if-is_empty.false)
     c.worsen.ensures c.in-Err.ensures
 
 pub returns : goal.returns
 returns c =
-    opens_by (λ bytes. bytes.now) c.args.outline.now c.worsen.new.self c.take_all_later.new.outline c.args.records.now c.args.size c.ready.result (sym c.is_empty.ensures ∙ c.if-is_empty.false)
+    opens_by (λ bytes. bytes.now) c.args.outline.now c.worsen.new.self c.take_all.new.outline c.args.records.now c.args.size c.ready.result (sym c.is_empty.ensures ∙ c.if-is_empty.false)
     c.worsen.ensures c.in_default.ensures c.ready.ensures

@@ -10,7 +10,7 @@ use Rattle.ds_screen.proofs.marks.Marks.field_held.Goals as goal
 
 pub field_of-requires : goal.field_of-requires
 field_of-requires c =
-    let same = c.deref.ensures.value ∙ ap (λ (u : Marked). u.marks) c.self.view_is in
+    let same = ap (λ (u : Marked). u.marks) c.self.view_is in
     let kept : IsKept c.args.self.now = subst IsKept c.self.view_is c.self.invariant.0 in
     let shown : IsMarked c.args.self.now (bare_cells c.args.self.now) = bare_marked c.args.self.now kept.inside in
     let found : at_place place_of c.args.self.now.marks c.args.p ≡ Some c.in-Some.mark = subst (λ l. at_place place_of l c.args.p ≡ Some c.in-Some.mark) same (sym c.in-Some.ensures) in
@@ -20,7 +20,7 @@ field_of-requires c =
 
 pub returns-in-Some : goal.returns-in-Some
 returns-in-Some c = λ cells shown.
-    let same = c.deref.ensures.value ∙ ap (λ (u : Marked). u.marks) c.self.view_is in
+    let same = ap (λ (u : Marked). u.marks) c.self.view_is in
     let found : at_place place_of c.args.self.now.marks c.args.p ≡ Some c.in-Some.mark = subst (λ l. at_place place_of l c.args.p ≡ Some c.in-Some.mark) same (sym c.in-Some.ensures) in
     let there = held_there c.args.self.now cells c.args.p c.in-Some.mark shown found in
     let is = c.field_of.ensures.field cells shown (ap (cell_at cells) there.1 ∙ there.0) in
@@ -28,6 +28,6 @@ returns-in-Some c = λ cells shown.
 
 pub returns-in-None : goal.returns-in-None
 returns-in-None c = λ cells shown.
-    let same = c.deref.ensures.value ∙ ap (λ (u : Marked). u.marks) c.self.view_is in
+    let same = ap (λ (u : Marked). u.marks) c.self.view_is in
     let none : at_place place_of c.args.self.now.marks c.args.p ≡ None = subst (λ l. at_place place_of l c.args.p ≡ None) same (sym c.in-None.ensures) in
     sym (cond-false (is_attribute (cell_at cells c.args.p)) (Some (field_at cells c.args.p)) None (none_there c.args.self.now cells c.args.p shown none))

@@ -1,4 +1,4 @@
-use Rattle.std.proofs.Common.{◌≡◌, ◌+◌, ◌∷◌, List, Some, None, ◌∙◌, sym, ap, subst}
+use Rattle.std.proofs.Common.{◌≡◌, ◌+◌, ◌∷◌, List, Some, None, sym, ap, subst}
 use Rattle.ds_codec.specs.declared.cell.Cell.{Cell}
 use Rattle.ds_places.specs.Nearest.{IsFirstFrom}
 use Rattle.ds_screen.specs.Fields.{attributes_from, field_at}
@@ -9,7 +9,7 @@ use Rattle.ds_screen.proofs.marks.Marks.next_field.Goals as goal
 
 pub returns-in-None-clause-first : goal.returns-in-None-clause-first
 returns-in-None-clause-first c =
-    let same = c.deref.ensures.value ∙ ap (λ (u : Marked). u.marks) c.self.view_is in
+    let same = ap (λ (u : Marked). u.marks) c.self.view_is in
     let kept : IsKept c.args.self.now = subst IsKept c.self.view_is c.self.invariant.0 in
     let cells : List Cell = bare_cells c.args.self.now in
     let shown : IsMarked c.args.self.now cells = bare_marked c.args.self.now kept.inside in
@@ -17,7 +17,7 @@ returns-in-None-clause-first c =
 
 pub returns-in-Some-clause-first : goal.returns-in-Some-clause-first
 returns-in-Some-clause-first c =
-    let same = c.deref.ensures.value ∙ ap (λ (u : Marked). u.marks) c.self.view_is in
+    let same = ap (λ (u : Marked). u.marks) c.self.view_is in
     let kept : IsKept c.args.self.now = subst IsKept c.self.view_is c.self.invariant.0 in
     let cells : List Cell = bare_cells c.args.self.now in
     let shown : IsMarked c.args.self.now cells = bare_marked c.args.self.now kept.inside in

@@ -10,21 +10,20 @@ use Rattle.ds_screen.proofs.marks.MarksSurface.first_open.Goals.{else-place-mark
 
 pub returns-then-not-protected-clause-first : goal.returns-then-not-protected-clause-first
 returns-then-not-protected-clause-first c = λ cells shown.
-    let same = c.deref.ensures.value ∙ ap (λ (u : Marked). u.marks) c.self.view_is in
+    let same = ap (λ (u : Marked). u.marks) c.self.view_is in
     let found : IsFirstFrom place_of c.args.self.now.marks c.marks.place (Some c.in-Some.mark) = subst (λ l. IsFirstFrom place_of l c.marks.place (Some c.in-Some.mark)) same c.in-Some.ensures in
     open_before c.args.self.now cells c.marks.place c.marks.before c.in-Some.mark shown found (c.marks.invariant.ruled cells shown) c.if-place-mark.true
     (sym c.protected.ensures ∙ c.if-not-protected.true) (c.marks.invariant.misses cells shown)
 
 pub overflow_add-place : goal.overflow_add-place
 overflow_add-place c =
-    let found : IsFirstFrom place_of c.self.inside.marks.items c.marks.place (Some c.in-Some.mark) =
-    subst (λ l. IsFirstFrom place_of l c.marks.place (Some c.in-Some.mark)) c.deref.ensures.value c.in-Some.ensures in
-    let lt = held_inside (marked c.self.inside.marks.items c.self.inside.size c.self.inside.limit) c.in-Some.mark.at c.in-Some.mark c.self.invariant.0 found.1 in
+    let found : IsFirstFrom place_of c.self.inside.marks.entries c.marks.place (Some c.in-Some.mark) = c.in-Some.ensures in
+    let lt = held_inside (marked c.self.inside.marks.entries c.self.inside.size c.self.inside.limit) c.in-Some.mark.at c.in-Some.mark c.self.invariant.0 found.1 in
     omega (arith, lt)
 
 pub marks-preserved : goal.marks-preserved
 marks-preserved c =
-    let same = c.deref.ensures.value ∙ ap (λ (u : Marked). u.marks) c.self.view_is in
+    let same = ap (λ (u : Marked). u.marks) c.self.view_is in
     let found : IsFirstFrom place_of c.args.self.now.marks c.marks.place (Some c.in-Some.mark) = subst (λ l. IsFirstFrom place_of l c.marks.place (Some c.in-Some.mark)) same c.in-Some.ensures in
     let mark = c.in-Some.mark in
     let size = ap (λ (u : Marked). u.size) c.self.view_is in
@@ -41,7 +40,7 @@ marks-preserved c =
 
 pub returns-then-not-protected-2-clause-first : goal.returns-then-not-protected-2-clause-first
 returns-then-not-protected-2-clause-first c = λ cells shown.
-    let same = c.deref.ensures.value ∙ ap (λ (u : Marked). u.marks) c.self.view_is in
+    let same = ap (λ (u : Marked). u.marks) c.self.view_is in
     let found : IsFirstFrom place_of c.args.self.now.marks c.marks.place None = subst (λ l. IsFirstFrom place_of l c.marks.place None) same c.in_default.ensures in
     open_after c.args.self.now cells c.marks.place c.marks.before shown found (c.marks.invariant.ruled cells shown)
     (omega (arith, c.if-place-n.true, ap (λ (u : Marked). u.size) c.self.view_is))
@@ -49,7 +48,7 @@ returns-then-not-protected-2-clause-first c = λ cells shown.
 
 pub returns-else-place-n-clause-first : goal.returns-else-place-n-clause-first
 returns-else-place-n-clause-first c = λ cells shown.
-    let same = c.deref.ensures.value ∙ ap (λ (u : Marked). u.marks) c.self.view_is in
+    let same = ap (λ (u : Marked). u.marks) c.self.view_is in
     let found : IsFirstFrom place_of c.args.self.now.marks c.marks.place None = subst (λ l. IsFirstFrom place_of l c.marks.place None) same c.in_default.ensures in
     let size = ap (λ (u : Marked). u.size) c.self.view_is in
     let shut : c.marks.place < c.args.self.now.size → is_protected c.marks.before ≡ true = λ lt. elim c.else-place-n.branch [

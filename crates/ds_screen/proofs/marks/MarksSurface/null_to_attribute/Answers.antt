@@ -9,26 +9,26 @@ use Rattle.ds_screen.proofs.marks.MarksSurface.null_to_attribute.Goals as goal
 
 pub returns-in_default-clause-place : goal.returns-in_default-clause-place
 returns-in_default-clause-place c = λ cells shown.
-    let same = c.deref.ensures.value ∙ ap (λ (u : Marked). u.marks) c.self.view_is in
+    let same = ap (λ (u : Marked). u.marks) c.self.view_is in
     let found : IsFirstFrom place_of c.args.self.now.marks c.args.b None = subst (λ l. IsFirstFrom place_of l c.args.b None) same c.in_default.ensures in
     ap (λ (u : Marked). u.size) c.self.view_is ∙ sym shown.sized
     ∙ sym (ap (λ o. unwrap_or o (length cells)) (first_miss is_attribute cells c.args.b (first_never c.args.self.now cells c.args.b shown found)))
 
 pub returns-in_default-clause-shown : goal.returns-in_default-clause-shown
 returns-in_default-clause-shown c = λ cells shown.
-    let same = c.deref.ensures.value ∙ ap (λ (u : Marked). u.marks) c.self.view_is in
+    let same = ap (λ (u : Marked). u.marks) c.self.view_is in
     let found : IsFirstFrom place_of c.args.self.now.marks c.args.b None = subst (λ l. IsFirstFrom place_of l c.args.b None) same c.in_default.ensures in
     let size : c.self.inside.size ≡ length cells = ap (λ (u : Marked). u.size) c.self.view_is ∙ sym shown.sized in
     null_marked c.args.self.now cells c.args.b c.self.inside.size shown (λ p from below. first_never c.args.self.now cells c.args.b shown found p from (omega arith))
 
 pub returns-clause-place : goal.returns-clause-place
 returns-clause-place c = λ cells shown.
-    let same = c.deref.ensures.value ∙ ap (λ (u : Marked). u.marks) c.self.view_is in
+    let same = ap (λ (u : Marked). u.marks) c.self.view_is in
     let found : IsFirstFrom place_of c.args.self.now.marks c.args.b (Some c.in-Some.mark) = subst (λ l. IsFirstFrom place_of l c.args.b (Some c.in-Some.mark)) same c.in-Some.ensures in
     sym (ap (λ o. unwrap_or o (length cells)) (first_hit is_attribute cells c.args.b c.in-Some.mark.at (first_there c.args.self.now cells c.args.b c.in-Some.mark shown found)))
 
 pub returns-clause-shown : goal.returns-clause-shown
 returns-clause-shown c = λ cells shown.
-    let same = c.deref.ensures.value ∙ ap (λ (u : Marked). u.marks) c.self.view_is in
+    let same = ap (λ (u : Marked). u.marks) c.self.view_is in
     let found : IsFirstFrom place_of c.args.self.now.marks c.args.b (Some c.in-Some.mark) = subst (λ l. IsFirstFrom place_of l c.args.b (Some c.in-Some.mark)) same c.in-Some.ensures in
     null_marked c.args.self.now cells c.args.b c.in-Some.mark.at shown (first_there c.args.self.now cells c.args.b c.in-Some.mark shown found).misses

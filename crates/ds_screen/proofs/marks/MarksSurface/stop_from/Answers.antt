@@ -8,7 +8,7 @@ use Rattle.ds_screen.proofs.marks.MarksSurface.stop_from.Goals as goal
 
 pub returns-then-not-protected-clause-stop : goal.returns-then-not-protected-clause-stop
 returns-then-not-protected-clause-stop c = λ cells shown.
-    let same = c.deref.ensures.value ∙ ap (λ (u : Marked). u.marks) c.self.view_is in
+    let same = ap (λ (u : Marked). u.marks) c.self.view_is in
     let found : IsFirstFrom place_of c.args.self.now.marks c.marks.at (Some c.in-Some.mark) = subst (λ l. IsFirstFrom place_of l c.marks.at (Some c.in-Some.mark)) same c.in-Some.ensures in
     let size : c.self.inside.size ≡ length cells = ap (λ (u : Marked). u.size) c.self.view_is ∙ sym shown.sized in
     c.next.ensures.on ∙ ap (λ n. ring_on n c.in-Some.mark.at 1) size
@@ -16,13 +16,12 @@ returns-then-not-protected-clause-stop c = λ cells shown.
 
 pub overflow_add-at : goal.overflow_add-at
 overflow_add-at c =
-    let found : IsFirstFrom place_of c.self.inside.marks.items c.marks.at (Some c.in-Some.mark) =
-    subst (λ l. IsFirstFrom place_of l c.marks.at (Some c.in-Some.mark)) c.deref.ensures.value c.in-Some.ensures in
-    let lt = held_inside (marked c.self.inside.marks.items c.self.inside.size c.self.inside.limit) c.in-Some.mark.at c.in-Some.mark c.self.invariant.0 found.1 in
+    let found : IsFirstFrom place_of c.self.inside.marks.entries c.marks.at (Some c.in-Some.mark) = c.in-Some.ensures in
+    let lt = held_inside (marked c.self.inside.marks.entries c.self.inside.size c.self.inside.limit) c.in-Some.mark.at c.in-Some.mark c.self.invariant.0 found.1 in
     omega (arith, lt)
 
 pub returns-clause-stop : goal.returns-clause-stop
 returns-clause-stop c = λ cells shown.
-    let same = c.deref.ensures.value ∙ ap (λ (u : Marked). u.marks) c.self.view_is in
+    let same = ap (λ (u : Marked). u.marks) c.self.view_is in
     let found : IsFirstFrom place_of c.args.self.now.marks c.marks.at None = subst (λ l. IsFirstFrom place_of l c.marks.at None) same c.in_default.ensures in
     sym (ap (behind (length cells)) (free_never c.args.self.now cells c.args.from c.marks.at shown found (c.marks.invariant.misses cells shown)))

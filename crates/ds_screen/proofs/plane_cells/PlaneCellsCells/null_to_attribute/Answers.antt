@@ -11,19 +11,19 @@ use Rattle.ds_screen.proofs.plane_cells.PlaneCellsCells.null_to_attribute.Goals 
 
 pub invariant_of-self : goal.invariant_of-self
 invariant_of-self c =
-    let found : IsFirstFrom itself c.self.inside.index.items c.args.b c.first_from.result = subst (λ l. IsFirstFrom itself l c.args.b c.first_from.result) c.deref.ensures.value c.first_from.ensures in
-    let both = null_place c.self.inside.index.items c.self.inside.planes.cells c.len-n.result c.args.b c.first_from.result c.self.invariant.0 c.len-n.ensures.count found in (
-      subst (IsIndex c.self.inside.index.items) (sym (ap (λ (u : Held). u.cells) c.fill.ensures.filled))
-          (null_listed c.self.inside.index.items c.self.inside.planes.cells c.args.b c.unwrap_or-stop.result c.null.result c.self.invariant.0
+    let found : IsFirstFrom itself c.self.inside.index.entries c.args.b c.first_from.result = c.first_from.ensures in
+    let both = null_place c.self.inside.index.entries c.self.inside.planes.cells c.len-n.result c.args.b c.first_from.result c.self.invariant.0 c.len-n.ensures.count found in (
+      subst (IsIndex c.self.inside.index.entries) (sym (ap (λ (u : Held). u.cells) c.fill.ensures.filled))
+          (null_listed c.self.inside.index.entries c.self.inside.planes.cells c.args.b c.unwrap_or-stop.result c.null.result c.self.invariant.0
           (λ p from below. both.1 p from (omega (arith, below, c.unwrap_or-stop.ensures)))),
       omega (arith, ap (λ (u : Held). u.room) c.fill.ensures.filled, c.self.invariant.1),
     )
 
 pub returns-clause-place : goal.returns-clause-place
 returns-clause-place c =
-    let found : IsFirstFrom itself c.self.inside.index.items c.args.b c.first_from.result = subst (λ l. IsFirstFrom itself l c.args.b c.first_from.result) c.deref.ensures.value c.first_from.ensures in
+    let found : IsFirstFrom itself c.self.inside.index.entries c.args.b c.first_from.result = c.first_from.ensures in
     c.unwrap_or-stop.ensures
-    ∙ (null_place c.self.inside.index.items c.self.inside.planes.cells c.len-n.result c.args.b c.first_from.result c.self.invariant.0 c.len-n.ensures.count found).0
+    ∙ (null_place c.self.inside.index.entries c.self.inside.planes.cells c.len-n.result c.args.b c.first_from.result c.self.invariant.0 c.len-n.ensures.count found).0
     ∙ ap (λ (u : Held). unwrap_or (first_from is_attribute u.cells c.args.b) (length u.cells)) c.self.view_is
 
 pub returns-clause-nulled : goal.returns-clause-nulled

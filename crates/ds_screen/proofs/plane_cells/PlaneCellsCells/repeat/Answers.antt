@@ -13,10 +13,10 @@ pub invariant_of-self : goal.invariant_of-self
 invariant_of-self c =
     let cells = c.self.inside.planes.cells in
     let cut = c.cut_round.ensures.cut in (
-      subst (IsIndex c.cut_round.new.entries.items)
+      subst (IsIndex c.cut_round.new.self.entries)
           (ap (λ n. ruled n (λ p. cond (is_round n c.args.b c.reach-steps.result p) (Char c.args.character) (cell_at cells p))) c.len-n.ensures.count
           ∙ sym (ap (λ (u : Held). u.cells) c.fill_round.ensures.filled))
-          (repeat_listed c.self.inside.index.items c.cut_round.new.entries.items cells c.len-n.result c.args.b c.reach-steps.result c.args.character c.self.invariant.0 c.len-n.ensures.count
+          (repeat_listed c.self.inside.index.entries c.cut_round.new.self.entries cells c.len-n.result c.args.b c.reach-steps.result c.args.character c.self.invariant.0 c.len-n.ensures.count
           c.cut_round.ensures.rising c.cut_round.ensures.inside cut),
       omega (arith, ap (λ (u : Held). u.room) c.fill_round.ensures.filled, c.cut_round.ensures.room, c.self.invariant.1),
     )

@@ -6,8 +6,8 @@ use Rattle.ds_screen.proofs.plane_cells.PlaneCellsCells.reset_modified.Goals as 
 
 pub invariant_of-self : goal.invariant_of-self
 invariant_of-self c = (
-  subst (IsIndex c.self.inside.index.items) (sym (ap (λ (u : Held). u.cells) c.reset_listed.ensures.reset))
-      (reset_index c.self.inside.index.items c.self.inside.planes.cells c.args.which c.self.invariant.0),
+  subst (IsIndex c.self.inside.index.entries) (sym (ap (λ (u : Held). u.cells) c.reset_listed.ensures.reset))
+      (reset_index c.self.inside.index.entries c.self.inside.planes.cells c.args.which c.self.invariant.0),
   omega (arith, ap (λ (u : Held). u.room) c.reset_listed.ensures.reset, c.self.invariant.1),
 )
 

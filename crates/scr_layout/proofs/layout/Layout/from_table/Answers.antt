@@ -1,8 +1,6 @@
 use Rattle.std.proofs.Common.{◌≡◌, sym, subst, ap, ◌∙◌}
 use Rattle.std.proofs.lemmas.Result.{IfOk-at_ok}
 use Rattle.ds_codec.specs.Geometry.{Sizes, IsGood}
-use Rattle.ds_codec.specs.declared.size.Mode.{Mode}
-use Rattle.ds_codec.specs.declared.size.Mode.TheVariants.{Bits14}
 use Rattle.scr_layout.specs.Layout.{IsLayout}
 use Rattle.scr_layout.specs.Located.{AreLocated}
 use Rattle.scr_layout.proofs.LayoutLaw.{parts-law}
@@ -10,15 +8,12 @@ use Rattle.scr_layout.proofs.layout.Layout.from_table.Goals as goal
 
 pub unwrap-geometry-requires : goal.unwrap-geometry-requires
 unwrap-geometry-requires c =
-    let law = parts-law _ _ _ _ _ _ (sym c.in_ok-default.ensures) (sym c.in_ok-alternate.ensures) (sym c.in_ok-size.ensures) c.in_ok-fields.ensures c.in_ok-entries.ensures in
-    let good : IsGood c.usual.result c.in_ok-default.default × IsGood c.usual.result c.in_ok-alternate.alternate = rw c.usual.ensures (law.default, law.alternate) in
-    c.new.ensures.good.1 good
+    let law = parts-law _ _ _ _ _ _ _ (sym c.in_ok-default.ensures) (sym c.in_ok-alternate.ensures) (sym c.in_ok-size.ensures) c.in_ok-fields.ensures c.in_ok-entries.ensures in
+    c.new.ensures.good.1 (law.default, law.alternate)
 
 pub invariant_of-result : goal.invariant_of-result
 invariant_of-result c =
-    let law = parts-law _ _ _ _ _ _ (sym c.in_ok-default.ensures) (sym c.in_ok-alternate.ensures) (sym c.in_ok-size.ensures) c.in_ok-fields.ensures c.in_ok-entries.ensures in
-    let sizes : Sizes = record { default = c.in_ok-default.default; alternate = c.in_ok-alternate.alternate; mode = Bits14 } in
-    let told = IfOk-at_ok (λ g. g ≡ record { default = c.in_ok-default.default; alternate = c.in_ok-alternate.alternate; mode = c.usual.result }) c.unwrap-geometry.ensures c.new.ensures.sizes in
-    let same = told ∙ ap (λ (m : Mode). record { default = c.in_ok-default.default; alternate = c.in_ok-alternate.alternate; mode = m }) c.usual.ensures in
+    let law = parts-law _ _ _ _ _ _ _ (sym c.in_ok-default.ensures) (sym c.in_ok-alternate.ensures) (sym c.in_ok-size.ensures) c.in_ok-fields.ensures c.in_ok-entries.ensures in
+    let same = IfOk-at_ok (λ g. g ≡ record { default = c.in_ok-default.default; alternate = c.in_ok-alternate.alternate; mode = c.in_ok-mode.mode }) c.unwrap-geometry.ensures c.new.ensures.sizes in
     let P : Sizes → Type 0 = λ g. IsLayout (record { geometry = g; size = c.in_ok-size.size; entries = c.in_ok-entries.entries.items }) in
     (subst P (sym same) law, subst (λ es. AreLocated es c.in_ok-table.table.items) c.deref.ensures.value c.in_ok-table.ensures)

@@ -1,0 +1,156 @@
+//! Blocks of entries, one for each 256 places: an entry stands in the block of its place.
+
+ghost use Rattle.std.specs.Prelude.{◌≡◌, ◌≤◌, ◌<◌, ◌+◌, ◌/◌, ◌==◌, ◌&&◌, ℕ, [], length, map, nat_le, nat_lt, if◌then◌else◌, Some, None, IfOk, slice_index, vec_capacity};
+ghost use Rattle.ds_places.specs.Places.{IsRising, at_place};
+ghost use Rattle.ds_places.specs.Pages.{itself, lists_of, rooms_of, list_at, listed_if, IsBlock, Alters};
+
+use crate::change::Change;
+use crate::edits::{cut, store};
+use crate::placed::Placed;
+use crate::search::{rank, rank_from};
+use std::alloc::{AllocError, Global};
+
+/// The entries of a block, none where there is no such block.
+pub(crate) fn block<T: Placed>(blocks: &[Vec<T>], number: u32) -> &[T]
+    ensures { result.now ≡ list_at (lists_of blocks.now) number }
+{
+    let index = number as usize;
+    if index < blocks.len() {
+        &blocks[index]
+    } else {
+        &[]
+    }
+}
+
+/// So many empty blocks, each with room for 256 entries.
+pub(crate) fn reserved<T: Placed>(alloc: Global, count: u32) -> Result<Vec<Vec<T>>, AllocError>
+    ensures count { IfOk result (λ blocks. length (lists_of blocks.items) ≡ count) }
+    ensures empty { IfOk result (λ blocks. (k : ℕ) → list_at (lists_of blocks.items) k ≡ []) }
+    ensures roomy { IfOk result (λ blocks. (k : ℕ) → k < count → 256
+        ≤ slice_index (rooms_of blocks.items) k) }
+{
+    let mut blocks = Vec::with_capacity(alloc, count as usize)?;
+    'blocks: for _made in 0..count {
+        blocks.push(Vec::with_capacity(alloc, 256)?)?;
+    }
+    Ok(blocks)
+}
+
+/// Lists the number of a block that gets an entry.
+pub(crate) fn note<T: Placed>(used: &mut Vec<u32>, number: u32, entries: &[T])
+    requires rising { IsRising itself used.old.items }
+    requires listed { at_place itself used.old.items number ≡ listed_if number entries.now }
+    requires room { at_place itself used.old.items number ≡ None
+        → length used.old.items < vec_capacity used.old }
+    ensures noted { (k : ℕ) → at_place itself used.new.items k
+        ≡ (if number == k then Some number else at_place itself used.old.items k) }
+    ensures rising { IsRising itself used.new.items }
+    ensures room { vec_capacity used.new ≡ vec_capacity used.old }
+{
+    if entries.is_empty() {
+        store(used, number);
+    }
+}
+
+/// Stores an entry in the block of its place, over the one that its place held.
+pub(crate) fn store_in<T: Placed>(blocks: &mut Vec<Vec<T>>, entry: T)
+    requires own { IsBlock T.place_of (T.place_of entry / 256)
+        (list_at (lists_of blocks.old.items) (T.place_of entry / 256)) }
+    requires below { T.place_of entry / 256 < length (lists_of blocks.old.items) }
+    requires roomy { 256 ≤ slice_index (rooms_of blocks.old.items) (T.place_of entry / 256) }
+    ensures stored { (q : ℕ) → at_place T.place_of
+        (list_at (lists_of blocks.new.items) (T.place_of entry / 256)) q
+        ≡ (if T.place_of entry == q then Some entry
+        else at_place T.place_of (list_at (lists_of blocks.old.items) (T.place_of entry / 256)) q) }
+    ensures rising { IsRising T.place_of
+        (list_at (lists_of blocks.new.items) (T.place_of entry / 256)) }
+    ensures others { Alters blocks.old.items blocks.new.items (T.place_of entry / 256) }
+{
+    let number = (entry.place() / 256) as usize;
+    store(&mut blocks[number], entry);
+}
+
+/// Takes the entries from a place on, up to another, out of the blocks that are listed.
+pub(crate) fn cut_blocks<T: Placed>(blocks: &mut Vec<Vec<T>>, used: &[u32], from: u32, to: u32)
+    requires each { (k : ℕ) → IsBlock T.place_of k (list_at (lists_of blocks.old.items) k) }
+    requires rising { IsRising itself used.now }
+    requires listed { (k : ℕ) → at_place itself used.now k
+        ≡ listed_if k (list_at (lists_of blocks.old.items) k) }
+    requires order { from < to }
+    ensures cut { (k : ℕ) (q : ℕ) → at_place T.place_of (list_at (lists_of blocks.new.items) k) q
+        ≡ (if nat_le from q && nat_lt q to then None
+        else at_place T.place_of (list_at (lists_of blocks.old.items) k) q) }
+    ensures rising { (k : ℕ) → IsRising T.place_of (list_at (lists_of blocks.new.items) k) }
+    ensures room { rooms_of blocks.new.items ≡ rooms_of blocks.old.items }
+{
+    let start = rank(used, from / 256);
+    let end = rank_from(used, start, (to - 1) / 256 + 1);
+    'blocks: for i in start..end {
+        cut(&mut blocks[used[i] as usize], from, to);
+    }
+}
+
+/// Empties the blocks that are listed.
+pub(crate) fn clear_blocks<T: Placed>(blocks: &mut Vec<Vec<T>>, used: &[u32])
+    requires rising { IsRising itself used.now }
+    requires listed { (k : ℕ) → at_place itself used.now k
+        ≡ listed_if k (list_at (lists_of blocks.old.items) k) }
+    ensures empty { (k : ℕ) → list_at (lists_of blocks.new.items) k ≡ [] }
+    ensures room { rooms_of blocks.new.items ≡ rooms_of blocks.old.items }
+{
+    'blocks: for i in 0..used.len() {
+        blocks[used[i] as usize].clear();
+    }
+}
+
+/// Makes empty blocks copies of others, of which those that hold entries are listed.
+pub(crate) fn copy_blocks<T: Placed>(blocks: &mut Vec<Vec<T>>, others: &[Vec<T>], used: &[u32])
+    requires empty { (k : ℕ) → list_at (lists_of blocks.old.items) k ≡ [] }
+    requires rising { IsRising itself used.now }
+    requires listed { (k : ℕ) → at_place itself used.now k
+        ≡ listed_if k (list_at (lists_of others.now) k) }
+    requires each { (k : ℕ) → IsBlock T.place_of k (list_at (lists_of others.now) k) }
+    requires below { (i : ℕ) → i < length used.now → slice_index used.now i
+        < length (lists_of blocks.old.items) }
+    requires roomy { (k : ℕ) → k < length (lists_of blocks.old.items) → 256
+        ≤ slice_index (rooms_of blocks.old.items) k }
+    ensures copied { (k : ℕ) → list_at (lists_of blocks.new.items) k
+        ≡ list_at (lists_of others.now) k }
+    ensures count { length (lists_of blocks.new.items) ≡ length (lists_of blocks.old.items) }
+    ensures roomy { (k : ℕ) → k < length (lists_of blocks.old.items) → 256
+        ≤ slice_index (rooms_of blocks.new.items) k }
+{
+    'blocks: for i in 0..used.len() {
+        let entries = block(others, used[i]);
+        blocks[used[i] as usize].extend_from_slice(entries).unwrap();
+    }
+}
+
+/// Changes each entry of a block.
+fn change_block<T: Placed, C: Change<T>>(entries: &mut Vec<T>, change: &C)
+    ensures changed { entries.new.items ≡ map (C.changed change.now) entries.old.items }
+    ensures room { vec_capacity entries.new ≡ vec_capacity entries.old }
+{
+    'entries: for i in 0..entries.len() {
+        let entry = entries[i];
+        entries[i] = change.change(entry);
+    }
+}
+
+/// Changes each entry of the blocks that are listed.
+pub(crate) fn change_blocks<T: Placed, C: Change<T>>(
+    blocks: &mut Vec<Vec<T>>,
+    used: &[u32],
+    change: &C,
+)
+    requires rising { IsRising itself used.now }
+    requires listed { (k : ℕ) → at_place itself used.now k
+        ≡ listed_if k (list_at (lists_of blocks.old.items) k) }
+    ensures changed { (k : ℕ) → list_at (lists_of blocks.new.items) k
+        ≡ map (C.changed change.now) (list_at (lists_of blocks.old.items) k) }
+    ensures room { rooms_of blocks.new.items ≡ rooms_of blocks.old.items }
+{
+    'blocks: for i in 0..used.len() {
+        change_block(&mut blocks[used[i] as usize], change);
+    }
+}

@@ -1,0 +1,361 @@
+//! A list in the order of places whose edits move few entries, in whatever order they come.
+
+ghost use Rattle.std.specs.Prelude.{◌≡◌, ◌≤◌, ◌<◌, ◌+◌, ◌==◌, ◌&&◌, ℕ, [], length, map, nat_le, nat_lt, if◌then◌else◌, Some, None, IfOk, slice_get};
+ghost use Rattle.ds_places.specs.Places.{IsRising, IsWithin, at_place, is_round};
+ghost use Rattle.ds_places.specs.Nearest.{IsLastBelow, IsFirstFrom};
+
+use crate::blocks::{
+    block, change_blocks, clear_blocks, copy_blocks, cut_blocks, note, reserved, store_in,
+};
+use crate::change::Change;
+use crate::edits::cut;
+use crate::placed::Placed;
+use crate::search::{first_from, held, last_below};
+use std::alloc::{AllocError, Global};
+use std::marker::Model;
+
+/// Entries in the rising order of their places, which are below a number that is set once. They are kept in blocks
+/// of 256 places, so an entry that is put in or taken out moves no more than those of its block; the numbers of the
+/// blocks that hold entries are listed. Only `reserved` takes memory.
+#[derive(Drop)]
+pub struct Pages<T: Placed> {
+    blocks: Vec<Vec<T>>,
+    used: Vec<u32>,
+    room: u32,
+}
+
+impl<T: Placed> Model for Pages<T> {
+    ghost use Rattle.std.specs.Prelude.{◌≤◌, length, vec_capacity};
+    ghost use Rattle.ds_places.specs.Pages.{Paged, paged_code, entries_in, lists_of, rooms_of, AreBlocks};
+
+    ghost Value = { Paged T };
+
+    ghost coded = { paged_code T.code };
+
+    ghost view = { λ s. record { entries = entries_in (lists_of s.blocks.items); room = s.room } };
+
+    ghost invariant = { λ s. AreBlocks T.place_of s.room (lists_of s.blocks.items) (rooms_of s.blocks.items) s.used.items
+        × (length (lists_of s.blocks.items) ≤ vec_capacity s.used) };
+}
+
+impl<T: Placed> Pages<T> {
+    /// No entry, and room for one at each place below this.
+    ///
+    /// # Errors
+    ///
+    /// Where a request for memory was refused.
+    pub fn reserved(alloc: Global, room: u32) -> Result<Pages<T>, AllocError>
+        ensures empty { IfOk result (λ pages. pages.entries ≡ []) }
+        ensures room { IfOk result (λ pages. pages.room ≡ room) }
+    {
+        let count = room / 256 + 1;
+        let blocks = reserved(alloc, count)?;
+        let used = Vec::with_capacity(alloc, count as usize)?;
+        Ok(Pages { blocks, used, room })
+    }
+
+    /// The number of entries.
+    pub fn len(&self) -> usize
+        ensures { result ≡ length self.now.entries }
+    {
+        let _room = self.room;
+        let mut total = 0;
+        'blocks: for i in 0..self.blocks.len() {
+            total += self.blocks[i].len();
+        }
+        total
+    }
+
+    /// The entry at an index of the list, if there is one. It counts from block to block.
+    pub fn get(&self, index: usize) -> Option<T>
+        ensures { result ≡ slice_get self.now.entries index }
+    {
+        let mut left = index;
+        'blocks: for i in 0..self.blocks.len() {
+            let entries = &self.blocks[i];
+            if left < entries.len() {
+                return Some(entries[left]);
+            }
+            left -= entries.len();
+        }
+        None
+    }
+
+    /// The entry at a place.
+    pub fn held(&self, place: u32) -> Option<T>
+        ensures { result ≡ at_place T.place_of self.now.entries place }
+    {
+        held(block(&self.blocks, place / 256), place)
+    }
+
+    /// The entry at the greatest place below this one.
+    pub fn last_below(&self, place: u32) -> Option<T>
+        ensures { IsLastBelow T.place_of self.now.entries place result }
+    {
+        let number = place / 256;
+        if let Some(entry) = last_below(block(&self.blocks, number), place) {
+            return Some(entry);
+        }
+        let Some(earlier) = last_below(&self.used, number) else {
+            return None;
+        };
+        let entries = block(&self.blocks, earlier);
+        Some(entries[entries.len() - 1])
+    }
+
+    /// The entry at the least place from this one on.
+    pub fn first_from(&self, place: u32) -> Option<T>
+        ensures { IsFirstFrom T.place_of self.now.entries place result }
+    {
+        let number = place / 256;
+        if let Some(entry) = first_from(block(&self.blocks, number), place) {
+            return Some(entry);
+        }
+        let Some(later) = first_from(&self.used, number + 1) else {
+            return None;
+        };
+        Some(block(&self.blocks, later)[0])
+    }
+
+    /// Stores an entry at its place, over the one that it held.
+    pub fn store(&mut self, entry: T)
+        requires below { T.place_of entry < self.old.room }
+        ensures stored { (q : ℕ) → at_place T.place_of self.new.entries q
+            ≡ (if T.place_of entry == q then Some entry else at_place T.place_of self.old.entries q) }
+        ensures rising { IsRising T.place_of self.new.entries }
+        ensures inside { (places : ℕ) → T.place_of entry < places
+            → IsWithin T.place_of places self.old.entries → IsWithin T.place_of places self.new.entries }
+        ensures room { self.new.room ≡ self.old.room }
+    {
+        let number = entry.place() / 256;
+        note(&mut self.used, number, block(&self.blocks, number));
+        store_in(&mut self.blocks, entry);
+    }
+
+    /// Takes out the entries from a place on, up to another, which is none of them.
+    pub fn cut(&mut self, from: u32, to: u32)
+        requires { from ≤ to }
+        ensures cut { (q : ℕ) → at_place T.place_of self.new.entries q
+            ≡ (if nat_le from q && nat_lt q to then None else at_place T.place_of self.old.entries q) }
+        ensures rising { IsRising T.place_of self.new.entries }
+        ensures inside { (places : ℕ) → IsWithin T.place_of places self.old.entries
+            → IsWithin T.place_of places self.new.entries }
+        ensures room { self.new.room ≡ self.old.room }
+    {
+        let _opened = self.room;
+        if from == to {
+            return;
+        }
+        cut_blocks(&mut self.blocks, &self.used, from, to);
+        let first = from / 256;
+        let last = (to - 1) / 256;
+        let low = if block(&self.blocks, first).is_empty() {
+            first
+        } else {
+            first + 1
+        };
+        let high = if block(&self.blocks, last).is_empty() {
+            last + 1
+        } else {
+            last
+        };
+        if low < high {
+            cut(&mut self.used, low, high);
+        }
+    }
+
+    /// Takes out the entries at so many places from one on, round a ring of places.
+    pub fn cut_round(&mut self, places: u32, from: u32, steps: u32)
+        requires inside { IsWithin T.place_of places self.old.entries }
+        requires below { from < places }
+        requires few { steps ≤ places }
+        ensures cut { (q : ℕ) → at_place T.place_of self.new.entries q
+            ≡ (if is_round places from steps q then None else at_place T.place_of self.old.entries q) }
+        ensures rising { IsRising T.place_of self.new.entries }
+        ensures inside { IsWithin T.place_of places self.new.entries }
+        ensures room { self.new.room ≡ self.old.room }
+    {
+        let left = places - from;
+        if steps <= left {
+            self.cut(from, from + steps);
+        } else {
+            self.cut(from, places);
+            self.cut(0, steps - left);
+        }
+    }
+
+    /// Takes out all entries.
+    pub fn clear(&mut self)
+        ensures empty { self.new.entries ≡ [] }
+        ensures room { self.new.room ≡ self.old.room }
+    {
+        clear_blocks(&mut self.blocks, &self.used);
+        self.used.clear();
+    }
+
+    /// Makes it hold what another list holds, for which it has room.
+    pub fn copy_from(&mut self, other: &Pages<T>)
+        requires { IsWithin T.place_of self.old.room other.now.entries }
+        ensures copied { (q : ℕ) → at_place T.place_of self.new.entries q
+            ≡ at_place T.place_of other.now.entries q }
+        ensures rising { IsRising T.place_of self.new.entries }
+        ensures room { self.new.room ≡ self.old.room }
+    {
+        clear_blocks(&mut self.blocks, &self.used);
+        copy_blocks(&mut self.blocks, &other.blocks, &other.used);
+        self.used.clear();
+        self.used.extend_from_slice(&other.used).unwrap();
+    }
+
+    /// Changes each entry, and moves none.
+    pub fn change_each<C: Change<T>>(&mut self, change: &C)
+        requires { (x : T) → T.place_of (C.changed change.now x) ≡ T.place_of x }
+        ensures changed { self.new.entries ≡ map (C.changed change.now) self.old.entries }
+        ensures room { self.new.room ≡ self.old.room }
+    {
+        change_blocks(&mut self.blocks, &self.used, change);
+    }
+}
+
+#[cfg(test)]
+mod tests {
+    use super::*;
+    use std::test::Fail;
+
+    #[derive(Clone, Copy, Debug, PartialEq, Eq)]
+    struct Marked {
+        at: u32,
+        mark: u32,
+    }
+
+    impl Placed for Marked {
+        ghost place_of = { λ m. m.at };
+
+        fn place(&self) -> u32 {
+            self.at
+        }
+    }
+
+    struct Add(u32);
+
+    impl Change<Marked> for Add {
+        ghost use Rattle.std.specs.Prelude.{◌+◌, ◌%◌, ◌^◌};
+
+        ghost changed = { λ add m. record { at = m.at; mark = (m.mark + add.0) % 2 ^ 32 } };
+
+        fn change(&self, entry: Marked) -> Marked {
+            Marked {
+                at: entry.at,
+                mark: entry.mark.wrapping_add(self.0),
+            }
+        }
+    }
+
+    fn push_all(pages: &Pages<u32>, places: &mut Vec<u32>) -> Result<(), Fail> {
+        places.clear();
+        for i in 0..pages.len() {
+            match pages.get(i) {
+                Some(place) => places.push(place)?,
+                None => (),
+            }
+        }
+        Ok(())
+    }
+
+    #[test]
+    fn falling_places_rise(rt: HostRuntime) -> Result<(), Fail> {
+        let mut places = Vec::new(rt.alloc());
+        let mut pages: Pages<u32> = Pages::reserved(rt.alloc(), 800)?;
+        pages.store(799);
+        pages.store(512);
+        pages.store(511);
+        pages.store(256);
+        pages.store(255);
+        pages.store(0);
+        push_all(&pages, &mut places)?;
+        assert_eq!(rt; places.as_slice(), [0, 255, 256, 511, 512, 799].as_slice());
+        Ok(())
+    }
+
+    #[test]
+    fn scattered_places_rise(rt: HostRuntime) -> Result<(), Fail> {
+        let mut places = Vec::new(rt.alloc());
+        let mut pages: Pages<u32> = Pages::reserved(rt.alloc(), 800)?;
+        pages.store(511);
+        pages.store(0);
+        pages.store(799);
+        pages.store(256);
+        pages.store(512);
+        pages.store(255);
+        push_all(&pages, &mut places)?;
+        assert_eq!(rt; places.as_slice(), [0, 255, 256, 511, 512, 799].as_slice());
+        Ok(())
+    }
+
+    #[test]
+    fn places_are_found_across_blocks(rt: HostRuntime) -> Result<(), Fail> {
+        let mut pages: Pages<u32> = Pages::reserved(rt.alloc(), 1600)?;
+        pages.store(5);
+        pages.store(1284);
+        pages.store(240);
+        assert_eq!(rt; pages.held(240), Some(240));
+        assert_eq!(rt; pages.held(244), None);
+        assert_eq!(rt; pages.held(4_000_000_000), None);
+        assert_eq!(rt; pages.last_below(240), Some(5));
+        assert_eq!(rt; pages.last_below(1284), Some(240));
+        assert_eq!(rt; pages.last_below(4_000_000_000), Some(1284));
+        assert_eq!(rt; pages.last_below(5), None);
+        assert_eq!(rt; pages.first_from(240), Some(240));
+        assert_eq!(rt; pages.first_from(244), Some(1284));
+        assert_eq!(rt; pages.first_from(1288), None);
+        assert_eq!(rt; pages.get(1), Some(240));
+        assert_eq!(rt; pages.get(3), None);
+        Ok(())
+    }
+
+    #[test]
+    fn blocks_are_cut_and_used_again(rt: HostRuntime) -> Result<(), Fail> {
+        let mut places = Vec::new(rt.alloc());
+        let mut pages: Pages<u32> = Pages::reserved(rt.alloc(), 1600)?;
+        pages.store(2);
+        pages.store(280);
+        pages.store(560);
+        pages.store(800);
+        pages.store(1560);
+        pages.cut(280, 800);
+        push_all(&pages, &mut places)?;
+        assert_eq!(rt; places.as_slice(), [2, 800, 1560].as_slice());
+        pages.store(284);
+        pages.store(1599);
+        pages.cut(20, 20);
+        push_all(&pages, &mut places)?;
+        assert_eq!(rt; places.as_slice(), [2, 284, 800, 1560, 1599].as_slice());
+        pages.cut_round(1600, 1564, 48);
+        push_all(&pages, &mut places)?;
+        assert_eq!(rt; places.as_slice(), [284, 800, 1560].as_slice());
+        pages.clear();
+        assert_eq!(rt; pages.len(), 0);
+        assert_eq!(rt; pages.first_from(0), None);
+        pages.store(288);
+        push_all(&pages, &mut places)?;
+        assert_eq!(rt; places.as_slice(), [288].as_slice());
+        Ok(())
+    }
+
+    #[test]
+    fn a_copy_holds_what_was_copied_alone(rt: HostRuntime) -> Result<(), Fail> {
+        let mut pages = Pages::reserved(rt.alloc(), 800)?;
+        pages.store(Marked { at: 520, mark: 3 });
+        pages.store(Marked { at: 7, mark: 2 });
+        let mut other = Pages::reserved(rt.alloc(), 800)?;
+        other.store(Marked { at: 280, mark: 9 });
+        other.copy_from(&pages);
+        other.change_each(&Add(40));
+        assert_eq!(rt; other.len(), 2);
+        assert_eq!(rt; other.get(0), Some(Marked { at: 7, mark: 42 }));
+        assert_eq!(rt; other.held(520), Some(Marked { at: 520, mark: 43 }));
+        assert_eq!(rt; other.held(280), None);
+        assert_eq!(rt; other.first_from(8), Some(Marked { at: 520, mark: 43 }));
+        Ok(())
+    }
+}
