@@ -54,6 +54,13 @@ impl<T: Placed> Pages<T> {
         Ok(Pages { blocks, used, room })
     }
 
+    /// The number below which the places of its entries are to be.
+    pub fn room(&self) -> u32
+        ensures { result ≡ self.now.room }
+    {
+        self.room
+    }
+
     /// The number of entries.
     pub fn len(&self) -> usize
         ensures { result ≡ length self.now.entries }
@@ -214,148 +221,5 @@ impl<T: Placed> Pages<T> {
         ensures room { self.new.room ≡ self.old.room }
     {
         change_blocks(&mut self.blocks, &self.used, change);
-    }
-}
-
-#[cfg(test)]
-mod tests {
-    use super::*;
-    use std::test::Fail;
-
-    #[derive(Clone, Copy, Debug, PartialEq, Eq)]
-    struct Marked {
-        at: u32,
-        mark: u32,
-    }
-
-    impl Placed for Marked {
-        ghost place_of = { λ m. m.at };
-
-        fn place(&self) -> u32 {
-            self.at
-        }
-    }
-
-    struct Add(u32);
-
-    impl Change<Marked> for Add {
-        ghost use Rattle.std.specs.Prelude.{◌+◌, ◌%◌, ◌^◌};
-
-        ghost changed = { λ add m. record { at = m.at; mark = (m.mark + add.0) % 2 ^ 32 } };
-
-        fn change(&self, entry: Marked) -> Marked {
-            Marked {
-                at: entry.at,
-                mark: entry.mark.wrapping_add(self.0),
-            }
-        }
-    }
-
-    fn push_all(pages: &Pages<u32>, places: &mut Vec<u32>) -> Result<(), Fail> {
-        places.clear();
-        for i in 0..pages.len() {
-            match pages.get(i) {
-                Some(place) => places.push(place)?,
-                None => (),
-            }
-        }
-        Ok(())
-    }
-
-    #[test]
-    fn falling_places_rise(rt: HostRuntime) -> Result<(), Fail> {
-        let mut places = Vec::new(rt.alloc());
-        let mut pages: Pages<u32> = Pages::reserved(rt.alloc(), 800)?;
-        pages.store(799);
-        pages.store(512);
-        pages.store(511);
-        pages.store(256);
-        pages.store(255);
-        pages.store(0);
-        push_all(&pages, &mut places)?;
-        assert_eq!(rt; places.as_slice(), [0, 255, 256, 511, 512, 799].as_slice());
-        Ok(())
-    }
-
-    #[test]
-    fn scattered_places_rise(rt: HostRuntime) -> Result<(), Fail> {
-        let mut places = Vec::new(rt.alloc());
-        let mut pages: Pages<u32> = Pages::reserved(rt.alloc(), 800)?;
-        pages.store(511);
-        pages.store(0);
-        pages.store(799);
-        pages.store(256);
-        pages.store(512);
-        pages.store(255);
-        push_all(&pages, &mut places)?;
-        assert_eq!(rt; places.as_slice(), [0, 255, 256, 511, 512, 799].as_slice());
-        Ok(())
-    }
-
-    #[test]
-    fn places_are_found_across_blocks(rt: HostRuntime) -> Result<(), Fail> {
-        let mut pages: Pages<u32> = Pages::reserved(rt.alloc(), 1600)?;
-        pages.store(5);
-        pages.store(1284);
-        pages.store(240);
-        assert_eq!(rt; pages.held(240), Some(240));
-        assert_eq!(rt; pages.held(244), None);
-        assert_eq!(rt; pages.held(4_000_000_000), None);
-        assert_eq!(rt; pages.last_below(240), Some(5));
-        assert_eq!(rt; pages.last_below(1284), Some(240));
-        assert_eq!(rt; pages.last_below(4_000_000_000), Some(1284));
-        assert_eq!(rt; pages.last_below(5), None);
-        assert_eq!(rt; pages.first_from(240), Some(240));
-        assert_eq!(rt; pages.first_from(244), Some(1284));
-        assert_eq!(rt; pages.first_from(1288), None);
-        assert_eq!(rt; pages.get(1), Some(240));
-        assert_eq!(rt; pages.get(3), None);
-        Ok(())
-    }
-
-    #[test]
-    fn blocks_are_cut_and_used_again(rt: HostRuntime) -> Result<(), Fail> {
-        let mut places = Vec::new(rt.alloc());
-        let mut pages: Pages<u32> = Pages::reserved(rt.alloc(), 1600)?;
-        pages.store(2);
-        pages.store(280);
-        pages.store(560);
-        pages.store(800);
-        pages.store(1560);
-        pages.cut(280, 800);
-        push_all(&pages, &mut places)?;
-        assert_eq!(rt; places.as_slice(), [2, 800, 1560].as_slice());
-        pages.store(284);
-        pages.store(1599);
-        pages.cut(20, 20);
-        push_all(&pages, &mut places)?;
-        assert_eq!(rt; places.as_slice(), [2, 284, 800, 1560, 1599].as_slice());
-        pages.cut_round(1600, 1564, 48);
-        push_all(&pages, &mut places)?;
-        assert_eq!(rt; places.as_slice(), [284, 800, 1560].as_slice());
-        pages.clear();
-        assert_eq!(rt; pages.len(), 0);
-        assert_eq!(rt; pages.first_from(0), None);
-        pages.store(288);
-        push_all(&pages, &mut places)?;
-        assert_eq!(rt; places.as_slice(), [288].as_slice());
-        Ok(())
-    }
-
-    #[test]
-    fn a_copy_holds_what_was_copied_alone(rt: HostRuntime) -> Result<(), Fail> {
-        let mut pages = Pages::reserved(rt.alloc(), 800)?;
-        pages.store(Marked { at: 520, mark: 3 });
-        pages.store(Marked { at: 7, mark: 2 });
-        let mut other = Pages::reserved(rt.alloc(), 800)?;
-        other.store(Marked { at: 280, mark: 9 });
-        other.copy_from(&pages);
-        other.change_each(&Add(40));
-        assert_eq!(rt; other.len(), 2);
-        assert_eq!(rt; other.get(0), Some(Marked { at: 7, mark: 42 }));
-        assert_eq!(rt; other.held(520), Some(Marked { at: 520, mark: 43 }));
-        assert_eq!(rt; other.held(280), None);
-        assert_eq!(rt; other.first_from(8), Some(Marked { at: 520, mark: 43 }));
-        Ok(())
     }
 }

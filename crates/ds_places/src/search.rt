@@ -97,21 +97,3 @@ pub(crate) fn first_from<T: Placed>(entries: &[T], place: u32) -> Option<T>
         None
     }
 }
-
-#[cfg(test)]
-mod tests {
-    use super::*;
-
-    #[test]
-    fn places_are_found(rt: HostRuntime) {
-        let entries: [u32; 4] = [2, 5, 6, 19];
-        assert_eq!(rt; rank(&entries, 5), 1);
-        assert_eq!(rt; rank(&entries, 20), 4);
-        assert_eq!(rt; held(&entries, 6), Some(6));
-        assert_eq!(rt; held(&entries, 7), None);
-        assert_eq!(rt; last_below(&entries, 6), Some(5));
-        assert_eq!(rt; last_below(&entries, 2), None);
-        assert_eq!(rt; first_from(&entries, 7), Some(19));
-        assert_eq!(rt; first_from(&entries, 20), None);
-    }
-}

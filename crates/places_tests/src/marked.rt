@@ -1,0 +1,53 @@
+//! Entries with a mark, and a change of them.
+
+ghost use Rattle.std.specs.Prelude.{◌+◌, ◌%◌, ◌^◌};
+
+use anyhow::Result;
+use ds_places::{Change, Placed};
+use std::alloc::AllocError;
+use test_words::{push_word_number, two_numbers};
+
+/// A place with a mark.
+#[derive(Clone, Copy)]
+pub(crate) struct Marked {
+    pub(crate) at: u32,
+    pub(crate) mark: u32,
+}
+
+impl Placed for Marked {
+    ghost place_of = { λ m. m.at };
+
+    fn place(&self) -> u32 {
+        self.at
+    }
+}
+
+/// Adds a number to a mark.
+#[derive(Drop)]
+pub(crate) struct Add(pub(crate) u32);
+
+impl Change<Marked> for Add {
+    ghost changed = { λ add m. record { at = m.at; mark = (m.mark + add.0) % 2 ^ 32 } };
+
+    fn change(&self, entry: Marked) -> Marked {
+        Marked {
+            at: entry.at,
+            mark: entry.mark.wrapping_add(self.0),
+        }
+    }
+}
+
+/// An entry of two words.
+pub(crate) fn entry_of(words: &str) -> Result<Marked> {
+    let (at, mark) = two_numbers(words)?;
+    Ok(Marked { at, mark })
+}
+
+/// An entry, or that there is none.
+pub(crate) fn push_entry(out: &mut String, entry: Option<Marked>) -> Result<(), AllocError> {
+    let Some(entry) = entry else {
+        return out.push_str(" none");
+    };
+    push_word_number(out, " ", entry.at)?;
+    push_word_number(out, ":", entry.mark)
+}
