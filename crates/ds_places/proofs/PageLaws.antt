@@ -280,6 +280,10 @@ module _ {T : Type 0} (place : T → ℕ) where
   pub cut_after : (from to : ℕ) (old : List (List T)) (k : ℕ) → IsBlock place k (list_at old k) → (to - 1) / 256 < k → IsCut from to old k (list_at old k)
   cut_after from to old k own lt = (own.rising, λ q. uncut from to (list_at old k) q (λ at below. own.inside q (λ same. omega (arith, same, lt, below))))
 
+  -- a block that is not the one of all these places
+  pub cut_other : (from to : ℕ) (old : List (List T)) (k : ℕ) → IsBlock place k (list_at old k) → from / 256 ≡ (to - 1) / 256 → k ≢ from / 256 → IsCut from to old k (list_at old k)
+  cut_other from to old k own one apart = (own.rising, λ q. uncut from to (list_at old k) q (λ at below. own.inside q (λ same. apart (omega (arith, same, at, below, one)))))
+
   pub cut_own : (from to : ℕ) (old now : List (List T)) (k : ℕ) → IsBlock place k (list_at old k) → ((q : ℕ) → at_place place (list_at now k) q ≡ cond (leb from q && ltb q to) None (at_place place (list_at old k) q))
       → IsRising place (list_at now k) → IsBlock place k (list_at now k)
   cut_own from to old now k own cut rising =

@@ -71,7 +71,7 @@ pub(crate) fn store_in<T: Placed>(blocks: &mut Vec<Vec<T>>, entry: T)
 }
 
 /// Takes the entries from a place on, up to another, out of the blocks that are listed.
-pub(crate) fn cut_blocks<T: Placed>(blocks: &mut Vec<Vec<T>>, used: &[u32], from: u32, to: u32)
+fn cut_blocks<T: Placed>(blocks: &mut Vec<Vec<T>>, used: &[u32], from: u32, to: u32)
     requires each { (k : ℕ) → IsBlock T.place_of k (list_at (lists_of blocks.old.items) k) }
     requires rising { IsRising itself used.now }
     requires listed { (k : ℕ) → at_place itself used.now k
@@ -87,6 +87,27 @@ pub(crate) fn cut_blocks<T: Placed>(blocks: &mut Vec<Vec<T>>, used: &[u32], from
     let end = rank_from(used, start, (to - 1) / 256 + 1);
     'blocks: for i in start..end {
         cut(&mut blocks[used[i] as usize], from, to);
+    }
+}
+
+/// The same, without a look at what is listed where all these places are of one block.
+pub(crate) fn cut_places<T: Placed>(blocks: &mut Vec<Vec<T>>, used: &[u32], from: u32, to: u32)
+    requires each { (k : ℕ) → IsBlock T.place_of k (list_at (lists_of blocks.old.items) k) }
+    requires rising { IsRising itself used.now }
+    requires listed { (k : ℕ) → at_place itself used.now k
+        ≡ listed_if k (list_at (lists_of blocks.old.items) k) }
+    requires order { from < to }
+    ensures cut { (k : ℕ) (q : ℕ) → at_place T.place_of (list_at (lists_of blocks.new.items) k) q
+        ≡ (if nat_le from q && nat_lt q to then None
+        else at_place T.place_of (list_at (lists_of blocks.old.items) k) q) }
+    ensures rising { (k : ℕ) → IsRising T.place_of (list_at (lists_of blocks.new.items) k) }
+    ensures room { rooms_of blocks.new.items ≡ rooms_of blocks.old.items }
+{
+    let number = (from / 256) as usize;
+    if number == ((to - 1) / 256) as usize && number < blocks.len() {
+        cut(&mut blocks[number], from, to);
+    } else {
+        cut_blocks(blocks, used, from, to);
     }
 }
 

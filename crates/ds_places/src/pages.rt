@@ -5,7 +5,7 @@ ghost use Rattle.ds_places.specs.Places.{IsRising, IsWithin, at_place, is_round}
 ghost use Rattle.ds_places.specs.Nearest.{IsLastBelow, IsFirstFrom};
 
 use crate::blocks::{
-    block, change_blocks, clear_blocks, copy_blocks, cut_blocks, note, reserved, store_in,
+    block, change_blocks, clear_blocks, copy_blocks, cut_places, note, reserved, store_in,
 };
 use crate::change::Change;
 use crate::edits::cut;
@@ -153,7 +153,7 @@ impl<T: Placed> Pages<T> {
         if from == to {
             return;
         }
-        cut_blocks(&mut self.blocks, &self.used, from, to);
+        cut_places(&mut self.blocks, &self.used, from, to);
         let first = from / 256;
         let last = (to - 1) / 256;
         let low = if block(&self.blocks, first).is_empty() {
