@@ -263,7 +263,7 @@ module _ {T : Type 0} (place : T → ℕ) where
       subst (λ l. IsRising place l × ((q : ℕ) → at_place place l q ≡ cond (leb from q && ltb q to) None (at_place place l q))) (sym none)
       (tt, λ q. sym (none_either_way (leb from q && ltb q to)))
 
-  uncut : (from to : ℕ) (xs : List T) (q : ℕ) → (from ≤ q → q < to → at_place place xs q ≡ None) → at_place place xs q ≡ cond (leb from q && ltb q to) None (at_place place xs q)
+  pub uncut : (from to : ℕ) (xs : List T) (q : ℕ) → (from ≤ q → q < to → at_place place xs q ≡ None) → at_place place xs q ≡ cond (leb from q && ltb q to) None (at_place place xs q)
   uncut from to xs q none =
       let A : Option T = at_place place xs q in
       elim (cases_lt q from) [

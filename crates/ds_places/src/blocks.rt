@@ -1,13 +1,13 @@
 //! Blocks of entries, one for each 256 places: an entry stands in the block of its place.
 
-ghost use Rattle.std.specs.Prelude.{◌≡◌, ◌≤◌, ◌<◌, ◌+◌, ◌/◌, ◌==◌, ◌&&◌, ℕ, [], length, map, nat_le, nat_lt, if◌then◌else◌, Some, None, IfOk, slice_index, vec_capacity};
+ghost use Rattle.std.specs.Prelude.{◌≡◌, ◌≤◌, ◌<◌, ◌+◌, ◌/◌, ◌==◌, ◌&&◌, ℕ, true, false, [], length, map, nat_le, nat_lt, if◌then◌else◌, Some, None, IfOk, slice_index, vec_capacity};
 ghost use Rattle.ds_places.specs.Places.{IsRising, at_place};
 ghost use Rattle.ds_places.specs.Pages.{itself, lists_of, rooms_of, list_at, listed_if, IsBlock, Alters};
 
 use crate::change::Change;
 use crate::edits::{cut, store};
 use crate::placed::Placed;
-use crate::search::{rank, rank_from};
+use crate::search::{ends_before, rank, rank_from};
 use std::alloc::{AllocError, Global};
 
 /// The entries of a block, none where there is no such block.
@@ -68,6 +68,24 @@ pub(crate) fn store_in<T: Placed>(blocks: &mut Vec<Vec<T>>, entry: T)
 {
     let number = (entry.place() / 256) as usize;
     store(&mut blocks[number], entry);
+}
+
+/// Whether an entry can stand from a place on, up to another: not where these places are none, or in one block and past
+/// its last entry.
+pub(crate) fn can_hold<T: Placed>(blocks: &[Vec<T>], from: u32, to: u32) -> bool
+    requires { (k : ℕ) → IsBlock T.place_of k (list_at (lists_of blocks.now) k) }
+    ensures order { result ≡ true → from < to }
+    ensures none { result ≡ false → (q : ℕ) → from ≤ q → q < to
+        → at_place T.place_of (list_at (lists_of blocks.now) (q / 256)) q ≡ None }
+{
+    if to <= from {
+        return false;
+    }
+    let number = from / 256;
+    if number != (to - 1) / 256 {
+        return true;
+    }
+    !ends_before(block(blocks, number), from)
 }
 
 /// Takes the entries from a place on, up to another, out of the blocks that are listed.

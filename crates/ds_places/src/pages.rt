@@ -5,7 +5,7 @@ ghost use Rattle.ds_places.specs.Places.{IsRising, IsWithin, at_place, is_round}
 ghost use Rattle.ds_places.specs.Nearest.{IsLastBelow, IsFirstFrom};
 
 use crate::blocks::{
-    block, change_blocks, clear_blocks, copy_blocks, cut_places, note, reserved, store_in,
+    block, can_hold, change_blocks, clear_blocks, copy_blocks, cut_places, note, reserved, store_in,
 };
 use crate::change::Change;
 use crate::edits::cut;
@@ -149,10 +149,21 @@ impl<T: Placed> Pages<T> {
             → IsWithin T.place_of places self.new.entries }
         ensures room { self.new.room ≡ self.old.room }
     {
-        let _opened = self.room;
-        if from == to {
-            return;
+        if can_hold(&self.blocks, from, to) {
+            self.cut_held(from, to);
         }
+    }
+
+    /// The same, from block to block.
+    fn cut_held(&mut self, from: u32, to: u32)
+        requires { from < to }
+        ensures cut { (q : ℕ) → at_place T.place_of self.new.entries q
+            ≡ (if nat_le from q && nat_lt q to then None else at_place T.place_of self.old.entries q) }
+        ensures rising { IsRising T.place_of self.new.entries }
+        ensures inside { (places : ℕ) → IsWithin T.place_of places self.old.entries
+            → IsWithin T.place_of places self.new.entries }
+        ensures room { self.new.room ≡ self.old.room }
+    {
         cut_places(&mut self.blocks, &self.used, from, to);
         let first = from / 256;
         let last = (to - 1) / 256;

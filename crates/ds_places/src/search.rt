@@ -1,7 +1,7 @@
 //! Searches: at the last entry first, and then by halving, which looks at no more entries than their number has binary
 //! digits, and one more.
 
-ghost use Rattle.std.specs.Prelude.{◌≡◌, ◌≤◌, ◌<◌, ℕ, length, slice_index_or};
+ghost use Rattle.std.specs.Prelude.{◌≡◌, ◌≤◌, ◌<◌, ℕ, true, None, length, slice_index_or};
 ghost use Rattle.std.specs.List.Sorted.{IsPartitionPoint};
 ghost use Rattle.ds_places.specs.Places.{IsRising, at_place};
 ghost use Rattle.ds_places.specs.Nearest.{IsSlot, IsLastBelow, IsFirstFrom};
@@ -23,6 +23,18 @@ pub(crate) fn rank<T: Placed>(entries: &[T], place: u32) -> usize
         return count;
     }
     entries.partition_point(|entry| entry.place() < place)
+}
+
+/// Whether each entry has a place below this one.
+pub(crate) fn ends_before<T: Placed>(entries: &[T], place: u32) -> bool
+    requires { IsRising T.place_of entries.now }
+    ensures { result ≡ true → (q : ℕ) → place ≤ q → at_place T.place_of entries.now q ≡ None }
+{
+    let count = entries.len();
+    if count == 0 {
+        return true;
+    }
+    entries[count - 1].place() < place
 }
 
 /// The same, where it is known that the entries before this index have one: it looks first at the entry there.
