@@ -1,11 +1,12 @@
 -- Each fault of a table has a key, and so is not that of a text that is no TOML.
-use Rattle.std.proofs.Common.{◌≡◌, ℕ, ◌+◌, ◌-◌, ◌*◌, ℤ, Bool, true, false, cond, not, nat_le, bytes_eq, codes, refl, ap, is_some, length, List, [], ◌∷◌, ◌++◌, Option, Some, None, ok_or, Result, Ok, Err}
+use Rattle.std.proofs.Common.{◌≡◌, ℕ, zero, suc, ◌+◌, ◌-◌, ℤ, Bool, true, false, cond, not, nat_le, nat_lt, bytes_eq, codes, refl, ap, is_some, length, List, [], ◌∷◌, Option, Some, None, ok_or, Result, Ok, Err}
+use Rattle.std.specs.List.{list_all}
 use Rattle.ds_codec.specs.declared.size.Size.{Size}
 use Rattle.toml.specs.Data.{Data, Members, as_array, as_str, as_integer}
 use Rattle.scr_layout.specs.declared.fault.LayoutFault.{LayoutFault}
 use Rattle.scr_layout.specs.declared.fault.LayoutKey.{LayoutKey}
-use Rattle.scr_layout.specs.declared.fault.LayoutKey.TheVariants.{Unknown, Addresses, Default, Alternate, Screen, Field, Name, Row, Col, Length, Kind}
-use Rattle.scr_layout.specs.declared.fault.Why.TheVariants.{MissingKey, WrongKind, UnknownKey, BadSize, BadName, NameTwice, PlaceOutside, PlaceTwice, BadLength, TooManyFields}
+use Rattle.scr_layout.specs.declared.fault.LayoutKey.TheVariants.{Unknown, Version, Addresses, Default, Alternate, Screen, Field, Name, Row, Col, Length, Kind, Count, Down}
+use Rattle.scr_layout.specs.declared.fault.Why.TheVariants.{MissingKey, WrongKind, UnknownKey, BadSize, BadName, NameTwice, PlaceOutside, PlaceTwice, BadLength, TooManyFields, BadCount}
 use Rattle.scr_layout.specs.declared.entry.Kind.TheVariants.{Input, Fixed}
 use Rattle.ds_codec.specs.declared.size.Mode.{Mode}
 use Rattle.ds_codec.specs.Geometry.{cells_of}
@@ -13,10 +14,13 @@ use Rattle.scr_layout.specs.SizeText.{size_of_text}
 use Rattle.scr_layout.specs.declared.fault.Why.{Why}
 use Rattle.scr_layout.specs.Entry.{Declared, is_name}
 use Rattle.scr_layout.specs.Fault.{at_key, not_toml}
-use Rattle.scr_layout.specs.Field.{field_keys, has_name, has_place, name_of, integer_at, place_of, length_of, kind_or, kind_of, entry_of}
+use Rattle.scr_layout.specs.Field.{field_keys, name_of, integer_at, place_of, length_of, kind_or, kind_of, with_table}
+use Rattle.scr_layout.specs.Rows.{number_of, down_or, rows_or, rows_of, count_of, names_in, has_any, asked_by, new_names, names_of, step_of, has_place, free_at, are_free}
+use Rattle.scr_layout.specs.declared.rows.Rows.{Rows}
+use Rattle.scr_layout.specs.declared.top.Version.{Version as Keys}
 use Rattle.scr_layout.specs.Layout.{entries_of, declaration_of}
 use Rattle.scr_layout.specs.Results.{◌>>=◌, tested, in_field}
-use Rattle.scr_layout.specs.Top.{top_keys, mode_of_bits, named_mode, mode_or, mode_of, are_tables, tables_in, size_of, size_or, default_of, alternate_of, screen_or, screen_of, tables_of, tables_or, fields_of}
+use Rattle.scr_layout.specs.Top.{top_keys, numbered_version, named_version, version_or, version_of, mode_of_bits, named_mode, mode_or, mode_of, are_tables, tables_in, size_of, size_or, default_of, alternate_of, screen_or, screen_of, tables_of, tables_or, fields_of}
 use Rattle.scr_layout.specs.Values.{value_at, needed_at, text_of, integer_of, from_one_to, has_only, with_only}
 
 -- a fault that has a key
@@ -62,6 +66,14 @@ numbered : {A : Type 0} (n : ℕ) (r : Result A LayoutFault) → IsKeyed r → I
 numbered n (Ok x) h = good
 numbered n (Err e) h = record { key = h.key }
 
+known : (value : Data) → IsKeyed (named_version value)
+unfolding named_version
+known value = bound (integer_of Version value) _ (found (as_integer value) Version WrongKind) (λ n. found (numbered_version (from_one_to 2 n)) Version WrongKind)
+
+version_where : (o : Option Data) → IsKeyed (version_or o)
+version_where None = good
+version_where (Some value) = known value
+
 named : (value : Data) → IsKeyed (named_mode value)
 unfolding named_mode
 named value = bound (integer_of Addresses value) _ (found (as_integer value) Addresses WrongKind) (λ bits. found (mode_of_bits (from_one_to 16 bits)) Addresses WrongKind)
@@ -94,6 +106,10 @@ tables_where : (o : Option Data) → IsKeyed (tables_or o)
 tables_where None = good
 tables_where (Some value) = tables value
 
+version : (top : Members) → IsKeyed (version_of top)
+unfolding version_of
+version top = version_where (value_at Version top)
+
 mode : (top : Members) → IsKeyed (mode_of top)
 unfolding mode_of
 mode top = mode_where (value_at Addresses top)
@@ -114,24 +130,59 @@ fields : (top : Members) → IsKeyed (fields_of top)
 unfolding fields_of
 fields top = tables_where (value_at Field top)
 
-name : (before : List Declared) (field : Members) → IsKeyed (name_of before field)
+name : (field : Members) → IsKeyed (name_of field)
 unfolding name_of
-name before field =
+name field =
     bound (needed_at Name field) _ (needed Name field) (λ value.
     bound (text_of Name value) _ (text Name value) (λ t.
-    bound (tested (is_name t) t (at_key Name BadName)) _ (test (is_name t) t Name BadName) (λ n.
-    test (not (has_name n before)) n Name NameTwice)))
+    test (is_name t) t Name BadName))
+
+number : (key : LayoutKey) (value : Data) → IsKeyed (number_of key value)
+unfolding number_of
+number key value = bound (integer_of key value) _ (found (as_integer value) key WrongKind) (λ n. found (from_one_to 255 n) key BadCount)
+
+down_where : (o : Option Data) → IsKeyed (down_or o)
+down_where None = good
+down_where (Some value) = number Down value
+
+rows_where : (count down : Option Data) → IsKeyed (rows_or count down)
+rows_where None None = good
+rows_where None (Some value) = record { key = refl }
+rows_where (Some value) down =
+    bound (number_of Count value) _ (number Count value) (λ n.
+    bound (down_or down) _ (down_where down) (λ d. good))
+
+rows : (field : Members) → IsKeyed (rows_of field)
+unfolding rows_of
+rows field = rows_where (value_at Count field) (value_at Down field)
+
+names : (before : List Declared) (name : List ℕ) (rows : Option Rows) → IsKeyed (names_of before name rows)
+unfolding names_of new_names
+names before name rows =
+    bound (tested (nat_le (length before + count_of rows) 1000) rows (at_key (asked_by rows) TooManyFields)) _ (test (nat_le (length before + count_of rows) 1000) rows (asked_by rows) TooManyFields) (λ few.
+    bound (tested (list_all is_name (names_in name few)) (names_in name few) (at_key Name BadName)) _ (test (list_all is_name (names_in name few)) (names_in name few) Name BadName) (λ all.
+    test (not (has_any all before)) all Name NameTwice))
+
+free : (size : Size) (before : List Declared) (place : ℕ) → IsKeyed (free_at size before place)
+unfolding free_at
+free size before place =
+    bound (tested (nat_lt place (cells_of size)) place (at_key Row PlaceOutside)) _ (test (nat_lt place (cells_of size)) place Row PlaceOutside) (λ p.
+    test (not (has_place p before)) p Row PlaceTwice)
+
+all_free : (size : Size) (before : List Declared) (step place count : ℕ) → IsKeyed (are_free size before step place count)
+unfolding are_free
+all_free size before step place zero = good
+all_free size before step place (suc more) = bound (free_at size before place) _ (free size before place) (λ here. all_free size before step (here + step) more)
 
 integer : (key : LayoutKey) (field : Members) → IsKeyed (integer_at key field)
 unfolding integer_at
 integer key field = bound (needed_at key field) _ (needed key field) (λ value. found (as_integer value) key WrongKind)
 
-place : (size : Size) (before : List Declared) (row col : ℤ) → IsKeyed (place_of size before row col)
+place : (size : Size) (row col : ℤ) → IsKeyed (place_of size row col)
 unfolding place_of
-place size before row col =
+place size row col =
     bound (ok_or (from_one_to size.rows row) (at_key Row PlaceOutside)) _ (found (from_one_to size.rows row) Row PlaceOutside) (λ r.
-    bound (ok_or (from_one_to size.cols col) (at_key Col PlaceOutside)) _ (found (from_one_to size.cols col) Col PlaceOutside) (λ c.
-    test (not (has_place ((r - 1) * size.cols + (c - 1)) before)) ((r - 1) * size.cols + (c - 1)) Row PlaceTwice))
+    bound (ok_or (from_one_to size.cols col) (at_key Col PlaceOutside)) _ (found (from_one_to size.cols col) Col PlaceOutside) (λ c. good))
 
 long : (size : Size) (field : Members) → IsKeyed (length_of size field)
 unfolding length_of
@@ -146,33 +197,37 @@ kind : (field : Members) → IsKeyed (kind_of field)
 unfolding kind_of
 kind field = kind_where (value_at Kind field)
 
-entry : (size : Size) (before : List Declared) (table : Members) → IsKeyed (entry_of size before table)
-unfolding entry_of
-entry size before table =
-    bound (with_only field_keys table) _ (only field_keys table) (λ field.
-    bound (name_of before field) _ (name before field) (λ n.
+with : (version : Keys) (size : Size) (before : List Declared) (table : Members) → IsKeyed (with_table version size before table)
+unfolding with_table
+with version size before table =
+    bound (with_only (field_keys version) table) _ (only (field_keys version) table) (λ field.
+    bound (name_of field) _ (name field) (λ n.
+    bound (rows_of field) _ (rows field) (λ rs.
+    bound (names_of before n rs) _ (names before n rs) (λ ns.
     bound (integer_at Row field) _ (integer Row field) (λ row.
     bound (integer_at Col field) _ (integer Col field) (λ col.
-    bound (place_of size before row col) _ (place size before row col) (λ p.
+    bound (place_of size row col) _ (place size row col) (λ p.
+    bound (are_free size before (step_of size rs) p (count_of rs)) _ (all_free size before (step_of size rs) p (count_of rs)) (λ u.
     bound (length_of size field) _ (long size field) (λ l.
-    bound (kind_of field) _ (kind field) (λ k. good)))))))
+    bound (kind_of field) _ (kind field) (λ k. good))))))))))
 
-entries : (size : Size) (n : ℕ) (before : List Declared) (tables : List Members) → IsKeyed (entries_of size n before tables)
+entries : (version : Keys) (size : Size) (n : ℕ) (before : List Declared) (tables : List Members) → IsKeyed (entries_of version size n before tables)
 unfolding entries_of
-entries size n before [] = good
-entries size n before (table ∷ tables) =
-    bound (in_field n (entry_of size before table)) _ (numbered n (entry_of size before table) (entry size before table)) (λ e. entries size (n + 1) (before ++ e ∷ []) tables)
+entries version size n before [] = good
+entries version size n before (table ∷ tables) =
+    bound (in_field n (with_table version size before table)) _ (numbered n (with_table version size before table) (with version size before table)) (λ all. entries version size (n + 1) all tables)
 
 declaration : (table : Members) → IsKeyed (declaration_of table)
 unfolding declaration_of
 declaration table =
     bound (with_only top_keys table) _ (only top_keys table) (λ top.
+    bound (version_of top) _ (version top) (λ v.
     bound (mode_of top) _ (mode top) (λ m.
     bound (default_of m top) _ (default m top) (λ d.
     bound (alternate_of m d top) _ (alternate m d top) (λ a.
     bound (screen_of d a top) _ (screen d a top) (λ size.
     bound (fields_of top) _ (fields top) (λ tables.
-    bound (entries_of size 0 [] tables) _ (entries size 0 [] tables) (λ es. good)))))))
+    bound (entries_of v size 0 [] tables) _ (entries v size 0 [] tables) (λ es. good))))))))
 
 same_err : {A : Type 0} (f g : LayoutFault) → ◌≡◌ {A = Result A LayoutFault} (Err f) (Err g) → f ≡ g
 same_err f g e = cc

@@ -3,6 +3,8 @@ pub mod Tables
 pub mod Sizes
 pub mod Loop
 pub mod Steps
+pub mod RowsLaw
+pub mod Made
 pub mod LayoutLaw
 pub mod Keyed
 pub mod SizeLaw

@@ -1,13 +1,20 @@
--- Entries that are put in the order of their places one after the other.
-use Rattle.std.proofs.Common.{◌≡◌, ◌∙◌, ℕ, zero, suc, ◌+◌, ◌<◌, Bool, true, false, cond, not, eqb, ltb, List, [], ◌∷◌, length, get_or, drop, Option, Some, None, option_map, unwrap_or, refl, sym, ap, subst, arith, inl, inr}
+-- What entries are looked up by, where one more comes behind them.
+use Rattle.std.proofs.Common.{◌≡◌, ◌∙◌, ℕ, suc, ◌+◌, Bool, true, false, ◌||◌, cond, not, eqb, ltb, bytes_eq, String, List, [], ◌∷◌, ◌++◌, length, Option, Some, None, is_some, option_map, unwrap_or, refl, sym, ap, arith, inl, inr}
 use Rattle.std.specs.Prelude.{position}
-use Rattle.std.specs.List.{position_or_len}
+use Rattle.std.specs.BTreeSet.{BTreeSet, contains_text, Updates}
+use Rattle.std.specs.List.{position_or_len, list_any}
+use Rattle.std.specs.String.{string_cmp, string_bytes}
 use Rattle.std.proofs.lemmas.Bool.{cond-true, cond-false, cases_lt, cases_eq, eq-eqb, ne_eqb, lt-ltb, le-ltb}
-use Rattle.std.proofs.Math.Seq.{drop-cons}
+use Rattle.std.proofs.lemmas.Cmp.{nat_list_eq_equiv}
+use Rattle.std.proofs.lemmas.List.Folds.{list_any-append}
+use Rattle.std.proofs.lemmas.Map.Text.{btree_set_updates_text}
 use Rattle.ds_places.specs.Places.{IsRising, at_place}
 use Rattle.scr_layout.specs.declared.located.Located.{Located}
 use Rattle.scr_layout.specs.Entry.{Declared}
-use Rattle.scr_layout.specs.Located.{AreLocated}
+use Rattle.scr_layout.specs.Located.{AreLocated, AreNamed}
+use Rattle.scr_layout.specs.Rows.{has_name, has_place}
+
+-- ---- positions
 
 found_cons : (b : Bool) (n m : ℕ)
     → cond {A = Option ℕ} (ltb (cond (not b) (1 + n) 0) (suc m)) (Some (cond (not b) (1 + n) 0)) None ≡ cond b (Some 0) (option_map (λ k. 1 + k) (cond (ltb n m) (Some n) None))
@@ -18,89 +25,104 @@ found_cons false n m =
       | inr far ↦ cond-false (ltb (1 + n) (suc m)) _ _ (le-ltb _ _ (omega arith)) ∙ sym (ap (option_map (λ k. 1 + k)) (cond-false (ltb n m) (Some n) None (le-ltb _ _ far)))
     ]
 
-pub position_cons : {X : Type 0} (p : X → Bool) (x : X) (xs : List X) → position p (x ∷ xs) ≡ cond (p x) (Some 0) (option_map (λ k. 1 + k) (position p xs))
+position_cons : {X : Type 0} (p : X → Bool) (x : X) (xs : List X) → position p (x ∷ xs) ≡ cond (p x) (Some 0) (option_map (λ k. 1 + k) (position p xs))
 position_cons p x xs = found_cons (p x) (position_or_len p xs) (length xs)
 
 -- the first of two that is there
-unfoldable pub either : Option ℕ → Option ℕ → Option ℕ
+unfoldable either : Option ℕ → Option ℕ → Option ℕ
 either (Some x) other = Some x
 either None other = other
 
--- the table of the entries before the i-th, and then the entries from there on
-abbrev pub looked_for : List Declared → List Located → ℕ → ℕ → Option ℕ
-looked_for entries table i q =
-    either (option_map (λ located. located.index) (at_place (λ located. located.place) table q))
-    (option_map (λ k. i + k) (position (λ entry. eqb q entry.place) (drop i entries)))
-
-pub record AreLocatedTo (entries : List Declared) (table : List Located) (i : ℕ) : Type 0 where
-  pub rising : IsRising (λ located. located.place) table
-  pub found : (q : ℕ) → looked_for entries table i q ≡ position (λ entry. eqb q entry.place) entries
-
-here_on : (i : ℕ) (o : Option Located) (place : ℕ) (rest : Option ℕ)
-    → either (option_map (λ located. located.index) o) (Some (i + 0)) ≡ either (Some ((unwrap_or o (record { place = place; index = i })).index)) rest
+further : (b c : Bool) (o : Option ℕ) (n : ℕ)
+    → cond b (Some 0) (option_map (λ k. 1 + k) (either o (cond c (Some n) None))) ≡ either (cond b (Some 0) (option_map (λ k. 1 + k) o)) (cond c (Some (suc n)) None)
 unfolding either
-here_on i None place rest = ap Some (omega arith)
-here_on i (Some l) place rest = refl
+further true c o n = refl
+further false c (Some k) n = refl
+further false true None n = ap Some (omega arith)
+further false false None n = refl
 
-later_on : (i : ℕ) (o rest : Option ℕ) → either o (option_map (λ k. i + k) (option_map (λ k. 1 + k) rest)) ≡ either o (option_map (λ k. i + 1 + k) rest)
+position_push : {X : Type 0} (p : X → Bool) (xs : List X) (y : X) → position p (xs ++ y ∷ []) ≡ either (position p xs) (cond (p y) (Some (length xs)) None)
 unfolding either
-later_on i (Some x) rest = refl
-later_on i None None = refl
-later_on i None (Some k) = ap Some (omega arith)
+position_push p [] y = position_cons p y []
+position_push p (x ∷ xs) y =
+    position_cons p x (xs ++ y ∷ [])
+    ∙ ap (λ o. cond (p x) (Some 0) (option_map (λ k. 1 + k) o)) (position_push p xs y)
+    ∙ further (p x) (p y) (position p xs) (length xs)
+    ∙ ap (λ o. either o (cond (p y) (Some (suc (length xs))) None)) (sym (position_cons p x xs))
 
-none_located : (rest : Option ℕ) → either None (option_map (λ k. 0 + k) rest) ≡ rest
+some_cons : (b : Bool) (o : Option ℕ) → is_some (cond b (Some 0) (option_map (λ k. 1 + k) o)) ≡ (b || is_some o)
+some_cons true o = refl
+some_cons false (Some k) = refl
+some_cons false None = refl
+
+some_position : {X : Type 0} (p : X → Bool) (xs : List X) → is_some (position p xs) ≡ list_any p xs
+some_position p [] = refl
+some_position p (x ∷ xs) = ap is_some (position_cons p x xs) ∙ some_cons (p x) (position p xs) ∙ ap (λ b. p x || b) (some_position p xs)
+
+-- ---- places
+
+either_none : (o : Option ℕ) → either o None ≡ o
 unfolding either
-none_located None = refl
-none_located (Some k) = ap Some (omega arith)
+either_none None = refl
+either_none (Some x) = refl
 
-only_first : (o : Option ℕ) → either o None ≡ o
+first_kept : (o : Option Located) (new : Located) → either (option_map (λ located. located.index) o) (Some new.index) ≡ Some ((unwrap_or o new).index)
 unfolding either
-only_first None = refl
-only_first (Some x) = refl
+first_kept None new = refl
+first_kept (Some l) new = refl
 
-pub located_none : (entries : List Declared) → AreLocatedTo entries [] 0
-located_none entries = record { rising = tt; found = λ q. none_located (position (λ entry. eqb q entry.place) entries) }
-
-pub located_step : (entries : List Declared) (table now : List Located) (i : ℕ) (entry : Declared) → i < length entries → entry ≡ get_or entries i entry
-    → AreLocatedTo entries table i → IsRising (λ located. located.place) now
+-- one more at the end
+pub located_push : (entries : List Declared) (table now : List Located) (entry : Declared) (new : Located)
+    → AreLocated entries table → new.place ≡ entry.place → new.index ≡ length entries → IsRising (λ located. located.place) now
     → ((q : ℕ) → at_place (λ located. located.place) now q
-    ≡ cond (eqb entry.place q) (Some (unwrap_or (at_place (λ located. located.place) table q) (record { place = entry.place; index = i }))) (at_place (λ located. located.place) table q))
-    → AreLocatedTo entries now (i + 1)
-located_step entries table now i entry lt is before rising added = record {
+    ≡ cond (eqb new.place q) (Some (unwrap_or (at_place (λ located. located.place) table q) new)) (at_place (λ located. located.place) table q))
+    → AreLocated (entries ++ entry ∷ []) now
+located_push entries table now entry new before same last rising added = record {
   rising = rising;
   found = λ q.
-      let rest : Option ℕ = position (λ e. eqb q e.place) (drop (i + 1) entries) in
-      let next : suc i ≡ i + 1 = omega arith in
-      let at : Option Located = at_place (λ located. located.place) table q in
-      let front : position (λ e. eqb q e.place) (drop i entries) ≡ cond (eqb q entry.place) (Some 0) (option_map (λ k. 1 + k) rest) =
-      ap (position (λ e. eqb q e.place)) (drop-cons entries i entry lt ∙ ap (λ j. get_or entries i entry ∷ drop j entries) next ∙ ap (λ e. e ∷ drop (i + 1) entries) (sym is)) ∙ position_cons (λ e. eqb q e.place) entry (drop (i + 1) entries) in
-      (elim (cases_eq q entry.place) [
-        | inl same ↦
-            ap (λ o. either (option_map (λ located. located.index) o) (option_map (λ k. i + 1 + k) rest)) (added q ∙ cond-true (eqb entry.place q) _ _ (eq-eqb _ _ (sym same)))
-            ∙ sym (here_on i at entry.place (option_map (λ k. i + 1 + k) rest))
-            ∙ sym (ap (λ o. either (option_map (λ located. located.index) at) (option_map (λ k. i + k) o)) (front ∙ cond-true (eqb q entry.place) _ _ (eq-eqb _ _ same)))
+      let held : Option Located = at_place (λ located. located.place) table q in
+      let indexed : Option Located → Option ℕ = λ o. option_map (λ located. located.index) o in
+      let due : position (λ e. eqb q e.place) (entries ++ entry ∷ []) ≡ either (indexed held) (cond (eqb q entry.place) (Some (length entries)) None) =
+      position_push (λ e. eqb q e.place) entries entry ∙ ap (λ o. either o (cond (eqb q entry.place) (Some (length entries)) None)) (sym (before.found q)) in
+      elim (cases_eq q entry.place) [
+        | inl here ↦
+            ap indexed (added q ∙ cond-true (eqb new.place q) _ _ (eq-eqb _ _ (same ∙ sym here)))
+            ∙ sym (first_kept held new)
+            ∙ ap (λ n. either (indexed held) (Some n)) last
+            ∙ sym (ap (either (indexed held)) (cond-true (eqb q entry.place) _ _ (eq-eqb _ _ here)))
+            ∙ sym due
         | inr apart ↦
-            ap (λ o. either (option_map (λ located. located.index) o) (option_map (λ k. i + 1 + k) rest)) (added q ∙ cond-false (eqb entry.place q) _ _ (ne_eqb _ _ (λ same. apart (sym same))))
-            ∙ sym (later_on i (option_map (λ located. located.index) at) rest)
-            ∙ sym (ap (λ o. either (option_map (λ located. located.index) at) (option_map (λ k. i + k) o)) (front ∙ cond-false (eqb q entry.place) _ _ (ne_eqb _ _ apart)))
-      ]) ∙ before.found q;
+            ap indexed (added q ∙ cond-false (eqb new.place q) _ _ (ne_eqb _ _ (λ e. apart (sym e ∙ same))))
+            ∙ sym (either_none (indexed held))
+            ∙ sym (ap (either (indexed held)) (cond-false (eqb q entry.place) _ _ (ne_eqb _ _ apart)))
+            ∙ sym due
+      ];
 }
 
--- the same by the place that was stored
-pub located_step_at : (entries : List Declared) (table now : List Located) (i : ℕ) (entry : Declared) (place : ℕ) → place ≡ entry.place → i < length entries → entry ≡ get_or entries i entry
-    → AreLocatedTo entries table i → IsRising (λ located. located.place) now
-    → ((q : ℕ) → at_place (λ located. located.place) now q
-    ≡ cond (eqb place q) (Some (unwrap_or (at_place (λ located. located.place) table q) (record { place = place; index = i }))) (at_place (λ located. located.place) table q))
-    → AreLocatedTo entries now (i + 1)
-located_step_at entries table now i entry place same lt is before rising added =
-    let P : ℕ → Type 0 = λ p. (q : ℕ) → at_place (λ located. located.place) now q
-    ≡ cond (eqb p q) (Some (unwrap_or (at_place (λ located. located.place) table q) (record { place = p; index = i }))) (at_place (λ located. located.place) table q) in
-    located_step entries table now i entry lt is before rising (subst P same added)
+some_index : (o : Option Located) → is_some o ≡ is_some (option_map (λ located. located.index) o)
+some_index None = refl
+some_index (Some l) = refl
 
-pub located_all : (entries : List Declared) (table : List Located) (i : ℕ) → drop i entries ≡ [] → AreLocatedTo entries table i → AreLocated entries table
-located_all entries table i end all = record {
-  rising = all.rising;
-  found = λ q.
-      let o : Option ℕ = option_map (λ located. located.index) (at_place (λ located. located.place) table q) in
-      sym (only_first o) ∙ sym (ap (λ l. either o (option_map (λ k. i + k) (position (λ entry. eqb q entry.place) l))) end) ∙ all.found q;
-}
+pub located_any : (entries : List Declared) (table : List Located) (place : ℕ) → AreLocated entries table
+    → (held : Option Located) → held ≡ at_place (λ located. located.place) table place → is_some held ≡ has_place place entries
+located_any entries table place at held same =
+    ap is_some same ∙
+    some_index (at_place (λ located. located.place) table place) ∙ ap is_some (at.found place) ∙ some_position (λ entry. eqb place entry.place) entries
+
+-- ---- names
+
+one_more : (b c : Bool) → cond b true c ≡ (c || (b || false))
+one_more true true = refl
+one_more true false = refl
+one_more false true = refl
+one_more false false = refl
+
+pub named_push : {Y : Type 0} (entries : List Declared) (names now : BTreeSet (String Y)) (key : String Y) (entry : Declared)
+    → AreNamed entries names → string_bytes key ≡ entry.name → Updates string_cmp names now key true → AreNamed (entries ++ entry ∷ []) now
+named_push entries names now key entry before same updates = λ name.
+    btree_set_updates_text (string_bytes key) names now true updates name
+    ∙ ap (λ bs. cond (bytes_eq bs name) true (contains_text names name)) same
+    ∙ ap (λ b. cond b true (contains_text names name)) (nat_list_eq_equiv.symm entry.name name)
+    ∙ ap (λ b. cond (bytes_eq name entry.name) true b) (before name)
+    ∙ one_more (bytes_eq name entry.name) (has_name name entries)
+    ∙ sym (list_any-append (λ e. bytes_eq name e.name) entries (entry ∷ []))

@@ -1,5 +1,5 @@
 -- One more value of the list of fields.
-use Rattle.std.proofs.Common.{◌≡◌, ◌∙◌, ℕ, ◌+◌, ◌<◌, ap, sym, refl, ◌≤◌, drop, get_or, length, List, [], ◌∷◌, ◌++◌, Some, None, Result, Ok}
+use Rattle.std.proofs.Common.{◌≡◌, ◌∙◌, ℕ, ◌+◌, ◌<◌, ap, sym, refl, ◌≤◌, drop, get_or, length, List, ◌∷◌, Some, None, Result, Ok}
 use Rattle.std.proofs.lemmas.List.{drop_all}
 use Rattle.ds_codec.specs.declared.size.Size.{Size}
 use Rattle.toml.specs.Data.{Data, string, integer, float, boolean, datetime, array, table, Items, item, Members, as_table}
@@ -9,8 +9,9 @@ use Rattle.toml.proofs.Views.{items_view-drop}
 use Rattle.scr_layout.specs.declared.fault.LayoutFault.{LayoutFault}
 use Rattle.scr_layout.specs.declared.fault.LayoutError.{LayoutError}
 use Rattle.scr_layout.specs.declared.fault.LayoutError.TheVariants.{OutOfMemory, Refused}
+use Rattle.scr_layout.specs.declared.top.Version.{Version}
 use Rattle.scr_layout.specs.Entry.{Declared}
-use Rattle.scr_layout.specs.Field.{entry_of}
+use Rattle.scr_layout.specs.Field.{with_table}
 use Rattle.scr_layout.specs.Layout.{entries_of}
 use Rattle.scr_layout.specs.Results.{◌>>=◌, in_field, Fails}
 use Rattle.scr_layout.specs.Top.{tables_in}
@@ -34,26 +35,26 @@ tables_in-other (datetime t) rest h = refl
 tables_in-other (array ds) rest h = refl
 
 -- a value that is a table
-pub entries_of-table : (size : Size) (n : ℕ) (before : List Declared) (vs : List Value) (i : ℕ) (v : Value) (fields : Members) (r : Result Declared LayoutFault)
-    → i < length vs → v ≡ get_or vs i v → as_table (view v) ≡ Some fields → in_field n (entry_of size before fields) ≡ r
-    → entries_of size n before (tables_in (items_view (drop i vs))) ≡ (r >>= λ e. entries_of size (n + 1) (before ++ e ∷ []) (tables_in (items_view (drop (i + 1) vs))))
+pub entries_of-table : (version : Version) (size : Size) (n : ℕ) (before : List Declared) (vs : List Value) (i : ℕ) (v : Value) (fields : Members) (r : Result (List Declared) LayoutFault)
+    → i < length vs → v ≡ get_or vs i v → as_table (view v) ≡ Some fields → in_field n (with_table version size before fields) ≡ r
+    → entries_of version size n before (tables_in (items_view (drop i vs))) ≡ (r >>= λ all. entries_of version size (n + 1) all (tables_in (items_view (drop (i + 1) vs))))
 unfolding entries_of
-entries_of-table size n before vs i v fields r h at seen read =
+entries_of-table version size n before vs i v fields r h at seen read =
     let here : as_table (view (get_or vs i v)) ≡ Some fields = ap (λ x. as_table (view x)) (sym at) ∙ seen in
     rw (items_view-drop vs i v h, tables_in-table (view (get_or vs i v)) (items_view (drop (i + 1) vs)) fields here, read)
 
 -- a value that is none
-pub entries_of-other : (size : Size) (n : ℕ) (before : List Declared) (vs : List Value) (i : ℕ) (v : Value)
+pub entries_of-other : (version : Version) (size : Size) (n : ℕ) (before : List Declared) (vs : List Value) (i : ℕ) (v : Value)
     → i < length vs → v ≡ get_or vs i v → as_table (view v) ≡ None
-    → entries_of size n before (tables_in (items_view (drop i vs))) ≡ entries_of size n before (tables_in (items_view (drop (i + 1) vs)))
-entries_of-other size n before vs i v h at seen =
+    → entries_of version size n before (tables_in (items_view (drop i vs))) ≡ entries_of version size n before (tables_in (items_view (drop (i + 1) vs)))
+entries_of-other version size n before vs i v h at seen =
     let here : as_table (view (get_or vs i v)) ≡ None = ap (λ x. as_table (view x)) (sym at) ∙ seen in
     rw (items_view-drop vs i v h, tables_in-other (view (get_or vs i v)) (items_view (drop (i + 1) vs)) here)
 
-pub entries_of-end : (size : Size) (n : ℕ) (before : List Declared) (vs : List Value) (i : ℕ) → length vs ≤ i
-    → entries_of size n before (tables_in (items_view (drop i vs))) ≡ Ok before
+pub entries_of-end : (version : Version) (size : Size) (n : ℕ) (before : List Declared) (vs : List Value) (i : ℕ) → length vs ≤ i
+    → entries_of version size n before (tables_in (items_view (drop i vs))) ≡ Ok before
 unfolding entries_of
-entries_of-end size n before vs i h = rw (drop_all i vs h)
+entries_of-end version size n before vs i h = rw (drop_all i vs h)
 
 -- a fault of the next step is the fault of all
 pub Fails-bind : {A B : Type 0} (e : LayoutError) (r : Result A LayoutFault) (f : A → Result B LayoutFault) (all : Result B LayoutFault) → Fails e r → all ≡ (r >>= f) → Fails e all

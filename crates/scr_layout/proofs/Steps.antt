@@ -1,7 +1,9 @@
 -- What a reading that gives a value says of its steps.
-use Rattle.std.proofs.Common.{◌≡◌, ℕ, Bool, true, false, cond, refl, Option, Some, None, option_and_then, ok_or, Result, Ok, Err}
+use Rattle.std.proofs.Common.{◌≡◌, ℕ, ℤ, pos, negsuc, ◌≤◌, ◌&&◌, nat_le, arith, Bool, true, false, cond, refl, Option, Some, None, option_and_then, ok_or, Result, Ok, Err}
+use Rattle.std.proofs.lemmas.Bool.{and_parts, leb-true}
 use Rattle.scr_layout.specs.declared.fault.LayoutFault.{LayoutFault}
 use Rattle.scr_layout.specs.Results.{◌>>=◌, tested, in_field}
+use Rattle.scr_layout.specs.Values.{from_one_to}
 
 pub bind_ok : {A B : Type 0} (r : Result A LayoutFault) (f : A → Result B LayoutFault) (y : B) → (r >>= f) ≡ Ok y → (x : A) × (r ≡ Ok x) × (f x ≡ Ok y)
 bind_ok (Ok x) f y h = (x, refl, h)
@@ -33,3 +35,10 @@ and_then_some None f y h = cc
 
 pub same_ok : {A : Type 0} (x y : A) → ◌≡◌ {A = Result A LayoutFault} (Ok x) (Ok y) → x ≡ y
 same_ok x y e = cc
+
+pub from_one_to-in : (most : ℕ) (z : ℤ) (n : ℕ) → from_one_to most z ≡ Some n → (1 ≤ n) × (n ≤ most)
+from_one_to-in most (pos m) n h =
+    let found = cond_some (nat_le 1 m && nat_le m most) m n h in
+    let bounds = and_parts (nat_le 1 m) (nat_le m most) found.0 in
+    (omega (arith, leb-true 1 m bounds.0, found.1), omega (arith, leb-true m most bounds.1, found.1))
+from_one_to-in most (negsuc m) n h = cc

@@ -1,7 +1,7 @@
 -- The tables among the values of a list.
-use Rattle.std.proofs.Common.{◌≡◌, ℕ, suc, true, ◌&&◌, is_some, Some, Ok, Err, ◌<◌, ◌≤◌, le-leb, List, [], ◌∷◌, length, refl, ap, ◌∙◌}
+use Rattle.std.proofs.Common.{◌≡◌, ℕ, suc, Bool, true, ◌||◌, map, ◌&&◌, is_some, Some, Ok, Err, ◌<◌, ◌≤◌, le-leb, List, [], ◌∷◌, length, refl, ap, ◌∙◌}
 use Rattle.std.proofs.lemmas.Bool.{lt-leb}
-use Rattle.std.specs.List.{list_all}
+use Rattle.std.specs.List.{list_all, list_any}
 use Rattle.toml.specs.Data.{Data, string, integer, float, boolean, datetime, array, table, Items, item, as_table, as_array}
 use Rattle.toml.specs.View.{view, items_view}
 use Rattle.toml.specs.declared.value.Value.{Value}
@@ -48,3 +48,7 @@ pub tables_of-few : (d : Data) (vs : List Value) → as_array d ≡ Some (items_
     → tables_of d ≡ Ok (tables_in (items_view vs))
 unfolding tables_of
 tables_of-few d vs seen all few = rw (seen, all, length-tables_in vs all, le-leb _ _ few)
+
+pub list_any-map : {A B : Type 0} (p : B → Bool) (f : A → B) (xs : List A) → list_any p (map f xs) ≡ list_any (λ x. p (f x)) xs
+list_any-map p f [] = refl
+list_any-map p f (x ∷ xs) = ap (λ b. p (f x) || b) (list_any-map p f xs)

@@ -1,9 +1,9 @@
 -- What is refused of a layout, and the words that are printed of it.
 use Rattle.std.specs.Prelude.{codes, decimal, ℕ, List, [], ◌++◌, Option, Some, None}
 use Rattle.scr_layout.specs.declared.fault.LayoutKey.{LayoutKey}
-use Rattle.scr_layout.specs.declared.fault.LayoutKey.TheVariants.{Unknown, Addresses, Default, Alternate, Screen, Field, Name, Row, Col, Length, Kind}
+use Rattle.scr_layout.specs.declared.fault.LayoutKey.TheVariants.{Unknown, Version, Addresses, Default, Alternate, Screen, Field, Name, Row, Col, Length, Kind, Count, Down}
 use Rattle.scr_layout.specs.declared.fault.Why.{Why}
-use Rattle.scr_layout.specs.declared.fault.Why.TheVariants.{NotToml, MissingKey, WrongKind, UnknownKey, BadSize, BadName, NameTwice, PlaceOutside, PlaceTwice, BadLength, TooManyFields}
+use Rattle.scr_layout.specs.declared.fault.Why.TheVariants.{NotToml, MissingKey, WrongKind, UnknownKey, BadSize, BadName, NameTwice, PlaceOutside, PlaceTwice, BadLength, TooManyFields, BadCount}
 use Rattle.scr_layout.specs.declared.fault.LayoutFault.{LayoutFault}
 
 -- the words for each refusal
@@ -19,10 +19,12 @@ refusal_text PlaceOutside = codes "L8 PlaceOutside"
 refusal_text PlaceTwice = codes "L9 PlaceTwice"
 refusal_text BadLength = codes "L10 BadLength"
 refusal_text TooManyFields = codes "L11 TooManyFields"
+refusal_text BadCount = codes "L12 BadCount"
 
 -- a key as it stands in the text
 abbrev pub key_text : LayoutKey → List ℕ
 key_text Unknown = codes "unknown"
+key_text Version = codes "version"
 key_text Addresses = codes "addresses"
 key_text Default = codes "default"
 key_text Alternate = codes "alternate"
@@ -33,6 +35,8 @@ key_text Row = codes "row"
 key_text Col = codes "col"
 key_text Length = codes "length"
 key_text Kind = codes "kind"
+key_text Count = codes "count"
+key_text Down = codes "down"
 
 -- the key, behind a space
 abbrev pub which_text : Option LayoutKey → List ℕ

@@ -4,6 +4,7 @@ pub mod Fault
 pub mod SizeText
 pub mod Values
 pub mod Top
+pub mod Rows
 pub mod Field
 pub mod Layout
 pub mod Says

@@ -5,7 +5,9 @@ use Rattle.ds_codec.specs.declared.size.Mode.{Mode}
 use Rattle.ds_codec.specs.declared.size.Mode.TheVariants.{Bits14, Bits16}
 use Rattle.toml.specs.Data.{Data, table, Items, no_items, item, Members, as_array}
 use Rattle.scr_layout.specs.declared.fault.LayoutKey.{LayoutKey}
-use Rattle.scr_layout.specs.declared.fault.LayoutKey.TheVariants.{Addresses, Default, Alternate, Screen, Field}
+use Rattle.scr_layout.specs.declared.top.Version.{Version as Keys}
+use Rattle.scr_layout.specs.declared.top.Version.TheVariants.{One, Two}
+use Rattle.scr_layout.specs.declared.fault.LayoutKey.TheVariants.{Version, Addresses, Default, Alternate, Screen, Field}
 use Rattle.scr_layout.specs.declared.fault.LayoutFault.{LayoutFault}
 use Rattle.scr_layout.specs.declared.fault.Why.TheVariants.{WrongKind, BadSize, TooManyFields}
 use Rattle.scr_layout.specs.Fault.{at_key}
@@ -14,7 +16,26 @@ use Rattle.scr_layout.specs.SizeText.{size_of_text}
 use Rattle.scr_layout.specs.Values.{value_at, text_of, integer_of, from_one_to}
 
 abbrev pub top_keys : List LayoutKey
-top_keys = Addresses ∷ Default ∷ Alternate ∷ Screen ∷ Field ∷ []
+top_keys = Version ∷ Addresses ∷ Default ∷ Alternate ∷ Screen ∷ Field ∷ []
+
+-- the version of this number
+abbrev pub numbered_version : Option ℕ → Option Keys
+numbered_version None = None
+numbered_version (Some number) = if number == 1 then Some One else if number == 2 then Some Two else None
+
+-- the version that the value names by its number
+unfoldable pub named_version : Data → Result Keys LayoutFault
+named_version value = do
+  number ← integer_of Version value
+  ok_or (numbered_version (from_one_to 2 number)) (at_key Version WrongKind)
+
+abbrev pub version_or : Option Data → Result Keys LayoutFault
+version_or None = Ok One
+version_or (Some value) = named_version value
+
+-- `version`: 1 or 2, and 1 where it is absent
+unfoldable pub version_of : Members → Result Keys LayoutFault
+version_of top = version_or (value_at Version top)
 
 -- the mode of addresses of so many bits
 abbrev pub mode_of_bits : Option ℕ → Option Mode

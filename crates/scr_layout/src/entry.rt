@@ -31,19 +31,3 @@ impl Model for Entry {
 
     ghost view = { λ e. record { name = string_bytes e.name; place = e.place; length = e.length; kind = e.kind } };
 }
-
-impl Entry {
-    ghost use Rattle.std.specs.Prelude.{◌≡◌, ◌==◌, bytes_eq};
-
-    pub(crate) fn is_named(&self, name: &str) -> bool
-        ensures { result ≡ bytes_eq name.now self.now.name }
-    {
-        name == self.name.as_str()
-    }
-
-    pub(crate) fn is_at(&self, place: u32) -> bool
-        ensures { result ≡ (place == self.now.place) }
-    {
-        place == self.place
-    }
-}

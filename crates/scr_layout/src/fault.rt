@@ -12,6 +12,7 @@ use thiserror::Error;
 pub enum LayoutKey {
     /// A key that a layout does not have.
     Unknown,
+    Version,
     Addresses,
     Default,
     Alternate,
@@ -22,6 +23,8 @@ pub enum LayoutKey {
     Col,
     Length,
     Kind,
+    Count,
+    Down,
 }
 
 impl LayoutKey {
@@ -31,6 +34,7 @@ impl LayoutKey {
     {
         match self {
             LayoutKey::Unknown => "unknown",
+            LayoutKey::Version => "version",
             LayoutKey::Addresses => "addresses",
             LayoutKey::Default => "default",
             LayoutKey::Alternate => "alternate",
@@ -41,6 +45,8 @@ impl LayoutKey {
             LayoutKey::Col => "col",
             LayoutKey::Length => "length",
             LayoutKey::Kind => "kind",
+            LayoutKey::Count => "count",
+            LayoutKey::Down => "down",
         }
     }
 }
@@ -78,6 +84,8 @@ pub enum Why {
     BadLength,
     /// More than 1,000 fields.
     TooManyFields,
+    /// A count of rows, or of rows from one field down to the next, that is not 1 to 255.
+    BadCount,
 }
 
 impl Why {
@@ -96,6 +104,7 @@ impl Why {
             Why::PlaceTwice => "L9 PlaceTwice",
             Why::BadLength => "L10 BadLength",
             Why::TooManyFields => "L11 TooManyFields",
+            Why::BadCount => "L12 BadCount",
         }
     }
 }
@@ -111,7 +120,7 @@ impl fmt::Display for Why {
 /// The first refusal of a layout.
 #[derive(Clone, Copy, Debug, PartialEq, Eq)]
 pub struct LayoutFault {
-    /// The field at fault, counted from 0, or `None` at the top.
+    /// The table of the field at fault, counted from 0, or `None` at the top.
     pub field: Option<usize>,
     /// The key at fault, or `None` where the text is no TOML.
     pub which: Option<LayoutKey>,

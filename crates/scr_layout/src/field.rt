@@ -1,79 +1,64 @@
 //! The keys of a field of a layout.
 
-ghost use Rattle.std.specs.Prelude.{◌≡◌};
-ghost use Rattle.std.specs.List.{list_all};
+ghost use Rattle.std.specs.Prelude.{◌≡◌, ◌<◌, IfOk};
+ghost use Rattle.ds_codec.specs.Geometry.{cells_of};
 ghost use Rattle.toml.specs.View.{view, table_view};
-ghost use Rattle.scr_layout.specs.Entry.{is_name_byte, is_name};
 ghost use Rattle.scr_layout.specs.Results.{Tells, Gives};
 ghost use Rattle.scr_layout.specs.Values.{with_only};
-ghost use Rattle.scr_layout.specs.Field.{field_keys, has_name, has_place, name_of, integer_at, place_of, length_of, named_kind, kind_of, entry_of};
+ghost use Rattle.scr_layout.specs.Rows.{IsSmall};
+ghost use Rattle.scr_layout.specs.Field.{field_keys, name_of, integer_at, place_of, length_of, named_kind, kind_of, with_table};
 
-use crate::entry::{Entry, Kind};
+use crate::entry::Kind;
 use crate::fault::{LayoutError, LayoutFault, LayoutKey, Why};
+use crate::listed::Listed;
+use crate::name::is_name;
+use crate::rows::{are_free, count_of, names_of, rows_of, step_of, with_names};
+use crate::top::Version;
 use crate::values::{from_one_to, integer_of, needed_at, text_of, value_at, with_only};
 use ds_codec::Size;
 use std::alloc::Global;
 use toml::Table;
 
-const FIELD_KEYS: [LayoutKey; 5] = [
+const FIELD_KEYS: [LayoutKey; 7] = [
     LayoutKey::Name,
     LayoutKey::Row,
     LayoutKey::Col,
     LayoutKey::Length,
     LayoutKey::Kind,
+    LayoutKey::Count,
+    LayoutKey::Down,
 ];
 
+/// The keys of a field; those of its rows came with version 2.
+fn field_keys(version: Version) -> &'static [LayoutKey]
+    ensures { result.now ≡ field_keys version }
+{
+    match version {
+        Version::One => &FIELD_KEYS[..5],
+        Version::Two => &FIELD_KEYS,
+    }
+}
+
 /// The table, if it has no key but those of a field.
-fn field_of(table: &Table) -> Result<&Table, LayoutFault>
-    ensures { Tells (λ t. table_view t.now) result (with_only field_keys (table_view table.now)) }
+fn field_of(version: Version, table: &Table) -> Result<&Table, LayoutFault>
+    ensures { Tells (λ t. table_view t.now) result
+        (with_only (field_keys version) (table_view table.now)) }
 {
-    with_only(&FIELD_KEYS, table)
+    with_only(field_keys(version), table)
 }
 
-fn is_name_byte(byte: u8) -> bool
-    ensures { result ≡ is_name_byte byte }
-{
-    byte.is_ascii_alphanumeric() || byte == b'-' || byte == b'_'
-}
-
-fn are_name_bytes(bytes: &[u8]) -> bool
-    ensures { result ≡ list_all is_name_byte bytes.now }
-{
-    bytes.iter().all(|byte| is_name_byte(*byte))
-}
-
-fn is_name(text: &str) -> bool
-    ensures { result ≡ is_name text.now }
-{
-    1 <= text.len() && text.len() <= 32 && are_name_bytes(text.as_bytes())
-}
-
-fn has_name(name: &str, before: &[Entry]) -> bool
-    ensures { result ≡ has_name name.now before.now }
-{
-    before.iter().any(|entry| entry.is_named(name))
-}
-
-fn has_place(place: u32, before: &[Entry]) -> bool
-    ensures { result ≡ has_place place before.now }
-{
-    before.iter().any(|entry| entry.is_at(place))
-}
-
-/// `name`: a name that no entry before it has.
+/// `name`.
 #[tactic(auto, unfolding(crate::specs::Field::name_of))]
-fn name_of<'a>(before: &[Entry], field: &'a Table) -> Result<&'a str, LayoutFault>
-    ensures { Tells (λ s. s.now) result (name_of before.now (table_view field.now)) }
+fn name_of(field: &Table) -> Result<&str, LayoutFault>
+    ensures { Tells (λ s. s.now) result (name_of (table_view field.now)) }
 {
     let value = needed_at(LayoutKey::Name, field)?;
     let text = text_of(LayoutKey::Name, value)?;
-    if !is_name(text) {
-        return Err(LayoutFault::at_key(LayoutKey::Name, Why::BadName));
+    if is_name(text) {
+        Ok(text)
+    } else {
+        Err(LayoutFault::at_key(LayoutKey::Name, Why::BadName))
     }
-    if has_name(text, before) {
-        return Err(LayoutFault::at_key(LayoutKey::Name, Why::NameTwice));
-    }
-    Ok(text)
 }
 
 /// `row`, `col` and `length`: an integer.
@@ -84,10 +69,11 @@ fn integer_at(key: LayoutKey, field: &Table) -> Result<i64, LayoutFault>
     integer_of(key, needed_at(key, field)?)
 }
 
-/// The place in this row and column, each counted from 1, where no entry before it stands.
+/// The place in this row and column, each counted from 1.
 #[tactic(auto, unfolding(crate::specs::Field::place_of))]
-fn place_of(size: Size, before: &[Entry], row: i64, col: i64) -> Result<u32, LayoutFault>
-    ensures { result ≡ place_of size before.now row col }
+fn place_of(size: Size, row: i64, col: i64) -> Result<u32, LayoutFault>
+    ensures value { result ≡ place_of size row col }
+    ensures inside { IfOk result (λ place. place < cells_of size) }
 {
     let Some(row) = from_one_to(u32::from(size.rows), row) else {
         return Err(LayoutFault::at_key(LayoutKey::Row, Why::PlaceOutside));
@@ -95,11 +81,7 @@ fn place_of(size: Size, before: &[Entry], row: i64, col: i64) -> Result<u32, Lay
     let Some(col) = from_one_to(u32::from(size.cols), col) else {
         return Err(LayoutFault::at_key(LayoutKey::Col, Why::PlaceOutside));
     };
-    let place = (row - 1) * u32::from(size.cols) + (col - 1);
-    if has_place(place, before) {
-        return Err(LayoutFault::at_key(LayoutKey::Row, Why::PlaceTwice));
-    }
-    Ok(place)
+    Ok((row - 1) * u32::from(size.cols) + (col - 1))
 }
 
 /// `length`: 1 to the screen's cells less 1.
@@ -135,27 +117,29 @@ fn kind_of(field: &Table) -> Result<Kind, LayoutFault>
     }
 }
 
-/// The entry of a table, on a screen of this size, after these entries.
-#[tactic(auto, unfolding(crate::specs::Field::entry_of))]
-pub(crate) fn entry_of(
+/// The entries before, and behind them those that a table stands for on a screen of this size.
+#[tactic(auto, unfolding(crate::specs::Field::with_table))]
+pub(crate) fn with_table(
     alloc: Global,
+    version: Version,
     size: Size,
-    before: &[Entry],
+    before: Listed,
     table: &Table,
-) -> Result<Entry, LayoutError>
-    ensures { Gives (λ e. e) result (entry_of size before.now (table_view table.now)) }
+) -> Result<Listed, LayoutError>
+    requires { IsSmall size }
+    ensures { Gives (λ listed. listed) result
+        (with_table version size before (table_view table.now)) }
 {
-    let field = field_of(table)?;
-    let name = name_of(before, field)?;
+    let field = field_of(version, table)?;
+    let name = name_of(field)?;
+    let rows = rows_of(field)?;
+    let names = names_of(alloc, &before, name, rows)?;
     let row = integer_at(LayoutKey::Row, field)?;
     let col = integer_at(LayoutKey::Col, field)?;
-    let place = place_of(size, before, row, col)?;
+    let place = place_of(size, row, col)?;
+    let step = step_of(size, rows);
+    are_free(size, &before, step, place, count_of(rows))?;
     let length = length_of(size, field)?;
     let kind = kind_of(field)?;
-    Ok(Entry {
-        name: String::from_str(alloc, name)?,
-        place,
-        length,
-        kind,
-    })
+    Ok(with_names(alloc, before, names, step, place, length, kind)?)
 }

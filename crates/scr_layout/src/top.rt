@@ -4,7 +4,7 @@ ghost use Rattle.std.specs.Prelude.{◌≡◌, option_map};
 ghost use Rattle.toml.specs.View.{view, table_view, items_view};
 ghost use Rattle.scr_layout.specs.Results.{Tells};
 ghost use Rattle.scr_layout.specs.Values.{with_only};
-ghost use Rattle.scr_layout.specs.Top.{top_keys, mode_of_bits, named_mode, mode_of, size_of, default_of, alternate_of, named_size, screen_of, tables_in, are_tables, tables_of, fields_of};
+ghost use Rattle.scr_layout.specs.Top.{top_keys, numbered_version, named_version, version_of, mode_of_bits, named_mode, mode_of, size_of, default_of, alternate_of, named_size, screen_of, tables_in, are_tables, tables_of, fields_of};
 
 use crate::fault::{LayoutFault, LayoutKey, Why};
 use crate::size_text::size_of_text;
@@ -12,7 +12,17 @@ use crate::values::{from_one_to, integer_of, text_of, value_at, with_only};
 use ds_codec::{Mode, Size};
 use toml::{Table, Value};
 
-const TOP_KEYS: [LayoutKey; 5] = [
+/// The version of a layout's keys.
+#[derive(Clone, Copy, Debug, PartialEq, Eq)]
+pub(crate) enum Version {
+    /// A field stands for one entry.
+    One,
+    /// A field may stand for entries in rows.
+    Two,
+}
+
+const TOP_KEYS: [LayoutKey; 6] = [
+    LayoutKey::Version,
     LayoutKey::Addresses,
     LayoutKey::Default,
     LayoutKey::Alternate,
@@ -25,6 +35,38 @@ pub(crate) fn top_of(table: &Table) -> Result<&Table, LayoutFault>
     ensures { Tells (λ t. table_view t.now) result (with_only top_keys (table_view table.now)) }
 {
     with_only(&TOP_KEYS, table)
+}
+
+fn numbered_version(number: Option<u32>) -> Option<Version>
+    ensures { result ≡ numbered_version number }
+{
+    match number {
+        Some(1) => Some(Version::One),
+        Some(2) => Some(Version::Two),
+        _ => None,
+    }
+}
+
+#[tactic(auto, unfolding(crate::specs::Top::named_version))]
+fn named_version(value: &Value) -> Result<Version, LayoutFault>
+    ensures { result ≡ named_version (view value.now) }
+{
+    let number = integer_of(LayoutKey::Version, value)?;
+    match numbered_version(from_one_to(2, number)) {
+        Some(version) => Ok(version),
+        None => Err(LayoutFault::at_key(LayoutKey::Version, Why::WrongKind)),
+    }
+}
+
+/// `version`: 1 or 2, and 1 where it is absent.
+#[tactic(auto, unfolding(crate::specs::Top::version_of))]
+pub(crate) fn version_of(top: &Table) -> Result<Version, LayoutFault>
+    ensures { result ≡ version_of (table_view top.now) }
+{
+    match value_at(LayoutKey::Version, top) {
+        Some(value) => named_version(value),
+        None => Ok(Version::One),
+    }
 }
 
 fn mode_of_bits(bits: Option<u32>) -> Option<Mode>

@@ -1,6 +1,6 @@
 //! What a key of a table holds.
 
-ghost use Rattle.std.specs.Prelude.{◌≡◌, option_map, codes};
+ghost use Rattle.std.specs.Prelude.{◌≡◌, ◌≤◌, option_map, codes, IfSome};
 ghost use Rattle.toml.specs.View.{view, table_view};
 ghost use Rattle.scr_layout.specs.Results.{Tells};
 ghost use Rattle.scr_layout.specs.Values.{value_at, needed_at, text_of, integer_of, from_one_to, is_key, has_only, with_only};
@@ -47,7 +47,8 @@ pub(crate) fn integer_of(key: LayoutKey, value: &Value) -> Result<i64, LayoutFau
 
 /// The number, if it is one of 1 to `most`.
 pub(crate) fn from_one_to(most: u32, number: i64) -> Option<u32>
-    ensures { result ≡ from_one_to most number }
+    ensures value { result ≡ from_one_to most number }
+    ensures bounds { IfSome result (λ n. (1 ≤ n) × (n ≤ most)) }
 {
     if 1 <= number && number <= i64::from(most) {
         Some(number as u32)
