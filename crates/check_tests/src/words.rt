@@ -41,6 +41,7 @@ fn push_key(out: &mut String, key: LayoutKey) -> Result<(), AllocError> {
 
 fn push_layout_keys(out: &mut String) -> Result<(), AllocError> {
     push_key(out, LayoutKey::Unknown)?;
+    push_key(out, LayoutKey::Version)?;
     push_key(out, LayoutKey::Addresses)?;
     push_key(out, LayoutKey::Default)?;
     push_key(out, LayoutKey::Alternate)?;
@@ -50,7 +51,9 @@ fn push_layout_keys(out: &mut String) -> Result<(), AllocError> {
     push_key(out, LayoutKey::Row)?;
     push_key(out, LayoutKey::Col)?;
     push_key(out, LayoutKey::Length)?;
-    push_key(out, LayoutKey::Kind)
+    push_key(out, LayoutKey::Kind)?;
+    push_key(out, LayoutKey::Count)?;
+    push_key(out, LayoutKey::Down)
 }
 
 fn push_why(out: &mut String, why: Why) -> Result<(), AllocError> {
@@ -73,7 +76,8 @@ fn push_reasons(out: &mut String) -> Result<(), AllocError> {
     push_reason(out, Why::PlaceOutside)?;
     push_reason(out, Why::PlaceTwice)?;
     push_reason(out, Why::BadLength)?;
-    push_reason(out, Why::TooManyFields)
+    push_reason(out, Why::TooManyFields)?;
+    push_reason(out, Why::BadCount)
 }
 
 fn push_layout_fault(out: &mut String, fault: LayoutFault) -> Result<(), AllocError> {
