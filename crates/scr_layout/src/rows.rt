@@ -232,7 +232,8 @@ pub(crate) fn with_names(
     requires step { step ≤ 65025 }
     requires first { first ≤ 65025 }
     requires few { length names.items ≤ 255 }
-    ensures { IfOk result (λ now. now ≡ before ++ entries_from step first cells kind (map string_bytes names.items)) }
+    ensures { IfOk result (λ now. now
+        ≡ before ++ entries_from step first cells kind (map string_bytes names.items)) }
 {
     let mut listed = before;
     let mut place = first;
