@@ -2,7 +2,6 @@
 use Rattle.std.proofs.Common.{◌≡◌, ℕ, ◌/◌, ◌%◌, ◌<◌, ◌⊎◌, Bool, true, false, ◌&&◌, ◌||◌, eqb, refl, arith, inl, inr}
 use Rattle.std.proofs.lemmas.Bool.{eqb-true}
 use Rattle.ds_codec.specs.Address.{six_bit_code, SpellsAddress, top_bits}
-use Rattle.ds_codec.specs.declared.size.Mode.{Mode}
 use Rattle.ds_codec.specs.declared.size.Mode.TheVariants.{Bits14}
 use Rattle.ds_codec.proofs.Below.{each_below, both_true}
 

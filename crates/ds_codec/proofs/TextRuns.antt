@@ -1,5 +1,6 @@
 -- Runs of text at the front.
-use Rattle.std.proofs.Common.{◌≡◌, ℕ, suc, ◌+◌, ◌<◌, Bool, true, false, cond, List, [], ◌∷◌, ◌++◌, length, take, drop, refl, arith}
+use Rattle.std.proofs.lemmas.Bool.{cases_eq, eq-eqb, ne_eqb}
+use Rattle.std.proofs.Common.{◌≡◌, ℕ, suc, ◌+◌, ◌<◌, ◌&&◌, inl, inr, sym, ◌∙◌, eqb, Bool, true, false, cond, List, [], ◌∷◌, ◌++◌, length, take, drop, refl, arith}
 use Rattle.std.specs.List.{prefix_len, list_all}
 use Rattle.ds_codec.proofs.Below.{both_true}
 
@@ -41,3 +42,18 @@ prefix-append test (x ∷ xs) ys all fails =
 -- the run is not empty where the first element passes
 pub prefix-some : (test : ℕ → Bool) (x : ℕ) (xs : List ℕ) → test x ≡ true → 0 < prefix_len test (x ∷ xs)
 prefix-some test x xs passes = rw passes (omega arith)
+
+eqb_suc : (a b : ℕ) → eqb (1 + a) (suc b) ≡ eqb a b
+eqb_suc a b = elim (cases_eq a b) [
+  | inl same ↦ let more : 1 + a ≡ suc b = omega (arith, same) in eq-eqb (1 + a) (suc b) more ∙ sym (eq-eqb a b same)
+  | inr apart ↦ ne_eqb (1 + a) (suc b) (λ more. apart (omega (arith, more))) ∙ sym (ne_eqb a b apart)
+]
+
+-- a run is text where its front of text is all of it
+pub all_of_run : (test : ℕ → Bool) (xs : List ℕ) → eqb (prefix_len test xs) (length xs) ≡ list_all test xs
+all_of_run test [] = refl
+all_of_run test (x ∷ xs) =
+    elim (test x) as (λ b. eqb (cond b (1 + prefix_len test xs) 0) (suc (length xs)) ≡ (b && list_all test xs)) [
+      | true ↦ eqb_suc (prefix_len test xs) (length xs) ∙ all_of_run test xs
+      | false ↦ ne_eqb 0 (suc (length xs)) (λ same. omega (arith, same))
+    ]

@@ -5,16 +5,16 @@ ghost use Rattle.ds_codec.specs.Character.{is_text, is_graphic};
 
 use std::marker::Model;
 
-/// NUL, FF, CR, NL, EM, DUP, FM and SUB.
-const STORED_CONTROLS: [u8; 8] = [0x00, 0x0C, 0x0D, 0x15, 0x19, 0x1C, 0x1E, 0x3F];
-
-/// Whether a byte of a record is text: 40 to FF, or a control that is stored (00, 0C, 0D, 15, 19, 1C,
-/// 1E and 3F).
+/// Whether a byte of a record is text: 40 to FF, or a control that is stored: NUL (00), FF (0C), CR (0D), NL (15), EM
+/// (19), DUP (1C), FM (1E) and SUB (3F).
 #[tactic(auto, unfolding(crate::specs::Character::is_text))]
 pub fn is_text_byte(byte: u8) -> bool
     ensures { result ≡ is_text byte }
 {
-    byte >= 0x40 || STORED_CONTROLS.contains(&byte)
+    match byte {
+        0x00 | 0x0C | 0x0D | 0x15 | 0x19 | 0x1C | 0x1E | 0x3F => true,
+        _ => 0x40 <= byte,
+    }
 }
 
 /// Whether a code may follow the graphic escape: 40 to FE.

@@ -1,6 +1,6 @@
 //! The order at the front of a record's bytes.
 
-ghost use Rattle.std.specs.Prelude.{◌≡◌, ◌<◌, ◌≤◌, ◌*◌, List, ℕ, length, take, true, IfOk, Option, Some};
+ghost use Rattle.std.specs.Prelude.{◌≡◌, ◌<◌, ◌≤◌, ◌*◌, List, ℕ, get_or, length, take, true, IfOk, Option, Some};
 ghost use Rattle.std.specs.List.{prefix_len};
 ghost use Rattle.ds_codec.specs.Character.{is_text, is_glyph, glyph};
 ghost use Rattle.ds_codec.specs.Address.{address_at};
@@ -65,13 +65,41 @@ pub fn last_attr(pairs: &[u8]) -> Option<Attr>
     last
 }
 
+/// How many bytes are looked at in one step.
+const STEP: usize = 8;
+
+/// Whether all bytes are 40 or above, told at once for all of them.
+fn are_graphic(bytes: &[u8]) -> bool
+    ensures { (result ≡ true) → (k : ℕ) → k < length bytes.now
+        → is_text (get_or bytes.now k 0) ≡ true }
+{
+    let mut least = 0xFF;
+    for byte in bytes {
+        least = least.min(*byte);
+    }
+    0x40 <= least
+}
+
+/// How many bytes at the front are 40 or above, in whole steps.
+fn graphic_steps(bytes: &[u8]) -> usize
+    ensures within { result ≤ length bytes.now }
+    ensures text { (k : ℕ) → k < result → is_text (get_or bytes.now k 0) ≡ true }
+{
+    let mut passed = 0;
+    'steps: while STEP <= bytes.len() - passed && are_graphic(&bytes[passed..passed + STEP]) {
+        passed += STEP;
+    }
+    passed
+}
+
 /// How long the run of text at the front is.
-fn text_length(bytes: &[u8]) -> usize
+pub fn text_length(bytes: &[u8]) -> usize
     ensures { result ≡ prefix_len is_text bytes.now }
 {
-    for (i, byte) in bytes.iter().enumerate() {
+    let passed = graphic_steps(bytes);
+    for (i, byte) in bytes[passed..].iter().enumerate() {
         if !is_text_byte(*byte) {
-            return i;
+            return passed + i;
         }
     }
     bytes.len()

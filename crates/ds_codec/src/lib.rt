@@ -22,7 +22,7 @@ pub use attribute::Attr;
 pub use cell::Cell;
 pub use character::{Char, is_graphic_code};
 pub use command::{Command, CommandCode};
-pub use digits::byte_of_digits;
+pub use digits::{byte_of_digits, bytes_of_digits};
 pub use front::last_attr;
 pub use geometry::{BadSize, Geometry};
 pub use order::{Order, OrderCode, Placed};

@@ -12,9 +12,9 @@ ghost use Rattle.ds_codec.specs.Command.{command_code_of, wcc_of};
 ghost use Rattle.ds_codec.specs.declared.write.Unwritable.TheVariants.{OutOfMemory};
 
 use crate::address::{encode_address, to_six_bit_code};
-use crate::character::{Char, is_graphic_code, is_text_byte};
+use crate::character::{Char, is_graphic_code};
 use crate::command::Command;
-use crate::front::{have_field_types, is_set_type_byte};
+use crate::front::{have_field_types, is_set_type_byte, text_length};
 use crate::order::{Order, OrderCode};
 use crate::size::Mode;
 use std::alloc::{AllocError, AllocFailed, Global};
@@ -143,7 +143,7 @@ fn is_good_text(after_text: bool, run: &[u8]) -> bool
 fn is_all_text(run: &[u8]) -> bool
     ensures { result ≡ list_all is_text run.now }
 {
-    run.iter().all(|byte| is_text_byte(*byte))
+    text_length(run) == run.len()
 }
 
 /// Whether pairs can be written: at most 255 whole ones, of known types.

@@ -1,7 +1,7 @@
 -- Cells in two planes, and the index of their attributes.
 use Rattle.std.proofs.Common.{◌≡◌, ◌≢◌, ℕ, ◌+◌, ◌-◌, ◌<◌, ◌≤◌, ◌&&◌, ◌++◌, Bool, true, false, cond, eqb, leb, ltb, List, [], length, take, drop, replicate, get_or, set, refl, sym, ◌∙◌, ap, arith, inl, inr, get_or-set_same, get_or-set_other}
-use Rattle.std.proofs.lemmas.Bool.{cond-true, cond-false, cases_eq, cases_lt, eq-eqb, ne_eqb, lt-ltb, le-ltb, le-leb, lt-leb, leb-true, ltb-true}
-use Rattle.std.proofs.lemmas.List.{get_or-replicate, length-replicate, length-set, get_or_default}
+use Rattle.std.proofs.lemmas.Bool.{cond-true, cond-false, cases_eq, cases_lt, eq-eqb, ne_eqb, lt-ltb, le-ltb, le-leb, lt-leb, leb-true, ltb-true, and_parts}
+use Rattle.std.proofs.lemmas.List.{get_or-replicate, length-replicate, length-set, get_or_default, get_or_past}
 use Rattle.std.specs.List.{list_all}
 use Rattle.std.proofs.lemmas.List.{take_all, drop_all}
 use mathlib.Core.List.{append-nil}
@@ -13,7 +13,7 @@ use Rattle.ds_screen.specs.declared.stored.Kind.{Kind}
 use Rattle.ds_screen.specs.declared.stored.Kind.TheVariants.{Attribute, Plain, Alternate}
 use Rattle.ds_screen.specs.Picture.{blank, cell_at, ruled}
 use Rattle.ds_screen.specs.Fields.{is_attribute}
-use Rattle.ds_screen.specs.Planes.{stored_cell, is_storable, plane_cell, plane_cells, ArePlanes, Held, held_cells, filled_cell, written_cell, itself, spot_of, IsIndex}
+use Rattle.ds_screen.specs.Planes.{stored_cell, is_storable, plane_cell, plane_cells, AreAllPlain, ArePlanes, Held, held_cells, filled_cell, written_cell, itself, spot_of, IsIndex}
 use Rattle.ds_screen.proofs.RuledLaws.{length-ruled, cell_at-ruled, as_ruled, ruled_same, set-ruled}
 use Rattle.ds_screen.proofs.RunLaws.{list_all_true}
 use Rattle.ds_screen.proofs.MarkLaws.{past_blank}
@@ -94,6 +94,31 @@ are_blank codes kinds n zeros plain =
           ∙ ap (λ k. is_storable k (get_or codes p 0)) (get_or-replicate n p Plain Plain (omega arith))
           ∙ ap (λ l. is_storable Plain (get_or l p 0)) zeros ∙ ap (is_storable Plain) (get_or-replicate n p 0 0 (omega arith)) ∙ zero_text;
     }
+
+-- ---- where all kinds are plain
+
+pub all_plain : (n p : ℕ) → get_or (replicate n Plain) p Plain ≡ Plain
+all_plain n p = elim (cases_lt p n) [
+  | inl inside ↦ get_or-replicate n p Plain Plain inside
+  | inr past ↦ get_or_past (replicate n Plain) p Plain (omega (arith, past, length-replicate n Plain))
+]
+
+-- a plain kind is stored already
+pub stay_plain : (kinds : List Kind) (kind : Kind) (from to p : ℕ) (d : Kind) → AreAllPlain kinds → kind ≡ Plain → to ≤ length kinds
+    → get_or kinds p d ≡ cond (leb from p && ltb p to) kind (get_or kinds p d)
+stay_plain kinds kind from to p d all is inside =
+    elim (leb from p && ltb p to) as (λ t. (leb from p && ltb p to) ≡ t → get_or kinds p d ≡ cond t kind (get_or kinds p d)) [
+      | true ↦ λ within.
+          let below : p < to = ltb-true p to (and_parts (leb from p) (ltb p to) within).1 in
+          get_or_default kinds p d Plain (omega (arith, below, inside)) ∙ all p ∙ sym is
+      | false ↦ λ outside. refl
+    ] refl
+
+pub plain_set : (kinds : List Kind) (q : ℕ) (kind : Kind) → AreAllPlain kinds → kind ≡ Plain → q < length kinds → AreAllPlain (set kinds q kind)
+plain_set kinds q kind all is inside p = elim (cases_eq p q) [
+  | inl here ↦ ap (λ i. get_or (set kinds q kind) i Plain) here ∙ get_or-set_same kinds q kind Plain inside ∙ is
+  | inr apart ↦ get_or-set_other kinds q p kind Plain apart ∙ all p
+]
 
 -- ---- what a method sees of the planes that it works on
 pub counted : (codes : List ℕ) (kinds : List Kind) (room : ℕ) (now : Held) → held_cells codes kinds room ≡ now → length codes ≡ length now.cells

@@ -35,6 +35,10 @@ pub record ArePlanes (codes : List ℕ) (kinds : List Kind) : Type 0 where
   pub same : length kinds ≡ length codes
   pub each : (p : ℕ) → p < length codes → is_storable (slice_index_or kinds p Plain) (slice_index_or codes p 0) ≡ true
 
+-- no kind but plain
+abbrev pub AreAllPlain : List Kind → Type 0
+AreAllPlain kinds = (p : ℕ) → slice_index_or kinds p Plain ≡ Plain
+
 -- cells, and how many there is room for
 pub record Held : Type 0 where
   pub cells : List Cell

@@ -4,6 +4,7 @@ use Rattle.std.specs.List.{range_with_len}
 use Rattle.ds_codec.specs.declared.cell.Cell.{Cell}
 use Rattle.ds_codec.specs.declared.cell.Cell.TheVariants.{Field, Char}
 use Rattle.ds_codec.specs.Attribute.{is_hidden}
+use Rattle.ds_codec.specs.Character.{Glyph}
 use Rattle.ds_screen.specs.Picture.{Picture, cell_at}
 use Rattle.ds_screen.specs.Fields.{ruling_bits}
 
@@ -33,12 +34,16 @@ printed_in code (r ∷ others) =
 unfoldable pub printed_code : ℕ → ℕ
 printed_code code = printed_in code printed_runs
 
+-- what is printed for a character: one of the alternate set has no character
+abbrev pub text_of : Glyph → ℕ
+text_of character = if character.alt then 63 else printed_code character.code
+
 -- what is printed of a cell, by the bits that rule it: '@' for an attribute, '.' for a null, '*' for another character
--- of a hidden field, else the character of its code; one of the alternate set has none
+-- of a hidden field, else the character of its code
 abbrev pub printed_under : ℕ → Cell → ℕ
 printed_under bits (Field attribute) = 64
 printed_under bits (Char character) =
-    if character.code == 0 then 46 else (if is_hidden bits then 42 else (if character.alt then 63 else printed_code character.code))
+    if character.code == 0 then 46 else (if is_hidden bits then 42 else text_of character)
 
 abbrev pub printed_cell : List Cell → ℕ → ℕ
 printed_cell cells p = printed_under (ruling_bits cells p) (cell_at cells p)

@@ -50,3 +50,4 @@ pub use probed::Probed;
 pub use records::Reset;
 pub use refused::{Refused, Why};
 pub use screen::Screen;
+pub use shown::text_of;

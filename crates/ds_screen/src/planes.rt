@@ -1,8 +1,9 @@
 //! The cells of a buffer in two planes: a code for each position, and what the code is.
 
-ghost use Rattle.std.specs.Prelude.{◌≡◌, ◌≤◌, ◌+◌, ◌-◌, ◌&&◌, ℕ, length, slice_index, slice_index_or, nat_le, nat_lt, if◌then◌else◌};
+ghost use Rattle.std.specs.Prelude.{◌≡◌, ◌≤◌, ◌+◌, ◌-◌, ◌&&◌, ℕ, length, slice_index, slice_index_or, nat_le, nat_lt, true, if◌then◌else◌};
+ghost use Rattle.ds_screen.specs.Planes.{AreAllPlain};
 
-use crate::stored::{Kind, Stored, cell_of, cell_stored, character_stored};
+use crate::stored::{Kind, Stored, cell_of, cell_stored, character_stored, is_plain};
 use ds_codec::{Cell, Char};
 use std::alloc::{AllocError, Global};
 use std::marker::Model;
@@ -13,11 +14,13 @@ pub(crate) struct Planes {
     codes: Vec<u8>,
     kinds: Vec<Kind>,
     limit: u32,
+    /// Every kind is plain, so that plain characters are stored by their codes alone.
+    plain: bool,
 }
 
 impl Model for Planes {
-    ghost use Rattle.std.specs.Prelude.{◌≤◌, length, vec_capacity};
-    ghost use Rattle.ds_screen.specs.Planes.{Held, ArePlanes, held_cells};
+    ghost use Rattle.std.specs.Prelude.{◌≡◌, ◌≤◌, length, true, vec_capacity};
+    ghost use Rattle.ds_screen.specs.Planes.{Held, AreAllPlain, ArePlanes, held_cells};
 
     ghost Value = { Held };
 
@@ -26,7 +29,8 @@ impl Model for Planes {
     ghost invariant = { λ s. ArePlanes s.codes.items s.kinds.items
         × (length s.codes.items ≤ s.limit)
         × (s.limit ≤ vec_capacity s.codes)
-        × (s.limit ≤ vec_capacity s.kinds) };
+        × (s.limit ≤ vec_capacity s.kinds)
+        × ((s.plain ≡ true) → AreAllPlain s.kinds.items) };
 }
 
 /// Stores a value from one index up to another.
@@ -40,6 +44,24 @@ fn fill_part<T: Copy>(items: &mut [T], from: usize, to: usize, value: T)
     'indexes: for i in from..to {
         items[i] = value;
     }
+}
+
+/// Stores a kind from one index up to another, and tells whether all kinds are plain. Where they were and this one is, nothing
+/// has to be stored.
+fn fill_kinds(kinds: &mut [Kind], plain: bool, from: usize, to: usize, kind: Kind) -> bool
+    requires order { from ≤ to }
+    requires inside { to ≤ length kinds.old }
+    requires plain { (plain ≡ true) → AreAllPlain kinds.old }
+    ensures each { (p : ℕ) (d : Kind) → slice_index_or kinds.new p d
+        ≡ (if nat_le from p && nat_lt p to then kind else slice_index_or kinds.old p d) }
+    ensures whole { length kinds.new ≡ length kinds.old }
+    ensures plain { (result ≡ true) → AreAllPlain kinds.new }
+{
+    if plain && is_plain(kind) {
+        return true;
+    }
+    fill_part(kinds, from, to, kind);
+    false
 }
 
 /// Stores so many bytes of a run, from one of its indexes on, in order.
@@ -74,6 +96,7 @@ impl Planes {
             codes,
             kinds,
             limit: most,
+            plain: true,
         })
     }
 
@@ -95,6 +118,7 @@ impl Planes {
         self.codes.resize(n as usize, 0).unwrap();
         self.kinds.clear();
         self.kinds.resize(n as usize, Kind::Plain).unwrap();
+        self.plain = true;
     }
 
     /// Whether a position holds an attribute.
@@ -125,6 +149,7 @@ impl Planes {
         let stored = cell_stored(cell);
         self.codes[p as usize] = stored.code;
         self.kinds[p as usize] = stored.kind;
+        self.plain = self.plain && is_plain(stored.kind);
     }
 
     /// Stores a character in each position from one up to another.
@@ -138,7 +163,14 @@ impl Planes {
     {
         let stored = character_stored(character);
         fill_part(&mut self.codes, from as usize, to as usize, stored.code);
-        fill_part(&mut self.kinds, from as usize, to as usize, stored.kind);
+        let plain = fill_kinds(
+            &mut self.kinds,
+            self.plain,
+            from as usize,
+            to as usize,
+            stored.kind,
+        );
+        self.plain = plain;
     }
 
     /// Stores so many characters of a run of text from a position on, never round the end.
@@ -152,12 +184,14 @@ impl Planes {
         } }
     {
         copy_part(&mut self.codes, at as usize, run, from, count as usize);
-        fill_part(
+        let plain = fill_kinds(
             &mut self.kinds,
+            self.plain,
             at as usize,
             (at + count) as usize,
             Kind::Plain,
         );
+        self.plain = plain;
     }
 
     /// Makes the cells those of other planes.
@@ -173,5 +207,6 @@ impl Planes {
         self.kinds
             .extend_from_slice(other.kinds.as_slice())
             .unwrap();
+        self.plain = other.plain;
     }
 }

@@ -2,11 +2,11 @@
 
 ghost use Rattle.std.specs.Prelude.{◌≡◌, ◌+◌, ◌<◌, ◌≤◌, map, length, IfOk, string_bytes};
 ghost use Rattle.std.specs.List.{range_with_len};
-ghost use Rattle.ds_screen.specs.Shown.{printed_code, printed_under, printed_cell};
+ghost use Rattle.ds_screen.specs.Shown.{printed_code, text_of, printed_under, printed_cell};
 
 use crate::cells::Cells;
 use crate::ruled_cells::RuledCells;
-use ds_codec::{Attr, Cell};
+use ds_codec::{Attr, Cell, Char};
 use std::alloc::{AllocError, Global};
 
 /// The characters that are printed for the codes from 40 to FF, `?` where a code has none.
@@ -39,6 +39,18 @@ fn printed(code: u8) -> u8
     }
 }
 
+/// What is printed for a character: one of 95 for its code, `?` where that has none and for one of the alternate set.
+pub fn text_of(character: Char) -> u8
+    ensures value { result ≡ text_of character }
+    ensures ascii { result < 128 }
+{
+    if character.alt() {
+        b'?'
+    } else {
+        printed(character.code())
+    }
+}
+
 /// What is printed of a cell, by what rules it.
 fn printed_cell_under(ruling: Attr, cell: &Cell) -> u8
     ensures value { result ≡ printed_under ruling cell.now }
@@ -47,15 +59,12 @@ fn printed_cell_under(ruling: Attr, cell: &Cell) -> u8
     match cell {
         Cell::Field(_) => b'@',
         Cell::Char(character) => {
-            let code = character.code();
-            if code == 0 {
+            if character.code() == 0 {
                 b'.'
             } else if ruling.hidden() {
                 b'*'
-            } else if character.alt() {
-                b'?'
             } else {
-                printed(code)
+                text_of(*character)
             }
         }
     }

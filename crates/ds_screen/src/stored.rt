@@ -2,6 +2,7 @@
 
 ghost use Rattle.std.specs.Prelude.{◌≡◌, true};
 ghost use Rattle.ds_screen.specs.Planes.{stored_cell, is_storable};
+ghost use Rattle.ds_screen.specs.declared.stored.Kind.TheVariants.{Plain};
 
 use ds_codec::{Attr, Cell, Char};
 
@@ -14,6 +15,16 @@ pub(crate) enum Kind {
     Plain,
     /// A character of the alternate set.
     Alternate,
+}
+
+/// Whether the code is a character of the plain set.
+pub(crate) fn is_plain(kind: Kind) -> bool
+    ensures { (result ≡ true) → kind ≡ Plain }
+{
+    match kind {
+        Kind::Plain => true,
+        Kind::Attribute | Kind::Alternate => false,
+    }
 }
 
 /// The kind and the code of a position.

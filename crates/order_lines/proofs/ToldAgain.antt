@@ -20,7 +20,8 @@ use Rattle.ds_codec.specs.Character.{Glyph, glyph, is_glyph}
 use Rattle.ds_codec.specs.Order.{Item, text, start_field, start_field_extended, set_buffer_address, set_attribute, modify_field, insert_cursor, program_tab, repeat_to_address, erase_unprotected_to_address, graphic_escape}
 use Rattle.ds_codec.proofs.Below.{each_below, both_true}
 use Rattle.ds_codec.proofs.TextRuns.{prefix-append}
-use Rattle.order_lines.specs.Words.{byte_from, byte_told, pair_told, pairs_told, is_numeral, number_told, cut_at}
+use Rattle.ds_codec.specs.Digits.{byte_from}
+use Rattle.order_lines.specs.Words.{byte_told, pair_told, pairs_told, is_numeral, number_told, cut_at}
 use Rattle.order_lines.specs.Print.{hex_byte, pair_word, pair_words, character_word, order_words, command_words}
 use Rattle.order_lines.specs.Told.{command, order, told_of, command_told, order_told, short_told, address_told, repeat_told, character_told, text_from}
 use Rattle.order_lines.specs.Laws.{are_plain}

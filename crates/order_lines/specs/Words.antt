@@ -1,19 +1,15 @@
 -- Words of a line: names, bytes in hexadecimal, pairs, numbers.
-use Rattle.std.specs.Prelude.{ℕ, ◌+◌, ◌*◌, Bool, false, not, ◌&&◌, nat_lt, nat_eq, ◌==◌, List, [], ◌∷◌, length, take, drop, position, Option, Some, None, if◌then◌else◌}
+use Rattle.std.specs.Prelude.{ℕ, ◌+◌, Bool, false, not, ◌&&◌, nat_lt, nat_eq, ◌==◌, List, [], ◌∷◌, length, take, drop, position, Option, Some, None, if◌then◌else◌}
 use Rattle.std.specs.List.{starts_with, list_all}
 use Rattle.std.specs.Option.{option_map}
 use Rattle.std.specs.Char.{is_ascii_digit}
 use Rattle.std.specs.Str.Parse.{digits_value}
 use Rattle.hex.specs.Hex.{hex_digit_value}
+use Rattle.ds_codec.specs.Digits.{byte_from}
 
 -- what the rest of a line says where the line begins so, else what others say
 abbrev pub on_word : {A : Type 0} → List ℕ → List ℕ → (List ℕ → Option A) → Option A → Option A
 on_word word line found others = if starts_with nat_eq line word then found (drop (length word) line) else others
-
--- the byte of two digits
-abbrev pub byte_from : Option ℕ → Option ℕ → Option ℕ
-byte_from (Some high) (Some low) = Some (16 * high + low)
-byte_from high low = None
 
 -- two hexadecimal digits, of either case
 abbrev pub byte_told : List ℕ → Option ℕ

@@ -9,8 +9,7 @@ ghost use Rattle.order_lines.specs.Told.{write_told, alone_told, command_told, a
 
 use crate::owned_order::OwnedOrder;
 use crate::words::{byte, cut, number, pair, pairs};
-use ds_codec::{Attr, Char, Command};
-use hex::FromHexError;
+use ds_codec::{Attr, Char, Command, bytes_of_digits};
 use std::alloc::{AllocError, Global};
 
 /// What one line says.
@@ -158,16 +157,9 @@ fn short_line(line: &[u8]) -> Option<OwnedOrder>
 fn text_line(alloc: Global, rest: &[u8]) -> Result<Option<OwnedOrder>, AllocError>
     ensures { IfOk result (λ told. option_map item_held told ≡ text_from (decode_of rest.now)) }
 {
-    match hex::decode(alloc, rest) {
-        Ok(run) => {
-            if run.is_empty() {
-                Ok(None)
-            } else {
-                Ok(Some(OwnedOrder::Text(run)))
-            }
-        }
-        Err(FromHexError::OutOfMemory) => Err(AllocError),
-        Err(_) => Ok(None),
+    match bytes_of_digits(alloc, rest)? {
+        Some(run) if !run.is_empty() => Ok(Some(OwnedOrder::Text(run))),
+        _ => Ok(None),
     }
 }
 

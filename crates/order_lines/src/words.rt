@@ -5,39 +5,17 @@ ghost use Rattle.std.specs.Option.{option_map};
 ghost use Rattle.std.specs.Char.{is_ascii_digit};
 ghost use Rattle.std.specs.List.{list_all};
 ghost use Rattle.std.specs.Str.Parse.{digits_value};
-ghost use Rattle.hex.specs.Hex.{hex_digit_value};
-ghost use Rattle.order_lines.specs.Words.{byte_from, byte_told, pair_from, pair_told, first_pair_of, pairs_told, is_numeral, number_from, number_told, cut_at};
+ghost use Rattle.order_lines.specs.Words.{byte_told, pair_from, pair_told, first_pair_of, pairs_told, is_numeral, number_from, number_told, cut_at};
 
+use ds_codec::byte_of_digits;
 use std::alloc::{AllocError, Global};
-
-/// The value of a hexadecimal digit, in either case.
-fn digit_value(digit: u8) -> Option<u8>
-    ensures value { result ≡ hex_digit_value digit }
-    ensures small { IfSome result (λ value. value < 16) }
-{
-    match digit {
-        b'A'..=b'F' => Some(digit - 55),
-        b'a'..=b'f' => Some(digit - 87),
-        b'0'..=b'9' => Some(digit - 48),
-        _ => None,
-    }
-}
-
-/// The byte of two digits.
-fn byte_of(high: u8, low: u8) -> Option<u8>
-    ensures { result ≡ byte_from (hex_digit_value high) (hex_digit_value low) }
-{
-    let high = digit_value(high)?;
-    let low = digit_value(low)?;
-    Some(16 * high + low)
-}
 
 /// A byte: two hexadecimal digits, of either case.
 pub fn byte(word: &[u8]) -> Option<u8>
     ensures { result ≡ byte_told word.now }
 {
     match word {
-        [high, low] => byte_of(*high, *low),
+        [high, low] => byte_of_digits(*high, *low),
         _ => None,
     }
 }
@@ -48,8 +26,8 @@ pub fn pair(word: &[u8]) -> Option<(u8, u8)>
 {
     match word {
         [a, b, b'=', c, d] => {
-            let kind = byte_of(*a, *b)?;
-            let value = byte_of(*c, *d)?;
+            let kind = byte_of_digits(*a, *b)?;
+            let value = byte_of_digits(*c, *d)?;
             Some((kind, value))
         }
         _ => None,
@@ -64,8 +42,8 @@ fn first_pair(words: &[u8]) -> Option<(u8, u8, &[u8])>
 {
     match words {
         [b' ', a, b, b'=', c, d, others @ ..] => {
-            let kind = byte_of(*a, *b)?;
-            let value = byte_of(*c, *d)?;
+            let kind = byte_of_digits(*a, *b)?;
+            let value = byte_of_digits(*c, *d)?;
             Some((kind, value, others))
         }
         _ => None,

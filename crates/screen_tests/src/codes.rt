@@ -3,9 +3,10 @@
 use crate::script::bytes_of;
 use anyhow::{Context, Result};
 use ds_codec::{
-    Aid, Attr, Char, CommandCode, OrderCode, byte_of_digits, is_graphic_code, last_attr,
-    push_character, to_six_bit_code,
+    Aid, Attr, Char, CommandCode, OrderCode, byte_of_digits, bytes_of_digits, is_graphic_code,
+    last_attr, push_character, to_six_bit_code,
 };
+use ds_screen::text_of;
 use std::alloc::{AllocError, Global};
 use test_words::{byte, push_bool, push_bytes, push_hex, push_word_hex, two_bytes};
 
@@ -117,6 +118,20 @@ fn push_digits(out: &mut String, words: &str) -> Result<()> {
     }
 }
 
+/// The bytes that digits spell.
+fn push_spelled(alloc: Global, out: &mut String, digits: &str) -> Result<()> {
+    match bytes_of_digits(alloc, digits.as_bytes())? {
+        Some(bytes) => Ok(push_bytes(out, bytes.as_slice())?),
+        None => Ok(out.push_str("none")?),
+    }
+}
+
+/// What is printed for a character.
+fn push_printed(out: &mut String, code: u8, alt: bool) -> Result<()> {
+    let character = Char::new(code, alt).context("a character")?;
+    Ok(out.push(char::from(text_of(character)))?)
+}
+
 /// What an attribute's bits say.
 fn push_meaning(out: &mut String, attribute: Attr) -> Result<(), AllocError> {
     out.push_str(if attribute.protected() {
@@ -186,6 +201,8 @@ fn push_byte_answer(alloc: Global, out: &mut String, verb: &str, words: &str) ->
         "attribute" => push_attribute(out, byte(words)?)?,
         "character" => push_kinds(out, byte(words)?)?,
         "pushed" => push_pushed(alloc, out, byte(words)?)?,
+        "printed" => push_printed(out, byte(words)?, false)?,
+        "printed-alternate" => push_printed(out, byte(words)?, true)?,
         _ => return Ok(false),
     }
     Ok(true)
@@ -201,6 +218,7 @@ pub(crate) fn push_answer(
     match verb {
         "key" => push_aid(out, named_aid(words)?)?,
         "digits" => push_digits(out, words)?,
+        "spelled" => push_spelled(alloc, out, words)?,
         "null" => push_null(out)?,
         "pairs" => push_pairs(out, bytes_of(alloc, words)?.as_slice())?,
         _ => return push_byte_answer(alloc, out, verb, words),

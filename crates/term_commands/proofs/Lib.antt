@@ -8,6 +8,7 @@ pub mod Checked
 pub mod PlainLines
 pub mod ToldSizes
 pub mod Converted
+pub mod Spaces
 pub mod Texts
 pub mod DemoKeys
 pub mod Opened

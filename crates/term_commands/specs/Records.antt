@@ -34,13 +34,14 @@ abbrev pub sizes_or : Option Sizes → Line → Line
 sizes_or (Some geometry) line = sizes geometry
 sizes_or None line = line
 
+-- what a text tells, and its digits without its spaces
+abbrev pub digits_told : SizeLine → List ℕ → List ℕ → Line
+digits_told size_line line digits =
+    if is_ignored digits then ignored else sizes_or (sizes_told size_line line) (record_told (decode_of digits))
+
 -- Spaces do not count, but in a line of sizes.
 abbrev pub line_told : SizeLine → List ℕ → Line
-line_told size_line line =
-    if is_utf8 line then
-    (if is_ignored (without_spaces line) then ignored
-    else sizes_or (sizes_told size_line line) (record_told (decode_of (without_spaces line))))
-    else bad
+line_told size_line line = if is_utf8 line then digits_told size_line line (without_spaces line) else bad
 
 -- ---- lines in turn
 

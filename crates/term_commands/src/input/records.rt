@@ -1,10 +1,10 @@
 //! Lines of records in hexadecimal.
 
-ghost use Rattle.std.specs.Prelude.{◌≡◌, ◌==◌, not, IfOk, IfSome, OnOk, ◌≤◌, length};
+ghost use Rattle.std.specs.Prelude.{◌≡◌, ◌==◌, not, IfOk, IfSome, OnOk, ◌≤◌, length, false};
 ghost use Rattle.std.specs.List.{filter};
 ghost use Rattle.hex.specs.Hex.{decode_of};
 ghost use Rattle.term_commands.specs.Fault.{Gives};
-ghost use Rattle.term_commands.specs.Records.{line_told, record_told, without_spaces, one_more, after_line, take_record, records_in};
+ghost use Rattle.term_commands.specs.Records.{line_told, digits_told, record_told, without_spaces, one_more, after_line, take_record, records_in};
 ghost use Rattle.term_commands.specs.Lines.{lines_in};
 ghost use Rattle.term_commands.specs.Taking.{taken};
 ghost use Rattle.term_commands.specs.Held.{line_seen, records_seen};
@@ -13,8 +13,8 @@ use crate::fault::{CommandError, Fault};
 use crate::input::bytes::{at_most, read_all};
 use crate::input::lines::{TakesLines, is_ignored, take_lines, text_of};
 use crate::input::sizes::{SizeLine, told_sizes, usual_geometry};
-use ds_codec::Geometry;
-use hex::FromHexError;
+use ds_codec::{Geometry, bytes_of_digits};
+use memchr::memchr;
 use std::alloc::{AllocError, Global};
 use std::io::Read;
 
@@ -60,10 +60,37 @@ fn strip_spaces(buffer: &mut Vec<u8>, line: &[u8]) -> Result<(), AllocError>
 fn decoded(alloc: Global, digits: &[u8]) -> Result<Line, AllocError>
     ensures { IfOk result (λ line. line_seen line ≡ record_told (decode_of digits.now)) }
 {
-    match hex::decode(alloc, digits) {
-        Ok(bytes) => Ok(Line::Record(bytes)),
-        Err(FromHexError::OutOfMemory) => Err(AllocError),
-        Err(_) => Ok(Line::Bad),
+    match bytes_of_digits(alloc, digits)? {
+        Some(bytes) => Ok(Line::Record(bytes)),
+        None => Ok(Line::Bad),
+    }
+}
+
+/// What a line tells: its text, and the digits that it is without its spaces.
+fn told_by(
+    alloc: Global,
+    size_line: SizeLine,
+    text: &str,
+    digits: &[u8],
+) -> Result<Line, AllocError>
+    ensures { IfOk result (λ told. line_seen told ≡ digits_told size_line text.now digits.now) }
+{
+    if is_ignored(digits) {
+        return Ok(Line::Ignored);
+    }
+    match told_sizes(size_line, text) {
+        Some(geometry) => Ok(Line::Sizes(geometry)),
+        None => decoded(alloc, digits),
+    }
+}
+
+/// Whether a line has a space. One without is its own digits.
+fn has_space(line: &[u8]) -> bool
+    ensures { (result ≡ false) → without_spaces line.now ≡ line.now }
+{
+    match memchr(b' ', line) {
+        Some(_) => true,
+        None => false,
     }
 }
 
@@ -79,14 +106,11 @@ pub(crate) fn line_told(
     let Some(text) = text_of(line) else {
         return Ok(Line::Bad);
     };
+    if !has_space(line) {
+        return told_by(alloc, size_line, text, line);
+    }
     strip_spaces(digits, line)?;
-    if is_ignored(digits.as_slice()) {
-        return Ok(Line::Ignored);
-    }
-    match told_sizes(size_line, text) {
-        Some(geometry) => Ok(Line::Sizes(geometry)),
-        None => decoded(alloc, digits.as_slice()),
-    }
+    told_by(alloc, size_line, text, digits.as_slice())
 }
 
 /// One more record.

@@ -1,10 +1,14 @@
-use Rattle.ds_codec.proofs.DigitPairs.{byte_ok, byte_err}
+use Rattle.std.proofs.Common.{inl, inr}
+use Rattle.ds_codec.proofs.DigitPairs.{of_digits, of_others}
+use Rattle.ds_codec.proofs.digits.byte_of_digits.Goals.{else-high-lt16-via-then-high-lt16+else-low-lt16, else-high-lt16-via-else-high-lt16}
 use Rattle.ds_codec.proofs.digits.byte_of_digits.Goals as goal
 
-pub returns-in-Ok : goal.returns-in-Ok
-returns-in-Ok c =
-    byte_ok c.args.high c.args.low c.decode_to_slice.result c.decode_to_slice.new.out c.in-Ok.field-0 (rw c.as_slice.ensures at c.decode_to_slice.ensures.value) c.in-Ok.is
+pub returns-then-low-lt16 : goal.returns-then-low-lt16
+returns-then-low-lt16 c =
+    of_digits _ _ _ _ c.value_of-high.ensures.value c.value_of-low.ensures.value c.if-high-lt16.true c.if-low-lt16.true
 
-pub returns-in-Err : goal.returns-in-Err
-returns-in-Err c =
-    byte_err c.args.high c.args.low c.decode_to_slice.result c.decode_to_slice.new.out c.in-Err.field-0 (rw c.as_slice.ensures at c.decode_to_slice.ensures.value) c.in-Err.is
+pub returns-else-high-lt16 : goal.returns-else-high-lt16
+returns-else-high-lt16 c = of_others _ _ (elim c.else-high-lt16.either [
+  | inl w ↦ inr (c.value_of-low.ensures.none w.1)
+  | inr w ↦ inl (c.value_of-high.ensures.none w)
+])

@@ -1,9 +1,9 @@
-use Rattle.std.proofs.Common.{rules, ◌≡◌, ℕ, replicate, length, ◌∙◌, ap, arith}
+use Rattle.std.proofs.Common.{rules, ◌≡◌, ℕ, replicate, get_or, length, ◌∙◌, ap, arith}
 use Rattle.std.proofs.lemmas.List.{length-replicate}
 use Rattle.ds_screen.specs.declared.stored.Kind.TheVariants.{Plain}
 use Rattle.ds_screen.specs.Picture.{blank}
 use Rattle.ds_screen.specs.Planes.{Held}
-use Rattle.ds_screen.proofs.PlaneLaws.{planes_blank, are_blank}
+use Rattle.ds_screen.proofs.PlaneLaws.{planes_blank, are_blank, all_plain}
 use Rattle.ds_screen.proofs.planes.Planes.clear.Goals as goal
 
 pub invariant_of-self : goal.invariant_of-self
@@ -14,6 +14,7 @@ invariant_of-self c =
       omega (arith, ap length zeros, length-replicate {A = ℕ} c.args.n 0, c.requires, ap (λ (u : Held). u.room) c.self.view_is),
       omega (arith, c.resize.ensures.capacity, c.clear.ensures.capacity, c.self.invariant.2),
       omega (arith, c.resize-2.ensures.capacity, c.clear-2.ensures.capacity, c.self.invariant.3),
+      λ always p. ap (λ l. get_or l p Plain) plain ∙ all_plain c.args.n p,
     )
 
 pub returns : goal.returns

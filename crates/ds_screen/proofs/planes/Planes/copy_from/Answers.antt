@@ -47,4 +47,5 @@ invariant_of-self c =
       omega (arith, ap length codes, counted c.other.inside.codes.items c.other.inside.kinds.items c.other.inside.limit c.args.other.now c.other.view_is, c.requires, ap (λ (u : Held). u.room) c.self.view_is),
       omega (arith, c.extend_from_slice.ensures.capacity, c.clear.ensures.capacity, c.self.invariant.2),
       omega (arith, c.extend_from_slice-2.ensures.capacity, c.clear-2.ensures.capacity, c.self.invariant.3),
+      λ all p. ap (λ l. get_or l p Plain) kinds ∙ c.other.invariant.4 all p,
     )

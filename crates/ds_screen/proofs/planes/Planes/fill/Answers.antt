@@ -1,4 +1,5 @@
 use Rattle.std.proofs.Common.{◌≡◌, length, get_or, cond, ◌&&◌, leb, ltb, take, drop, ◌++◌, sym, ◌∙◌, ap, subst, arith}
+use Rattle.ds_screen.specs.declared.stored.Kind.TheVariants.{Plain}
 use Rattle.ds_screen.specs.Picture.{ruled}
 use Rattle.ds_screen.specs.Planes.{Held, ArePlanes, plane_cells, filled_cell}
 use Rattle.ds_screen.proofs.PlaneLaws.{counted, given_back, filled_storable, planes_filled}
@@ -8,8 +9,8 @@ pub fill_part-requires-clause-inside : goal.fill_part-requires-clause-inside
 fill_part-requires-clause-inside c =
     omega (arith, c.requires.inside, ap length c.deref_mut.ensures.value, counted c.self.inside.codes.items c.self.inside.kinds.items c.self.inside.limit c.args.self.now c.self.view_is)
 
-pub fill_part-requires-2-clause-inside : goal.fill_part-requires-2-clause-inside
-fill_part-requires-2-clause-inside c =
+pub fill_kinds-plain-requires-clause-inside : goal.fill_kinds-plain-requires-clause-inside
+fill_kinds-plain-requires-clause-inside c =
     omega (
       arith,
       c.requires.inside,
@@ -23,19 +24,20 @@ invariant_of-self c =
     let codes : take c.self.inside.codes.len (c.fill_part.new.items ++ drop (length c.fill_part.new.items) c.self.inside.codes.items) ≡ c.fill_part.new.items =
     given_back c.self.inside.codes.items c.fill_part.new.items c.self.inside.codes.len (omega (arith, c.deref_mut.ensures.len, ap length c.deref_mut.ensures.value))
     (c.fill_part.ensures.whole ∙ ap length c.deref_mut.ensures.value) in
-    let kinds : take c.self.inside.kinds.len (c.fill_part-2.new.items ++ drop (length c.fill_part-2.new.items) c.self.inside.kinds.items) ≡ c.fill_part-2.new.items =
-    given_back c.self.inside.kinds.items c.fill_part-2.new.items c.self.inside.kinds.len (omega (arith, c.deref_mut-2.ensures.len, ap length c.deref_mut-2.ensures.value))
-    (c.fill_part-2.ensures.whole ∙ ap length c.deref_mut-2.ensures.value) in
-    let planes : ArePlanes c.fill_part.new.items c.fill_part-2.new.items =
-    filled_storable c.self.inside.codes.items c.fill_part.new.items c.self.inside.kinds.items c.fill_part-2.new.items c.args.from c.args.to
+    let kinds : take c.self.inside.kinds.len (c.fill_kinds-plain.new.kinds ++ drop (length c.fill_kinds-plain.new.kinds) c.self.inside.kinds.items) ≡ c.fill_kinds-plain.new.kinds =
+    given_back c.self.inside.kinds.items c.fill_kinds-plain.new.kinds c.self.inside.kinds.len (omega (arith, c.deref_mut-2.ensures.len, ap length c.deref_mut-2.ensures.value))
+    (c.fill_kinds-plain.ensures.whole ∙ ap length c.deref_mut-2.ensures.value) in
+    let planes : ArePlanes c.fill_part.new.items c.fill_kinds-plain.new.kinds =
+    filled_storable c.self.inside.codes.items c.fill_part.new.items c.self.inside.kinds.items c.fill_kinds-plain.new.kinds c.args.from c.args.to
     c.character_stored-stored.result.code c.character_stored-stored.result.kind c.self.invariant.0 c.character_stored-stored.ensures.storable
-    (c.fill_part.ensures.whole ∙ ap length c.deref_mut.ensures.value) (c.fill_part-2.ensures.whole ∙ ap length c.deref_mut-2.ensures.value)
+    (c.fill_part.ensures.whole ∙ ap length c.deref_mut.ensures.value) (c.fill_kinds-plain.ensures.whole ∙ ap length c.deref_mut-2.ensures.value)
     (λ q d. c.fill_part.ensures.each q d ∙ ap (λ l. cond (leb c.args.from q && ltb q c.args.to) c.character_stored-stored.result.code (get_or l q d)) c.deref_mut.ensures.value)
-    (λ q d. c.fill_part-2.ensures.each q d ∙ ap (λ l. cond (leb c.args.from q && ltb q c.args.to) c.character_stored-stored.result.kind (get_or l q d)) c.deref_mut-2.ensures.value) in (
-      subst (λ l. ArePlanes l (take c.self.inside.kinds.len (c.fill_part-2.new.items ++ drop (length c.fill_part-2.new.items) c.self.inside.kinds.items))) (sym codes) (subst (ArePlanes c.fill_part.new.items) (sym kinds) planes),
+    (λ q d. c.fill_kinds-plain.ensures.each q d ∙ ap (λ l. cond (leb c.args.from q && ltb q c.args.to) c.character_stored-stored.result.kind (get_or l q d)) c.deref_mut-2.ensures.value) in (
+      subst (λ l. ArePlanes l (take c.self.inside.kinds.len (c.fill_kinds-plain.new.kinds ++ drop (length c.fill_kinds-plain.new.kinds) c.self.inside.kinds.items))) (sym codes) (subst (ArePlanes c.fill_part.new.items) (sym kinds) planes),
       omega (arith, ap length codes, c.fill_part.ensures.whole, ap length c.deref_mut.ensures.value, c.self.invariant.1),
       c.self.invariant.2,
       c.self.invariant.3,
+      λ all p. ap (λ l. get_or l p Plain) kinds ∙ c.fill_kinds-plain.ensures.plain all p,
     )
 
 pub returns : goal.returns
@@ -43,17 +45,17 @@ returns c =
     let codes : take c.self.inside.codes.len (c.fill_part.new.items ++ drop (length c.fill_part.new.items) c.self.inside.codes.items) ≡ c.fill_part.new.items =
     given_back c.self.inside.codes.items c.fill_part.new.items c.self.inside.codes.len (omega (arith, c.deref_mut.ensures.len, ap length c.deref_mut.ensures.value))
     (c.fill_part.ensures.whole ∙ ap length c.deref_mut.ensures.value) in
-    let kinds : take c.self.inside.kinds.len (c.fill_part-2.new.items ++ drop (length c.fill_part-2.new.items) c.self.inside.kinds.items) ≡ c.fill_part-2.new.items =
-    given_back c.self.inside.kinds.items c.fill_part-2.new.items c.self.inside.kinds.len (omega (arith, c.deref_mut-2.ensures.len, ap length c.deref_mut-2.ensures.value))
-    (c.fill_part-2.ensures.whole ∙ ap length c.deref_mut-2.ensures.value) in
+    let kinds : take c.self.inside.kinds.len (c.fill_kinds-plain.new.kinds ++ drop (length c.fill_kinds-plain.new.kinds) c.self.inside.kinds.items) ≡ c.fill_kinds-plain.new.kinds =
+    given_back c.self.inside.kinds.items c.fill_kinds-plain.new.kinds c.self.inside.kinds.len (omega (arith, c.deref_mut-2.ensures.len, ap length c.deref_mut-2.ensures.value))
+    (c.fill_kinds-plain.ensures.whole ∙ ap length c.deref_mut-2.ensures.value) in
     let cells =
-    ap (λ l. plane_cells l (take c.self.inside.kinds.len (c.fill_part-2.new.items ++ drop (length c.fill_part-2.new.items) c.self.inside.kinds.items))) codes
+    ap (λ l. plane_cells l (take c.self.inside.kinds.len (c.fill_kinds-plain.new.kinds ++ drop (length c.fill_kinds-plain.new.kinds) c.self.inside.kinds.items))) codes
     ∙ ap (plane_cells c.fill_part.new.items) kinds
-    ∙ planes_filled c.self.inside.codes.items c.fill_part.new.items c.self.inside.kinds.items c.fill_part-2.new.items c.args.from c.args.to
+    ∙ planes_filled c.self.inside.codes.items c.fill_part.new.items c.self.inside.kinds.items c.fill_kinds-plain.new.kinds c.args.from c.args.to
     c.character_stored-stored.result.code c.character_stored-stored.result.kind c.args.character c.character_stored-stored.ensures.same
     (c.fill_part.ensures.whole ∙ ap length c.deref_mut.ensures.value)
     (λ q d. c.fill_part.ensures.each q d ∙ ap (λ l. cond (leb c.args.from q && ltb q c.args.to) c.character_stored-stored.result.code (get_or l q d)) c.deref_mut.ensures.value)
-    (λ q d. c.fill_part-2.ensures.each q d ∙ ap (λ l. cond (leb c.args.from q && ltb q c.args.to) c.character_stored-stored.result.kind (get_or l q d)) c.deref_mut-2.ensures.value)
+    (λ q d. c.fill_kinds-plain.ensures.each q d ∙ ap (λ l. cond (leb c.args.from q && ltb q c.args.to) c.character_stored-stored.result.kind (get_or l q d)) c.deref_mut-2.ensures.value)
     ∙ ap (λ (u : Held). ruled (length u.cells) (filled_cell u.cells c.args.from c.args.to c.args.character)) c.self.view_is in
     record {
       filled =
