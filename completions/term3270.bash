@@ -3,7 +3,7 @@ _term3270() {
   local word=${COMP_WORDS[COMP_CWORD]} command=${COMP_WORDS[1]}
   COMPREPLY=()
   if [ "$COMP_CWORD" -eq 1 ]; then
-    COMPREPLY=($(compgen -W 'show check talk press convert serve attach help --help --version' -- "$word"))
+    COMPREPLY=($(compgen -W 'show check talk press convert draft bind records serve attach help --help --version' -- "$word"))
     return
   fi
   case $command in
@@ -12,9 +12,12 @@ _term3270() {
     talk) COMPREPLY=($(compgen -W '--help' -- "$word") $(compgen -f -- "$word")) ;;
     press) COMPREPLY=($(compgen -W '--help' -- "$word") $(compgen -f -- "$word")) ;;
     convert) COMPREPLY=($(compgen -W '--back --help' -- "$word")) ;;
+    draft) COMPREPLY=($(compgen -W '--help' -- "$word")) ;;
+    bind) COMPREPLY=($(compgen -W '--text --help' -- "$word") $(compgen -f -- "$word")) ;;
+    records) COMPREPLY=($(compgen -W '--from --answers --help' -- "$word")) ;;
     serve) COMPREPLY=($(compgen -W '--port --count --listen --help' -- "$word") $(compgen -f -- "$word")) ;;
     attach) COMPREPLY=($(compgen -W '--port --device --help' -- "$word") $(compgen -A hostname -- "$word") $(compgen -f -- "$word")) ;;
-    help) COMPREPLY=($(compgen -W 'show check talk press convert serve attach' -- "$word")) ;;
+    help) COMPREPLY=($(compgen -W 'show check talk press convert draft bind records serve attach' -- "$word")) ;;
   esac
 }
 complete -o filenames -F _term3270 term3270

@@ -3,7 +3,7 @@
 # `stdin`, in a folder with the case's other files. Standard output is compared with `stdout`, standard error
 # with `stderr` where that file is there, and the exit status with `status` (0 where there is none). Where
 # status 2 goes with no output, the fault is one of the command line, and standard error must say it. A script
-# `make-stdin` prints an input that is too large to store.
+# `make-stdin` prints an input that is too large to store, or that the program, which it knows as PROGRAM, prints itself.
 program=$(cd "$(dirname "$1")" && pwd)/$(basename "$1")
 cases=$(cd "$(dirname "$0")/cases" && pwd)
 work=$(mktemp -d) || exit 1
@@ -14,7 +14,7 @@ for folder in "$cases"/*/*/; do
   name=${folder#"$cases"/}
   name=${name%/}
   rm -rf "$work/in" && cp -r "$folder" "$work/in"
-  if [ -f "$work/in/make-stdin" ]; then sh "$work/in/make-stdin" > "$work/stdin"
+  if [ -f "$work/in/make-stdin" ]; then (cd "$work/in" && PROGRAM=$program sh ./make-stdin) > "$work/stdin"
   elif [ -f "$work/in/stdin" ]; then cp "$work/in/stdin" "$work/stdin"
   else : > "$work/stdin"; fi
   set --

@@ -3,10 +3,16 @@ use Rattle.std.specs.Prelude.{◌≡◌, ◌<◌, ℕ, Bool, true, false, List, 
 use Rattle.std.specs.Borrow.{Bor}
 use Rattle.std.specs.Fmt.{decimal}
 use Rattle.clap.specs.Words.{Row, Text, first_of, one_of}
+use Rattle.term_binds.specs.declared.fields.Form.{Form}
+use Rattle.term_binds.specs.declared.fields.Form.TheVariants as forms
 use Rattle.term_commands.specs.declared.output.demo.Demos.{Demos}
 use Rattle.term_commands.specs.declared.output.demo.Demos.TheVariants.{Printed, Omitted}
 use Rattle.term3270.specs.declared.asked.Asked.{Asked}
-use Rattle.term3270.specs.declared.asked.Asked.TheVariants.{Show, Check, Talk, Press, Convert, ConvertBack, Serve, Attach}
+use Rattle.term3270.specs.declared.asked.Asked.TheVariants.{Show, Check, Talk, Press, Convert, ConvertBack, Draft, Bind, Records, Serve, Attach}
+use Rattle.term_traces.specs.declared.asked.Source.{Source}
+use Rattle.term_traces.specs.declared.asked.Source.TheVariants.{Trace, Stream}
+use Rattle.tn_traces.specs.declared.line.Side.{Side}
+use Rattle.tn_traces.specs.declared.line.Side.TheVariants.{Host, Terminal}
 
 -- an option was given, or wasn't
 abbrev pub IsOption : Text → List Row → Bool → Type 0
@@ -39,6 +45,27 @@ IsConvert rows Convert = IsOption (codes "back") rows false
 IsConvert rows ConvertBack = IsOption (codes "back") rows true
 IsConvert rows _ = ⊥
 
+abbrev pub IsForm : List Row → Form → Type 0
+IsForm rows forms.Text = IsOption (codes "text") rows true
+IsForm rows forms.Hexadecimal = IsOption (codes "text") rows false
+
+abbrev pub IsBind : List Row → Asked → Type 0
+IsBind rows (Bind layout form) = IsText (codes "LAYOUT") rows layout × IsForm rows form
+IsBind rows _ = ⊥
+
+-- where the lines come from, by its name
+abbrev pub IsSource : List Row → Source → Type 0
+IsSource rows source = (first_of (codes "from") rows ≡ Some (codes "stream") → source ≡ Stream)
+    × (first_of (codes "from") rows ≡ Some (codes "trace") → source ≡ Trace)
+
+abbrev pub IsSide : List Row → Side → Type 0
+IsSide rows Terminal = IsOption (codes "answers") rows true
+IsSide rows Host = IsOption (codes "answers") rows false
+
+abbrev pub IsRecords : List Row → Asked → Type 0
+IsRecords rows (Records source side) = IsSource rows source × IsSide rows side
+IsRecords rows _ = ⊥
+
 abbrev pub IsServe : List Row → Asked → Type 0
 IsServe rows (Serve layout address port count) =
     IsText (codes "LAYOUT") rows layout × IsText (codes "listen") rows address × IsNumber (codes "port") rows port × IsNumber (codes "count") rows count
@@ -56,6 +83,9 @@ pub record AsksFor (name : Text) (rows : List Row) (asked : Asked) : Type 0 wher
   pub talk : name ≡ codes "talk" → asked ≡ Talk
   pub press : name ≡ codes "press" → IsPress rows asked
   pub convert : name ≡ codes "convert" → IsConvert rows asked
+  pub draft : name ≡ codes "draft" → asked ≡ Draft
+  pub bind : name ≡ codes "bind" → IsBind rows asked
+  pub records : name ≡ codes "records" → IsRecords rows asked
   pub serve : name ≡ codes "serve" → IsServe rows asked
   pub attach : name ≡ codes "attach" → IsAttach rows asked
 

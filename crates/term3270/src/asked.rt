@@ -2,10 +2,13 @@
 
 ghost use Rattle.std.specs.Prelude.{◌≡◌, option_map};
 ghost use Rattle.clap.specs.Words.{found_of, rows_of, subcommand_rows_of};
-ghost use Rattle.term3270.specs.Asked.{AreDemos, AsksFor, IsConvert, IsNumber, IsOption, IsText};
+ghost use Rattle.term3270.specs.Asked.{AreDemos, AsksFor, IsForm, IsConvert, IsNumber, IsOption, IsSide, IsSource, IsText};
 
 use clap::ArgMatches;
+use term_binds::Form;
 use term_commands::Demos;
+use term_traces::Source;
+use tn_traces::Side;
 
 /// A command, with the files, the options and the place on the net that it was given.
 #[derive(Clone, Copy, Debug, PartialEq, Eq)]
@@ -21,6 +24,15 @@ pub enum Asked<'a> {
     },
     Convert,
     ConvertBack,
+    Draft,
+    Bind {
+        layout: &'a str,
+        form: Form,
+    },
+    Records {
+        source: Source,
+        side: Side,
+    },
     Serve {
         layout: &'a str,
         address: &'a str,
@@ -71,6 +83,15 @@ fn command_of<'a>(name: &str, words: &ArgMatches<'a>) -> Asked<'a>
             keys: text_in(words, "KEYS"),
         },
         "convert" => convert_of(words),
+        "draft" => Asked::Draft,
+        "bind" => Asked::Bind {
+            layout: text_in(words, "LAYOUT"),
+            form: form_in(words),
+        },
+        "records" => Asked::Records {
+            source: source_in(words),
+            side: side_in(words),
+        },
         "serve" => Asked::Serve {
             layout: text_in(words, "LAYOUT"),
             address: text_in(words, "listen"),
@@ -94,6 +115,35 @@ fn demos_in(words: &ArgMatches<'_>) -> Demos
         Demos::Printed
     } else {
         Demos::Omitted
+    }
+}
+
+fn form_in(words: &ArgMatches<'_>) -> Form
+    ensures { IsForm (rows_of (found_of words.now)) result }
+{
+    if is_given(words, "text") {
+        Form::Text
+    } else {
+        Form::Hexadecimal
+    }
+}
+
+fn source_in(words: &ArgMatches<'_>) -> Source
+    ensures { IsSource (rows_of (found_of words.now)) result }
+{
+    match text_in(words, "from") {
+        "stream" => Source::Stream,
+        _ => Source::Trace,
+    }
+}
+
+fn side_in(words: &ArgMatches<'_>) -> Side
+    ensures { IsSide (rows_of (found_of words.now)) result }
+{
+    if is_given(words, "answers") {
+        Side::Terminal
+    } else {
+        Side::Host
     }
 }
 

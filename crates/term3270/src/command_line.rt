@@ -86,6 +86,54 @@ Example:
 Statuses:
   0 done, 2 bad input, 3 a read or a write failed, 4 out of memory";
 
+const DRAFT: &str = "Input:
+  Records in hexadecimal, one a line, on standard input, as for show.
+
+Output:
+  A layout in TOML (docs/LAYOUTS.md) that these records conform to, with a field for each that an operator can
+  change or that is sent, named by the text before it; or what no layout can mend, as check prints it.
+
+Example:
+  $ term3270 draft < examples/signon.hex > signon.toml
+
+Statuses:
+  0 done, 1 findings, 2 bad input, 3 a read or a write failed, 4 out of memory";
+
+const BIND: &str = "Input:
+  The layout is a file in TOML (docs/LAYOUTS.md). Answers of a terminal are in hexadecimal, one a line, on
+  standard input; the sizes are the layout's. Spaces, empty lines and lines that begin with '#' are ignored.
+
+Output:
+  'answer K aid XX cursor N' for each answer, counted from 0 (no cursor for a short one), and 'NAME HEX' for
+  each field that it has; or 'answer K refused at A' and the refusal, or 'answer K unbound' and the fault.
+
+Example:
+  $ printf '7DC4C811C4C3E4E2C5D9F1\\n' | term3270 bind examples/signon.toml --text
+  answer 0 aid 7D cursor 264
+  userid USER1
+
+Statuses:
+  0 done, 2 bad input, or an answer is refused or unbound, 3 the layout can't be read, or a read or a write
+  failed, 4 out of memory";
+
+const SOURCES: &[&str] = &["trace", "stream"];
+
+const RECORDS: &str = "Input:
+  A trace of x3270, s3270 or c3270 (-trace -tracefile FILE), or with --from stream pieces of what one side
+  sent, in hexadecimal, one a line, on standard input. Other lines of a trace are passed over.
+
+Output:
+  A comment and a line of hexadecimal for each record, as the other commands read them; a comment alone for a
+  record that isn't of 3270 data.
+
+Example:
+  $ printf '< 0x0   f5c21d60c1ffef\\n' | term3270 records
+  # record 0 at line 1
+  F5C21D60C1
+
+Statuses:
+  0 done, 2 bad input, 3 a read or a write failed, 4 out of memory";
+
 const SERVE: &str = "Input:
   A layout and records as for check. They are checked first, and a model must have the layout's sizes.
 
@@ -169,6 +217,45 @@ fn convert<'a>(alloc: Global) -> Result<Command<'a>, AllocError> {
         .arg(back)
 }
 
+fn draft<'a>(alloc: Global) -> Command<'a> {
+    Command::new(alloc, "draft")
+        .about("Print a layout for the screen that the records leave")
+        .after_help(DRAFT)
+}
+
+fn bind<'a>(alloc: Global) -> Result<Command<'a>, AllocError> {
+    let layout = Arg::new(alloc, "LAYOUT")
+        .required(true)
+        .help("The file of the layout, in TOML");
+    let text = Arg::new(alloc, "text")
+        .long("text")
+        .action(ArgAction::SetTrue)
+        .help("Print fields as text, and not in hexadecimal");
+    Command::new(alloc, "bind")
+        .about("Print the fields of each answer, by the names of a layout")
+        .after_help(BIND)
+        .arg(layout)?
+        .arg(text)
+}
+
+fn records<'a>(alloc: Global) -> Result<Command<'a>, AllocError> {
+    let from = Arg::new(alloc, "from")
+        .long("from")
+        .value_name("SOURCE")
+        .value_parser(SOURCES)
+        .default_value("trace")
+        .help("Where the lines come from: a trace, or a captured stream");
+    let answers = Arg::new(alloc, "answers")
+        .long("answers")
+        .action(ArgAction::SetTrue)
+        .help("Print what the terminal sent, and not the host");
+    Command::new(alloc, "records")
+        .about("Print the records of a traced or captured session")
+        .after_help(RECORDS)
+        .arg(from)?
+        .arg(answers)
+}
+
 /// A port of TCP, which must be given.
 fn port<'a>(alloc: Global, help: &'a str) -> Arg<'a> {
     Arg::new(alloc, "port")
@@ -237,6 +324,9 @@ pub(crate) fn parsed<'a>(alloc: Global, words: &'a [String]) -> Result<ArgMatche
         .subcommand(talk(alloc)?)?
         .subcommand(press(alloc)?)?
         .subcommand(convert(alloc)?)?
+        .subcommand(draft(alloc))?
+        .subcommand(bind(alloc)?)?
+        .subcommand(records(alloc)?)?
         .subcommand(serve(alloc)?)?
         .subcommand(attach(alloc)?)?
         .try_get_matches_from(words)

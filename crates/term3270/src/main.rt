@@ -19,11 +19,15 @@ use crate::tcp::Place;
 use clap::ArgMatches;
 use clap::error::ErrorKind;
 use std::alloc::AllocError;
+use std::io::BufReader;
 use std::process::ExitCode;
 use std::{env, io};
+use term_binds::run_bind;
 use term_commands::{
     Status, failure, run_check, run_convert, run_convert_back, run_press, run_show, run_talk,
 };
+use term_drafts::run_draft;
+use term_traces::{Asked as Wanted, run_records};
 
 /// Runs a command on the standard streams, and on the file that it was given.
 fn run(rt: &HostRuntime, asked: Asked<'_>, matches: &ArgMatches<'_>) -> Status {
@@ -42,6 +46,18 @@ fn run(rt: &HostRuntime, asked: Asked<'_>, matches: &ArgMatches<'_>) -> Status {
         }
         Asked::Convert => run_convert(alloc, &mut records, &mut output),
         Asked::ConvertBack => run_convert_back(alloc, &mut records, &mut output),
+        Asked::Draft => run_draft(alloc, &mut records, &mut output),
+        Asked::Bind { layout, form } => {
+            let mut layout = file_at(rt, layout);
+            run_bind(alloc, &mut layout, &mut records, &mut output, form)
+        }
+        Asked::Records { source, side } => {
+            let wanted = Wanted { source, side };
+            match BufReader::new(alloc, records) {
+                Ok(mut lines) => run_records(alloc, wanted, &mut lines, &mut output),
+                Err(_) => Status::NoMemory,
+            }
+        }
         Asked::Serve {
             layout,
             address,

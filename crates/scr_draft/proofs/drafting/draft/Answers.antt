@@ -1,0 +1,5 @@
+use Rattle.scr_draft.proofs.ReadLaw.{drafted_reads}
+use Rattle.scr_draft.proofs.drafting.draft.Goals as goal
+
+pub returns-clause-reads : goal.returns-clause-reads
+returns-clause-reads c = drafted_reads c.args.screen.now c.drafted.result c.drafted.ensures

@@ -1,0 +1,10 @@
+use Rattle.std.proofs.Common.{◌≡◌, ◌++◌, ◌-◌, map}
+use Rattle.std.specs.String.{string_bytes}
+use Rattle.std.specs.List.{range_with_len}
+use Rattle.scr_draft.specs.Label.{seen_at, label_text}
+use Rattle.scr_draft.proofs.label.push_label.Given as goal
+
+abbrev pub invariant-loop-at : goal.invariant-loop-at
+invariant-loop-at l =
+    string_bytes l.out ++ map (seen_at l.screen.cells) (range_with_len l.at (l.stop - l.at))
+    ≡ string_bytes l.fn.out ++ label_text l.screen.cells l.fn.label

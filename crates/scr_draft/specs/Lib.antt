@@ -1,0 +1,6 @@
+pub mod Label
+pub mod Name
+pub mod Drafted
+pub mod Text
+pub mod Draft
+pub mod Opened

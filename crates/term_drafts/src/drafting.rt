@@ -1,0 +1,54 @@
+//! The command `draft`.
+
+ghost use Rattle.std.specs.Prelude.{◌≡◌, IfSome};
+ghost use Rattle.term_commands.specs.Fault.{Gives};
+ghost use Rattle.term_commands.specs.Held.{answer_seen};
+ghost use Rattle.term_commands.specs.Streams.{Prints};
+ghost use Rattle.scr_draft.specs.Draft.{drafted};
+ghost use Rattle.term_drafts.specs.Draft.{printed_text, draft, printed_draft};
+
+use crate::stop::stop_line;
+use ds_screen::{PlaneCells, Screen};
+use scr_draft::{Opened, draft, open};
+use std::alloc::Global;
+use std::io::{Read, Write};
+use term_commands::{Answer, CommandError, SizeLine, Status, finish, read_records};
+
+/// What `draft` answers to a screen.
+fn draft_answer(alloc: Global, screen: &Screen<PlaneCells>) -> Result<Answer, CommandError>
+    ensures { Gives answer_seen result (printed_text (drafted screen.now)) }
+{
+    let text = draft(alloc, screen)?;
+    Ok(Answer {
+        text,
+        status: Status::Done,
+    })
+}
+
+fn draft_records<R: Read>(alloc: Global, reader: &mut R) -> Result<Answer, CommandError>
+    ensures { IfSome (R.remaining reader.old) (λ input. Gives answer_seen result (draft input)) }
+{
+    let told = read_records(alloc, reader, SizeLine::Allowed)?;
+    match open(alloc, told.geometry, told.records.as_slice())? {
+        Opened::Leads(screen) => draft_answer(alloc, &screen),
+        Opened::Stands(finding) => Ok(Answer {
+            text: stop_line(alloc, finding)?,
+            status: Status::Findings,
+        }),
+    }
+}
+
+/// Reads records in hexadecimal, one a line, applies them to a new screen, and prints a layout for it, in TOML: an entry
+/// for each field that governs cells and is unprotected, or protected and modified, in rising order, and behind each what an
+/// operator sees. Where the records are refused, don't erase or don't write, leave the keyboard locked or no field, the
+/// checker's finding is printed, with the status `Findings`; where the lines have a fault, or a layout can't say the
+/// screen, as L11 with more than 1,000 fields, the first fault, with the status `BadInput`. At most 16,777,216 bytes, 1,000
+/// records of 32,768 bytes. After a read or a write that failed the status is `Failed`, where memory was refused
+/// `NoMemory`, and a front of the text was written.
+pub fn run_draft<R: Read, W: Write>(alloc: Global, reader: &mut R, writer: &mut W) -> Status
+    ensures { IfSome (R.remaining reader.old) (λ input.
+        Prints (W.contents writer.old) (W.contents writer.new) result (printed_draft input)) }
+{
+    let answer = draft_records(alloc, reader);
+    finish(alloc, writer, answer)
+}

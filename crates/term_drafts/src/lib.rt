@@ -1,0 +1,9 @@
+//! The command `draft` of the program `term3270`: a layout drafted from the screen that records show.
+#![tactic(auto)]
+
+mod drafting;
+mod stop;
+#[cfg(test)]
+mod tests;
+
+pub use drafting::run_draft;

@@ -1,0 +1,257 @@
+-- What each turn of a run does to what holds between the turns.
+use Rattle.std.proofs.Common.{◌≡◌, ◌==◌, ℕ, ◌+◌, ◌<◌, Bool, take, drop, length-append, List, [], ◌∷◌, ◌++◌, length, map, true, false, refl, sym, ◌∙◌, ap, subst, inl, inr, arith, append_assoc, append-nil}
+use Rattle.std.specs.Prelude.{Option, None, Some, Result, Ok, Err, IfSome}
+use Rattle.std.specs.Io.KnownBytes.{Appends, IsAtEnd}
+use Rattle.std.specs.Io.BufRead.{take_through, drop_through, DropsThrough}
+use Rattle.tn_session.proofs.PairWords.{by_bool}
+use Rattle.bstr.specs.Text.{line_len, lines_of, without_terminator}
+use Rattle.bstr.proofs.lemmas.LineLemmas.{lines-nil, lines-step}
+use Rattle.term_commands.specs.declared.status.Status.{Status}
+use Rattle.term_commands.specs.declared.status.Status.TheVariants.{Done, Findings, BadInput, Failed, NoMemory}
+use Rattle.term_commands.specs.Streams.{AppendsFront, IsWantOrFailure}
+use Rattle.term_traces.specs.declared.asked.Asked.{Asked}
+use Rattle.term_traces.specs.declared.line.Next.{Next}
+use Rattle.term_traces.specs.declared.line.Next.TheVariants.{Goes, Stops}
+use Rattle.term_traces.specs.Following.{Following, Course, goes, stops, connection, Adds, Leads, lines_in, left_text, EndsEarly}
+use Rattle.term_traces.specs.Held.{course_seen}
+use Rattle.term_traces.specs.Printed.{IsPart, PrintsRecords, ReadsLine, PrintsLine, Writes, WritesEnd}
+
+-- ---- a line of the input
+
+taken_line : (bytes : List ℕ) → take (line_len bytes) bytes ≡ take_through 10 bytes
+unfolding line_len
+taken_line [] = refl
+taken_line (b ∷ rest) = by_bool (b == 10) (λ e. rw e refl) (λ e. rw e (ap (λ z. b ∷ z) (taken_line rest)))
+
+dropped_line : (bytes : List ℕ) → drop (line_len bytes) bytes ≡ drop_through 10 bytes
+unfolding line_len
+dropped_line [] = refl
+dropped_line (b ∷ rest) = by_bool (b == 10) (λ e. rw e refl) (λ e. rw e (dropped_line rest))
+
+one_line : (bytes : List ℕ) → 0 < length bytes → lines_in bytes ≡ without_terminator (take_through 10 bytes) ∷ lines_in (drop_through 10 bytes)
+one_line bytes some =
+    ap (map without_terminator) (lines-step bytes some)
+    ∙ ap (λ z. without_terminator z ∷ map without_terminator (lines_of (drop (line_len bytes) bytes))) (taken_line bytes)
+    ∙ ap (λ z. without_terminator (take_through 10 bytes) ∷ map without_terminator (lines_of z)) (dropped_line bytes)
+
+some_byte : (bytes : List ℕ) → 0 < length (take_through 10 bytes) → 0 < length bytes
+some_byte [] less = less
+some_byte (b ∷ rest) less = omega arith
+
+pub reads_line : (known left : Option (List ℕ)) (old line : List ℕ) → old ≡ [] → 0 < length line → IfSome known (λ xs. line ≡ old ++ take_through 10 xs) → DropsThrough known left 10
+    → IfSome known (λ xs. ReadsLine xs true line left)
+reads_line None left old line none some is drops = tt
+reads_line (Some xs) left old line none some is drops =
+    let same : line ≡ take_through 10 xs = is ∙ ap (λ z. z ++ take_through 10 xs) none in
+    let some_taken : 0 < length (take_through 10 xs) = subst (λ z. 0 < length z) same some in (
+      drop_through 10 xs,
+      drops,
+      one_line xs (some_byte xs some_taken) ∙ ap (λ z. without_terminator z ∷ lines_in (drop_through 10 xs)) (sym same),
+    )
+
+pub reads_none : (known left : Option (List ℕ)) (line : List ℕ) → IsAtEnd known → IfSome known (λ xs. ReadsLine xs false line left)
+reads_none None left line none = tt
+reads_none (Some xs) left line none = rw none (ap (map without_terminator) lines-nil)
+
+-- ---- what is written of a line
+
+pub prints_added : (asked : Asked) (number : ℕ) (old : Following) (line before_text text : List ℕ) (before after : Option (List ℕ)) (next : Next) (result : Result Next Status) (new : Following)
+    → before_text ≡ [] → (x : List ℕ) × (text ≡ before_text ++ x) × Adds asked number old line x (course_seen next new) → Writes text before next result after
+    → PrintsLine asked number old line before result new after
+prints_added asked number old line before_text text before after next (Ok given) new none adds writes =
+    let is : text ≡ adds.0 = adds.1 ∙ ap (λ z. z ++ adds.0) none in
+    rw writes.0 (adds.0, adds.2, subst (λ z. Appends before after z) is writes.1)
+prints_added asked number old line before_text text before after next (Err Failed) new none adds writes =
+    let is : text ≡ adds.0 = adds.1 ∙ ap (λ z. z ++ adds.0) none in
+    (adds.0, course_seen next new, adds.2, subst (λ z. AppendsFront before after z) is writes)
+prints_added asked number old line before_text text before after next (Err NoMemory) new none adds writes = absurd writes
+prints_added asked number old line before_text text before after next (Err Done) new none adds writes = absurd writes
+prints_added asked number old line before_text text before after next (Err Findings) new none adds writes = absurd writes
+prints_added asked number old line before_text text before after next (Err BadInput) new none adds writes = absurd writes
+
+-- ---- texts written in turn
+
+nothing_written : (known : Option (List ℕ)) → Appends known known []
+nothing_written None = tt
+nothing_written (Some bytes) = sym (append-nil bytes)
+
+appends_more : (old mid new : Option (List ℕ)) (first second : List ℕ) → Appends old mid first → Appends mid new second → Appends old new (first ++ second)
+appends_more None mid new first second a b = tt
+appends_more (Some x) None new first second a b = absurd a
+appends_more (Some x) (Some y) None first second a b = absurd b
+appends_more (Some x) (Some y) (Some z) first second a b = b ∙ ap (λ l. l ++ second) a ∙ append_assoc x first second
+
+whole_front : (old new : Option (List ℕ)) (text : List ℕ) → Appends old new text → AppendsFront old new text
+whole_front old new text all = (text, [], sym (append-nil text), all)
+
+front_more : (old mid new : Option (List ℕ)) (first second : List ℕ) → Appends old mid first → AppendsFront mid new second → AppendsFront old new (first ++ second)
+front_more old mid new first second a (front, rest, is, b) =
+    (first ++ front, rest, ap (λ z. first ++ z) is ∙ sym (append_assoc first front rest), appends_more old mid new first front a b)
+
+-- ---- lines in turn
+
+leads_more : (asked : Asked) (number : ℕ) (first : Following) (front : List (List ℕ)) (line text added : List ℕ) (mid last : Following)
+    → Leads asked number first front text mid → Adds asked (number + length front) mid line added (goes last)
+    → Leads asked number first (front ++ line ∷ []) (text ++ added) last
+leads_more asked number first [] line text added mid last (none, same) adds =
+    let here : Adds asked number first line added (goes last) =
+    subst (λ n. Adds asked n first line added (goes last)) (omega arith) (subst (λ f. Adds asked (number + 0) f line added (goes last)) same adds) in
+    (added, [], last, here, ap (λ z. z ++ added) none ∙ sym (append-nil added), (refl, refl))
+leads_more asked number first (l ∷ front) line text added mid last (t, others, next, one, is, leads) adds =
+    let there : Adds asked ((number + 1) + length front) mid line added (goes last) =
+    subst (λ n. Adds asked n mid line added (goes last)) (omega arith) adds in (
+      t,
+      others ++ added,
+      next,
+      one,
+      ap (λ z. z ++ added) is ∙ append_assoc t others added,
+      leads_more asked (number + 1) next front line others added mid last leads there,
+    )
+
+pub record LinesSoFar (asked : Asked) (lines : List (List ℕ)) (old new : Option (List ℕ)) (number : ℕ) (now : Following) (left : List (List ℕ)) : Type 0 where
+  pub front : List (List ℕ)
+  pub text : List ℕ
+  pub whole : lines ≡ front ++ left
+  pub count : number ≡ 1 + length front
+  pub leads : Leads asked 1 (connection 0) front text now
+  pub writes : Appends old new text
+
+-- the lines of a front of the input were taken, and their text was written
+abbrev pub SoFar : Asked → Option (List ℕ) → Option (List ℕ) → Option (List ℕ) → Option (List ℕ) → ℕ → Following → Type 0
+SoFar asked input left old new number now =
+    IfSome input (λ xs. (rest : List ℕ) × (left ≡ Some rest) × LinesSoFar asked (lines_in xs) old new number now (lines_in rest))
+
+pub begins : (asked : Asked) (input old : Option (List ℕ)) (now : Following) → now ≡ connection 0 → SoFar asked input input old old 1 now
+begins asked None old now is = tt
+begins asked (Some xs) old now is =
+    (xs, refl, record { front = []; text = []; whole = refl; count = refl; leads = (refl, is); writes = nothing_written old })
+
+module _ (asked : Asked) (lines : List (List ℕ)) (old mid after : Option (List ℕ)) (number : ℕ) (now : Following) where
+  so_part : (left : List (List ℕ)) → LinesSoFar asked lines old mid number now left → IsPart asked lines old mid
+  so_part left so =
+      (so.text, inl (record { front = so.front; more = left; last = now; whole = so.whole; leads = so.leads }), whole_front old mid so.text so.writes)
+
+  module _ (line : List ℕ) (left : List (List ℕ)) (so : LinesSoFar asked lines old mid number now (line ∷ left)) where
+    here : (added : List ℕ) (course : Course) → Adds asked number now line added course → Adds asked (1 + length so.front) now line added course
+    here added course adds = subst (λ n. Adds asked n now line added course) so.count adds
+
+    more_whole : lines ≡ (so.front ++ line ∷ []) ++ left
+    more_whole = so.whole ∙ sym (append_assoc so.front (line ∷ []) left)
+
+    so_goes : (added : List ℕ) (next : Following) → Adds asked number now line added (goes next) → Appends mid after added
+        → LinesSoFar asked lines old after (number + 1) next left
+    so_goes added next adds writes = record {
+      front = so.front ++ line ∷ [];
+      text = so.text ++ added;
+      whole = more_whole;
+      count = let is : number ≡ 1 + length so.front = so.count in omega (arith, length-append so.front (line ∷ []));
+      leads = leads_more asked 1 (connection 0) so.front line so.text added now next so.leads (here added (goes next) adds);
+      writes = appends_more old mid after so.text added so.writes writes;
+    }
+
+    so_ends : (added : List ℕ) → Adds asked number now line added stops → EndsEarly asked lines (so.text ++ added)
+    so_ends added adds = record {
+      front = so.front;
+      line = line;
+      more = left;
+      before = so.text;
+      end = added;
+      last = now;
+      whole = so.whole;
+      leads = so.leads;
+      ends = here added stops adds;
+      joined = refl;
+    }
+
+    so_cut : (added : List ℕ) (course : Course) → Adds asked number now line added course → AppendsFront mid after added → IsPart asked lines old after
+    so_cut added (goes next) adds front = (
+      so.text ++ added,
+      inl (record {
+        front = so.front ++ line ∷ [];
+        more = left;
+        last = next;
+        whole = more_whole;
+        leads = leads_more asked 1 (connection 0) so.front line so.text added now next so.leads (here added (goes next) adds);
+      }),
+      front_more old mid after so.text added so.writes front,
+    )
+    so_cut added stops adds front = (so.text ++ added, inr (inl (so_ends added adds)), front_more old mid after so.text added so.writes front)
+
+-- ---- a turn
+
+module _ (asked : Asked) (left left' old mid after : Option (List ℕ)) (number : ℕ) (now : Following) (line : List ℕ) where
+  read_of : (rest : List ℕ) (more : Bool) → left ≡ Some rest → IfSome left (λ xs. ReadsLine xs more line left') → ReadsLine rest more line left'
+  read_of rest more is reads = subst (λ z. IfSome z (λ xs. ReadsLine xs more line left')) is reads
+
+  pub turn_goes : (input : Option (List ℕ)) (next : Following) → SoFar asked input left old mid number now → IfSome left (λ xs. ReadsLine xs true line left')
+      → PrintsLine asked number now (without_terminator line) mid (Ok Goes) next after → SoFar asked input left' old after (number + 1) next
+  turn_goes None next so reads prints = tt
+  turn_goes (Some xs) next (rest, is, so) reads (added, adds, writes) =
+      let read = read_of rest true is reads in
+      let with_line : LinesSoFar asked (lines_in xs) old mid number now (without_terminator line ∷ lines_in read.0) =
+      subst (λ z. LinesSoFar asked (lines_in xs) old mid number now z) read.2 so in
+      (read.0, read.1, so_goes asked (lines_in xs) old mid after number now (without_terminator line) (lines_in read.0) with_line added next adds writes)
+
+  ends_all : (xs rest : List ℕ) → LinesSoFar asked (lines_in xs) old mid number now (lines_in rest) → ReadsLine rest false line left' → (status : Status)
+      → WritesEnd (left_text asked now) mid status after → PrintsRecords asked xs old after status
+  ends_all xs rest so none Done writes =
+      let all : lines_in xs ≡ so.front = so.whole ∙ ap (λ z. so.front ++ z) none ∙ append-nil so.front in (
+        so.text ++ left_text asked now,
+        record { before = so.text; last = now; leads = subst (λ z. Leads asked 1 (connection 0) z so.text now) (sym all) so.leads; joined = refl },
+        appends_more old mid after so.text (left_text asked now) so.writes writes,
+      )
+  ends_all xs rest so none Failed writes =
+      let all : lines_in xs ≡ so.front = so.whole ∙ ap (λ z. so.front ++ z) none ∙ append-nil so.front in (
+        so.text ++ left_text asked now,
+        inr (inr (record { before = so.text; last = now; leads = subst (λ z. Leads asked 1 (connection 0) z so.text now) (sym all) so.leads; joined = refl })),
+        front_more old mid after so.text (left_text asked now) so.writes writes,
+      )
+  ends_all xs rest so none NoMemory same =
+      subst (λ z. IsPart asked (lines_in xs) old z) (sym same) (so_part asked (lines_in xs) old mid after number now (lines_in rest) so)
+  ends_all xs rest so none Findings writes = absurd writes
+  ends_all xs rest so none BadInput writes = absurd writes
+
+  pub turn_ends : (input : Option (List ℕ)) (status : Status) → SoFar asked input left old mid number now → IfSome left (λ xs. ReadsLine xs false line left')
+      → WritesEnd (left_text asked now) mid status after → IfSome input (λ xs. PrintsRecords asked xs old after status)
+  turn_ends None status so reads writes = tt
+  turn_ends (Some xs) status (rest, is, so) reads writes = ends_all xs rest so (read_of rest false is reads) status writes
+
+  pub turn_stops : (input : Option (List ℕ)) (next : Following) → SoFar asked input left old mid number now → IfSome left (λ xs. ReadsLine xs true line left')
+      → PrintsLine asked number now (without_terminator line) mid (Ok Stops) next after → IfSome input (λ xs. PrintsRecords asked xs old after BadInput)
+  turn_stops None next so reads prints = tt
+  turn_stops (Some xs) next (rest, is, so) reads (added, adds, writes) =
+      let read = read_of rest true is reads in
+      let with_line : LinesSoFar asked (lines_in xs) old mid number now (without_terminator line ∷ lines_in read.0) =
+      subst (λ z. LinesSoFar asked (lines_in xs) old mid number now z) read.2 so in (
+        with_line.text ++ added,
+        so_ends asked (lines_in xs) old mid after number now (without_terminator line) (lines_in read.0) with_line added adds,
+        appends_more old mid after with_line.text added with_line.writes writes,
+      )
+
+  pub turn_fails : (input : Option (List ℕ)) (next : Following) (status : Status) → SoFar asked input left old mid number now
+      → IfSome left (λ xs. ReadsLine xs true line left') → PrintsLine asked number now (without_terminator line) mid (Err status) next after
+      → IfSome input (λ xs. PrintsRecords asked xs old after status)
+  turn_fails None next status so reads prints = tt
+  turn_fails (Some xs) next Failed (rest, is, so) reads (added, course, adds, front) =
+      let read = read_of rest true is reads in
+      let with_line : LinesSoFar asked (lines_in xs) old mid number now (without_terminator line ∷ lines_in read.0) =
+      subst (λ z. LinesSoFar asked (lines_in xs) old mid number now z) read.2 so in
+      so_cut asked (lines_in xs) old mid after number now (without_terminator line) (lines_in read.0) with_line added course adds front
+  turn_fails (Some xs) next NoMemory (rest, is, so) reads same =
+      subst (λ z. IsPart asked (lines_in xs) old z) (sym same) (so_part asked (lines_in xs) old mid after number now (lines_in rest) so)
+  turn_fails (Some xs) next Done so reads prints = absurd prints
+  turn_fails (Some xs) next Findings so reads prints = absurd prints
+  turn_fails (Some xs) next BadInput so reads prints = absurd prints
+
+-- a read failed, or there were too many lines
+pub run_fails : (asked : Asked) (input left old mid : Option (List ℕ)) (number : ℕ) (now : Following) (status : Status)
+    → SoFar asked input left old mid number now → IsWantOrFailure status → IfSome input (λ xs. PrintsRecords asked xs old mid status)
+run_fails asked None left old mid number now status so fails = tt
+run_fails asked (Some xs) left old mid number now Failed (rest, is, so) fails = so_part asked (lines_in xs) old mid mid number now (lines_in rest) so
+run_fails asked (Some xs) left old mid number now NoMemory (rest, is, so) fails = so_part asked (lines_in xs) old mid mid number now (lines_in rest) so
+run_fails asked (Some xs) left old mid number now Done so fails = absurd fails
+run_fails asked (Some xs) left old mid number now Findings so fails = absurd fails
+run_fails asked (Some xs) left old mid number now BadInput so fails = absurd fails
+
+pub no_memory : (asked : Asked) (input old : Option (List ℕ)) → IfSome input (λ xs. PrintsRecords asked xs old old NoMemory)
+no_memory asked input old = run_fails asked input input old old 1 (connection 0) NoMemory (begins asked input old (connection 0) refl) tt

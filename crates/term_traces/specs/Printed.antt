@@ -1,0 +1,63 @@
+-- What is written of an input, and the status; also where a read or a write fails, or memory is refused.
+use Rattle.std.specs.Prelude.{◌≡◌, ◌⊎◌, ℕ, List, [], ◌∷◌, Bool, true, false, Option, Some, Result, Ok, Err}
+use Rattle.std.specs.Io.KnownBytes.{Appends}
+use Rattle.bstr.specs.Text.{without_terminator}
+use Rattle.term_commands.specs.declared.status.Status.{Status}
+use Rattle.term_commands.specs.declared.status.Status.TheVariants.{Done, Findings, BadInput, Failed, NoMemory}
+use Rattle.term_commands.specs.Streams.{AppendsFront}
+use Rattle.term_traces.specs.declared.asked.Asked.{Asked}
+use Rattle.term_traces.specs.declared.line.Next.{Next}
+use Rattle.term_traces.specs.Following.{Following, Course, Adds, lines_in, IsSoFar, IsAll, EndsEarly}
+use Rattle.term_traces.specs.Held.{course_seen}
+
+-- a front of the text of some lines, or of all that count
+abbrev pub IsPart : Asked → List (List ℕ) → Option (List ℕ) → Option (List ℕ) → Type 0
+IsPart asked lines old new = (text : List ℕ) × (IsSoFar asked lines text ⊎ (EndsEarly asked lines text ⊎ IsAll asked lines text)) × AppendsFront old new text
+
+-- The text of all lines was written; or that up to a line which is refused or has a fault; or, where a read or a write
+-- failed or memory was refused, a front of it.
+abbrev pub PrintsLines : Asked → List (List ℕ) → Option (List ℕ) → Option (List ℕ) → Status → Type 0
+PrintsLines asked lines old new Done = (text : List ℕ) × IsAll asked lines text × Appends old new text
+PrintsLines asked lines old new BadInput = (text : List ℕ) × EndsEarly asked lines text × Appends old new text
+PrintsLines asked lines old new Failed = IsPart asked lines old new
+PrintsLines asked lines old new NoMemory = IsPart asked lines old new
+PrintsLines asked lines old new Findings = ⊥
+
+-- what `records` writes of an input, and its status
+abbrev pub PrintsRecords : Asked → List ℕ → Option (List ℕ) → Option (List ℕ) → Status → Type 0
+PrintsRecords asked input old new status = PrintsLines asked (lines_in input) old new status
+
+-- ---- one line, as the program takes it
+
+-- a line was read from the front of these bytes, or there is none
+abbrev pub ReadsLine : List ℕ → Bool → List ℕ → Option (List ℕ) → Type 0
+ReadsLine bytes true line left = (rest : List ℕ) × (left ≡ Some rest) × (lines_in bytes ≡ without_terminator line ∷ lines_in rest)
+ReadsLine bytes false line left = lines_in bytes ≡ []
+
+-- the text of a line was written, or a front of it
+abbrev pub PrintsLine : Asked → ℕ → Following → List ℕ → Option (List ℕ) → Result Next Status → Following → Option (List ℕ) → Type 0
+PrintsLine asked number old line before (Ok next) new after =
+    (text : List ℕ) × Adds asked number old line text (course_seen next new) × Appends before after text
+PrintsLine asked number old line before (Err Failed) new after =
+    (text : List ℕ) × (course : Course) × Adds asked number old line text course × AppendsFront before after text
+PrintsLine asked number old line before (Err NoMemory) new after = after ≡ before
+PrintsLine asked number old line before (Err Done) new after = ⊥
+PrintsLine asked number old line before (Err Findings) new after = ⊥
+PrintsLine asked number old line before (Err BadInput) new after = ⊥
+
+-- a text was written, or a front of it
+abbrev pub Writes : List ℕ → Option (List ℕ) → Next → Result Next Status → Option (List ℕ) → Type 0
+Writes text before next (Ok given) after = (given ≡ next) × Appends before after text
+Writes text before next (Err Failed) after = AppendsFront before after text
+Writes text before next (Err NoMemory) after = ⊥
+Writes text before next (Err Done) after = ⊥
+Writes text before next (Err Findings) after = ⊥
+Writes text before next (Err BadInput) after = ⊥
+
+-- the text at the end was written, or a front of it
+abbrev pub WritesEnd : List ℕ → Option (List ℕ) → Status → Option (List ℕ) → Type 0
+WritesEnd text before Done after = Appends before after text
+WritesEnd text before Failed after = AppendsFront before after text
+WritesEnd text before NoMemory after = after ≡ before
+WritesEnd text before Findings after = ⊥
+WritesEnd text before BadInput after = ⊥

@@ -1,0 +1,48 @@
+//! What is asked of a trace or a captured stream.
+
+ghost use Rattle.std.specs.Prelude.{◌≡◌, IfOk};
+ghost use Rattle.tn_traces.specs.Held.{said_seen};
+ghost use Rattle.term_traces.specs.Following.{seen_of, said_of};
+
+use std::alloc::{AllocError, Global};
+use tn_traces::{Said, Seen, Side, stream_line, trace_line};
+
+/// Where the lines come from.
+#[derive(Clone, Copy, Debug, PartialEq, Eq)]
+pub enum Source {
+    /// A trace of x3270, s3270 or c3270, version 4: both sides of sessions.
+    Trace,
+    /// Pieces of what the side sent whose records are asked for, in hexadecimal, one a line.
+    Stream,
+}
+
+/// The records that are asked for.
+#[derive(Clone, Copy, Debug, PartialEq, Eq)]
+pub struct Asked {
+    /// Where the lines come from.
+    pub source: Source,
+    /// Whose records they are.
+    pub side: Side,
+}
+
+impl Asked {
+    /// The sides that the source shows.
+    pub(crate) fn seen(self) -> Seen
+        ensures { result ≡ seen_of self.source }
+    {
+        match self.source {
+            Source::Trace => Seen::BothSides,
+            Source::Stream => Seen::OneSide,
+        }
+    }
+
+    /// What a line says.
+    pub(crate) fn said(self, alloc: Global, line: &[u8]) -> Result<Said, AllocError>
+        ensures { IfOk result (λ said. said_seen said ≡ said_of self line.now) }
+    {
+        match self.source {
+            Source::Trace => trace_line(alloc, line),
+            Source::Stream => stream_line(alloc, self.side, line),
+        }
+    }
+}

@@ -1,0 +1,113 @@
+//! A piece of what a side sent, event by event.
+
+ghost use Rattle.std.specs.Prelude.{◌≡◌, ◌++◌, ◌<◌, ◌^◌, [], None, OnOk, OnErr};
+ghost use Rattle.std.specs.String.{string_bytes};
+ghost use Rattle.tn_wire.specs.Calls.{told_of};
+ghost use Rattle.term_traces.specs.Held.{IsOpen};
+ghost use Rattle.term_traces.specs.Reading.{kept_log, event_log, same_side};
+ghost use Rattle.term_traces.specs.Taking.{TakesEvent, TakesPiece};
+ghost use Rattle.tn_traces.specs.Record.{kept_of};
+
+use crate::spelled::{len_of, open_after};
+use crate::text::{is_line, push_record};
+use std::alloc::Global;
+use tn_session::RunFault;
+use tn_traces::{Negotiated, Seen, negotiated_after, read_record};
+use tn_wire::{Deframer, Event, Step};
+
+/// What is known of a connection beside what is open of its streams.
+#[derive(Clone, Copy, Debug, PartialEq, Eq)]
+pub(crate) struct Reading {
+    /// How far TN3270E is agreed.
+    pub(crate) now: Negotiated,
+    /// The records printed as lines so far, over all connections, at most 2^64 - 1.
+    pub(crate) count: u64,
+}
+
+/// What is to be done with the events of a piece.
+#[derive(Clone, Copy, Debug, PartialEq, Eq)]
+pub(crate) struct Task {
+    /// The sides that are seen.
+    pub(crate) seen: Seen,
+    /// Whether the records are asked for.
+    pub(crate) wanted: bool,
+    /// The number of the line, from 1.
+    pub(crate) line: u64,
+}
+
+/// Takes a record that is asked for.
+fn take_record(
+    alloc: Global,
+    line: u64,
+    reading: &mut Reading,
+    out: &mut String,
+    bytes: &[u8],
+) -> Result<(), RunFault>
+    ensures { TakesEvent (kept_log line reading.old (kept_of reading.old.now bytes.now))
+        (string_bytes out.old) result reading.new (string_bytes out.new) }
+{
+    match read_record(reading.now, bytes) {
+        Ok(kept) => {
+            push_record(alloc, out, reading.count, line, &kept)?;
+            if is_line(&kept) {
+                reading.count = reading.count.saturating_add(1);
+            }
+            Ok(())
+        }
+        Err(fault) => Err(RunFault::Header(fault)),
+    }
+}
+
+/// Takes one event.
+fn take_event(
+    alloc: Global,
+    task: Task,
+    reading: &mut Reading,
+    out: &mut String,
+    event: &Event<'_>,
+) -> Result<(), RunFault>
+    ensures { TakesEvent (event_log task.seen task.wanted task.line reading.old (told_of event.now))
+        (string_bytes out.old) result reading.new (string_bytes out.new) }
+{
+    match event {
+        Event::Record(bytes) if task.wanted => take_record(alloc, task.line, reading, out, bytes),
+        Event::Record(_bytes) => Ok(()),
+        other => {
+            reading.now = negotiated_after(task.seen, reading.now, other);
+            Ok(())
+        }
+    }
+}
+
+/// Takes the events of a piece, one after the other, and counts the bytes that are open.
+pub(crate) fn take_piece(
+    alloc: Global,
+    task: Task,
+    deframer: &mut Deframer,
+    count: &mut usize,
+    reading: &mut Reading,
+    out: &mut String,
+    piece: &[u8],
+) -> Result<(), RunFault>
+    requires open { IsOpen deframer.old count.old }
+    ensures taken { TakesPiece (event_log task.seen task.wanted task.line) deframer.old.content
+        reading.old piece.now (string_bytes out.old) result deframer.new.content reading.new
+        (string_bytes out.new) }
+    ensures open { OnOk result (IsOpen deframer.new count.new) }
+{
+    let mut rest = piece;
+    'events: loop {
+        let left = len_of(rest);
+        match deframer.next(&mut rest) {
+            Ok(Step::NeedMore) => {
+                *count += left;
+                return Ok(());
+            }
+            Ok(Step::Event(event)) => {
+                *count = open_after(*count, left - rest.len(), &event);
+                take_event(alloc, task, reading, out, &event)?;
+            }
+            Err(fault) => return Err(RunFault::Wire(fault)),
+        }
+    }
+}

@@ -1,0 +1,151 @@
+//! The command `records`: the records of sessions that were traced or captured.
+
+ghost use Rattle.std.specs.Prelude.{◌≡◌, ◌==◌, ◌<◌, ◌-◌, Bool, ◌&&◌, nat_lt, slice_index, take, length, if◌then◌else◌, IfOk, IfErr, IfSome, OnOk, Ok, Err};
+ghost use Rattle.std.specs.String.{string_bytes};
+ghost use Rattle.bstr.specs.Text.{no_cr, without_terminator};
+ghost use Rattle.term_traces.specs.declared.line.Next.TheVariants.{Goes};
+ghost use Rattle.term_traces.specs.Held.{following_seen, IsReady};
+ghost use Rattle.term_traces.specs.Open.{open_text};
+ghost use Rattle.term_traces.specs.Printed.{PrintsLine, PrintsRecords, ReadsLine, Writes, WritesEnd};
+
+use crate::asked::Asked;
+use crate::follower::Follower;
+use crate::line::{Next, take_line};
+use crate::text::push_open;
+use std::alloc::Global;
+use std::io;
+use std::io::{BufRead, Write};
+use term_commands::{Answer, Status, failure, finish};
+
+/// Reads the next line with its end, and tells whether there is one.
+fn next_line<R: BufRead>(reader: &mut R, line: &mut Vec<u8>) -> io::Result<bool>
+    ensures { IfSome (R.remaining reader.old) (λ bytes. IfOk result (λ more.
+        ReadsLine bytes more line.new.items (R.remaining reader.new))) }
+{
+    line.clear();
+    match reader.read_until(b'\n', line) {
+        Ok(0) => Ok(false),
+        Ok(_) => Ok(true),
+        Err(error) => Err(error),
+    }
+}
+
+fn without_cr(line: &[u8]) -> &[u8]
+    ensures { result.now ≡ no_cr line.now }
+{
+    match line.split_last() {
+        Some((b'\r', front)) => front,
+        _ => line,
+    }
+}
+
+/// A line without the LF or CR LF at its end.
+fn without_end(line: &[u8]) -> &[u8]
+    ensures { result.now ≡ without_terminator line.now }
+{
+    match line.split_last() {
+        Some((b'\n', front)) => without_cr(front),
+        _ => line,
+    }
+}
+
+/// Writes what a line adds.
+fn write_added<W: Write>(
+    alloc: Global,
+    writer: &mut W,
+    text: String,
+    next: Next,
+) -> Result<Next, Status>
+    ensures { Writes (string_bytes text) (W.contents writer.old) next result
+        (W.contents writer.new) }
+{
+    let answer = Answer {
+        text,
+        status: Status::Done,
+    };
+    match finish(alloc, writer, Ok(answer)) {
+        Status::Done => Ok(next),
+        status => Err(status),
+    }
+}
+
+/// Takes the line of a number, from 1, and writes what it adds.
+fn print_line<W: Write>(
+    alloc: Global,
+    asked: Asked,
+    follower: &mut Follower,
+    number: u64,
+    line: &[u8],
+    writer: &mut W,
+) -> Result<Next, Status>
+    requires ready { IsReady follower.old }
+    ensures prints { PrintsLine asked number (following_seen follower.old) line.now
+        (W.contents writer.old) result (following_seen follower.new) (W.contents writer.new) }
+    ensures ready { IfOk result (λ next. next ≡ Goes → IsReady follower.new) }
+{
+    let mut out = String::new(alloc);
+    match take_line(alloc, asked, follower, number, line, &mut out) {
+        Err(_) => Err(Status::NoMemory),
+        Ok(next) => write_added(alloc, writer, out, next),
+    }
+}
+
+/// Writes what is left open at the end.
+fn print_end<W: Write>(alloc: Global, writer: &mut W, count: usize) -> Status
+    ensures { WritesEnd (open_text count) (W.contents writer.old) result (W.contents writer.new) }
+{
+    let mut text = String::new(alloc);
+    match push_open(&mut text, count) {
+        Err(_) => Status::NoMemory,
+        Ok(()) => {
+            let answer = Answer {
+                text,
+                status: Status::Done,
+            };
+            finish(alloc, writer, Ok(answer))
+        }
+    }
+}
+
+/// Reads the lines of a trace or of a captured stream, and prints the records of a side: each as a
+/// comment, and those of 3270 data as a line of hexadecimal after it; a comment where a connection
+/// begins, and one that tells how many bytes are open where one ends. A line whose hexadecimal is
+/// none, and a fault of a stream or of a header, is told with the number of its line, from 1, and
+/// the status is `BadInput`. Lines are read and their text written in turn, so the memory that it
+/// takes is that of one line, of its text, and of a record and a token of each side. After a read
+/// or a write that failed, and after 2^64 - 2 lines, the status is `Failed`, where memory was
+/// refused `NoMemory`, and a front of the text was written.
+pub fn run_records<R: BufRead, W: Write>(
+    alloc: Global,
+    asked: Asked,
+    reader: &mut R,
+    writer: &mut W,
+) -> Status
+    ensures { IfSome (R.remaining reader.old) (λ input. PrintsRecords asked input
+        (W.contents writer.old) (W.contents writer.new) result) }
+{
+    let Ok(mut follower) = Follower::new(alloc, 0) else {
+        return Status::NoMemory;
+    };
+    let mut line = Vec::new(alloc);
+    for number in 1..u64::MAX {
+        match next_line(reader, &mut line) {
+            Ok(true) => {}
+            Ok(false) => return print_end(alloc, writer, follower.open_count(asked.side)),
+            Err(error) => return failure(&error),
+        }
+        match print_line(
+            alloc,
+            asked,
+            &mut follower,
+            number,
+            without_end(&line),
+            writer,
+        ) {
+            Ok(Next::Goes) => {}
+            Ok(Next::Stops) => return Status::BadInput,
+            Err(status) => return status,
+        }
+    }
+    Status::Failed
+}
