@@ -1,2 +1,4 @@
 pub mod Steps
 pub mod ReadLaw
+pub mod BestLaw
+pub mod OpenLaw

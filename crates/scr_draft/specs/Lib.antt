@@ -4,3 +4,4 @@ pub mod Drafted
 pub mod Text
 pub mod Draft
 pub mod Opened
+pub mod Best

@@ -6,6 +6,7 @@ ghost use Rattle.scr_layout.specs.Layout.{layout_of};
 ghost use Rattle.scr_layout.specs.Results.{Gives};
 ghost use Rattle.scr_draft.specs.Draft.{drafted};
 ghost use Rattle.scr_draft.specs.Drafted.{declared_by};
+ghost use Rattle.scr_draft.specs.Best.{SaysBest};
 
 use crate::entries::drafts_of;
 use crate::same::is_draft;
@@ -16,7 +17,9 @@ use std::alloc::Global;
 
 /// A layout for a screen, as text: an entry for each field that governs cells and is unprotected, or protected and
 /// modified, in rising order of their attributes, named by the text before it on its row. The text is read as a layout
-/// before it is given out.
+/// before it is given out. Against that layout nothing is found, by any records that led to the screen, but what is
+/// found against every layout: a field of no cells that is sent all the same (F13). So it conforms to them if any layout
+/// does.
 ///
 /// # Errors
 ///
@@ -26,6 +29,7 @@ pub fn draft(alloc: Global, screen: &Screen<PlaneCells>) -> Result<String, Layou
     ensures exact { Gives string_bytes result (drafted screen.now) }
     ensures reads { IfOk result (λ text. layout_of (string_bytes text)
         ≡ Ok (declared_by screen.now)) }
+    ensures best { IfOk result (λ text. SaysBest screen.now (string_bytes text)) }
 {
     drafted(alloc, screen)
 }

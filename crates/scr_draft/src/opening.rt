@@ -4,6 +4,7 @@ ghost use Rattle.std.specs.Prelude.{◌≡◌, IfOk};
 ghost use Rattle.ds_codec.specs.Reading.{read_of};
 ghost use Rattle.scr_check.specs.Opening.{erases, writes, command_fault, taken, taken_from};
 ghost use Rattle.scr_draft.specs.Opened.{ready, opened, held, LeadsTo, IsOpened};
+ghost use Rattle.scr_draft.specs.Best.{FitsNone};
 
 use ds_codec::{Command, Geometry};
 use ds_screen::{Lock, PlaneCells, Screen};
@@ -95,12 +96,19 @@ fn ready(screen: &Screen<PlaneCells>) -> Result<(), Finding>
 
 /// Opens a new terminal with records: the screen on which an operator can type, or the finding of the checker that
 /// comes first: no record, a record that is refused, the first one doesn't erase, one is no write, the keyboard stays
-/// locked, or no field.
+/// locked, or no field. To such records no layout for this terminal conforms.
 ///
 /// # Errors
 ///
 /// Where a request for memory was refused.
 pub fn open(alloc: Global, geometry: Geometry, records: &[Vec<u8>]) -> Result<Opened, AllocError>
+    ensures opened { IfOk result (IsOpened (opened geometry (held records.now))) }
+    ensures none { IfOk result (FitsNone geometry (held records.now)) }
+{
+    opened_by(alloc, geometry, records)
+}
+
+fn opened_by(alloc: Global, geometry: Geometry, records: &[Vec<u8>]) -> Result<Opened, AllocError>
     ensures { IfOk result (IsOpened (opened geometry (held records.now))) }
 {
     if records.is_empty() {

@@ -90,8 +90,8 @@ const DRAFT: &str = "Input:
   Records in hexadecimal, one a line, on standard input, as for show.
 
 Output:
-  A layout in TOML (docs/LAYOUTS.md) that these records conform to, with a field for each that an operator can
-  change or that is sent, named by the text before it; or what no layout can mend, as check prints it.
+  A layout in TOML (docs/LAYOUTS.md), with a field for each that an operator can change or that is sent, named
+  by the text before it; these records conform to it if they do to any. Or what no layout can mend, as check prints it.
 
 Example:
   $ term3270 draft < examples/signon.hex > signon.toml

@@ -1,5 +1,9 @@
 use Rattle.scr_draft.proofs.ReadLaw.{drafted_reads}
+use Rattle.scr_draft.proofs.OpenLaw.{drafted_says}
 use Rattle.scr_draft.proofs.drafting.draft.Goals as goal
 
 pub returns-clause-reads : goal.returns-clause-reads
 returns-clause-reads c = drafted_reads c.args.screen.now c.drafted.result c.drafted.ensures
+
+pub returns-clause-best : goal.returns-clause-best
+returns-clause-best c = drafted_says c.args.screen.now c.drafted.result c.drafted.ensures
