@@ -2,7 +2,7 @@
 #             each crate as it is proved
 # make build  leaves the program at bin/term3270
 # make test   proves everything from nothing, then runs the golden cases of the built program
-# make cases  runs the golden cases, the sessions and the manners of the program alone
+# make cases  runs the golden cases, the sessions, the manners and the drafts of the program alone
 # make peers  runs other makers' terminals and hosts against the program, those that are installed
 # make edits  tries every edit that the prover must refuse, of all crates or, with CRATE=ds_codec, of one
 # make bench  times the program beside plain Rust
@@ -32,7 +32,7 @@ test:
 	@sh tests/run
 
 cases: bin/term3270
-	@sh tests/cases.sh bin/term3270 && sh tests/sessions.sh bin/term3270 && sh tests/manners.sh bin/term3270
+	@sh tests/cases.sh bin/term3270 && sh tests/sessions.sh bin/term3270 && sh tests/manners.sh bin/term3270 && sh tests/drafts.sh bin/term3270
 
 peers: bin/term3270
 	@bash tests/peers bin/term3270

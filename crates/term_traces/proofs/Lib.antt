@@ -2,5 +2,6 @@ pub mod Alone
 pub mod Costs
 pub mod Cuts
 pub mod Lines
+pub mod Parts
 pub mod Pieces
 pub mod Runs

@@ -1,5 +1,5 @@
 -- What is printed of a trace or a captured stream: each line adds its text, and the lines follow one another.
-use Rattle.std.specs.Prelude.{ℕ, ◌+◌, ◌≡◌, List, [], ◌∷◌, ◌++◌, length, map}
+use Rattle.std.specs.Prelude.{ℕ, ◌+◌, ◌≡◌, nat_lt, List, [], ◌∷◌, ◌++◌, length, map, if◌then◌else◌}
 use Rattle.bstr.specs.Text.{lines_of, without_terminator}
 use Rattle.tn_wire.specs.Stream.{Told}
 use Rattle.tn_session.specs.declared.fault.RunFault.TheVariants.{Header as HeaderFails}
@@ -29,8 +29,13 @@ abbrev pub said_from : Source → Side → List ℕ → Said
 said_from Trace side line = trace_said line
 said_from Stream side line = stream_said side line
 
+-- the most bytes of a line, without its end
+abbrev pub most_line : ℕ
+most_line = 16777216
+
+-- a line that is too long is refused
 abbrev pub said_of : Asked → List ℕ → Said
-said_of asked line = said_from asked.source asked.side line
+said_of asked line = if nat_lt most_line (length line) then bad else said_from asked.source asked.side line
 
 -- ---- a connection
 

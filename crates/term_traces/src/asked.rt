@@ -7,6 +7,9 @@ ghost use Rattle.term_traces.specs.Following.{seen_of, said_of};
 use std::alloc::{AllocError, Global};
 use tn_traces::{Said, Seen, Side, stream_line, trace_line};
 
+/// The most bytes of a line, without its end.
+const MOST_LINE: usize = 16_777_216;
+
 /// Where the lines come from.
 #[derive(Clone, Copy, Debug, PartialEq, Eq)]
 pub enum Source {
@@ -36,10 +39,13 @@ impl Asked {
         }
     }
 
-    /// What a line says.
+    /// What a line says. One that is too long is refused.
     pub(crate) fn said(self, alloc: Global, line: &[u8]) -> Result<Said, AllocError>
         ensures { IfOk result (λ said. said_seen said ≡ said_of self line.now) }
     {
+        if MOST_LINE < line.len() {
+            return Ok(Said::Bad);
+        }
         match self.source {
             Source::Trace => trace_line(alloc, line),
             Source::Stream => stream_line(alloc, self.side, line),

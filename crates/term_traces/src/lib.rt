@@ -4,6 +4,7 @@
 
 mod asked;
 mod follower;
+mod input;
 mod law;
 mod line;
 mod piece;

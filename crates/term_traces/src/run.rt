@@ -10,25 +10,12 @@ ghost use Rattle.term_traces.specs.Printed.{PrintsLine, PrintsRecords, ReadsLine
 
 use crate::asked::Asked;
 use crate::follower::Follower;
+use crate::input::next_line;
 use crate::line::{Next, take_line};
 use crate::text::push_open;
 use std::alloc::Global;
-use std::io;
 use std::io::{BufRead, Write};
 use term_commands::{Answer, Status, failure, finish};
-
-/// Reads the next line with its end, and tells whether there is one.
-fn next_line<R: BufRead>(reader: &mut R, line: &mut Vec<u8>) -> io::Result<bool>
-    ensures { IfSome (R.remaining reader.old) (λ bytes. IfOk result (λ more.
-        ReadsLine bytes more line.new.items (R.remaining reader.new))) }
-{
-    line.clear();
-    match reader.read_until(b'\n', line) {
-        Ok(0) => Ok(false),
-        Ok(_) => Ok(true),
-        Err(error) => Err(error),
-    }
-}
 
 fn without_cr(line: &[u8]) -> &[u8]
     ensures { result.now ≡ no_cr line.now }
@@ -110,9 +97,10 @@ fn print_end<W: Write>(alloc: Global, writer: &mut W, count: usize) -> Status
 /// Reads the lines of a trace or of a captured stream, and prints the records of a side: each as a
 /// comment, and those of 3270 data as a line of hexadecimal after it; a comment where a connection
 /// begins, and one that tells how many bytes are open where one ends. A line whose hexadecimal is
-/// none, and a fault of a stream or of a header, is told with the number of its line, from 1, and
-/// the status is `BadInput`. Lines are read and their text written in turn, so the memory that it
-/// takes is that of one line, of its text, and of a record and a token of each side. After a read
+/// none, a line of more than 16,777,216 bytes, and a fault of a stream or of a header, is told with the
+/// number of its line, from 1, and the status is `BadInput`. Lines are read and their text written in
+/// turn, so the memory that it takes is that of one line, of its text, and of a record and a token of
+/// each side. After a read
 /// or a write that failed, and after 2^64 - 2 lines, the status is `Failed`, where memory was
 /// refused `NoMemory`, and a front of the text was written.
 pub fn run_records<R: BufRead, W: Write>(

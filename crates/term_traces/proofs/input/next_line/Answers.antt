@@ -1,12 +1,20 @@
-use Rattle.std.proofs.Common.{arith}
-use Rattle.term_traces.proofs.Runs.{reads_line, reads_none}
-use Rattle.term_traces.proofs.run.next_line.Goals as goal
+use Rattle.std.proofs.Common.{ℕ, ◌==◌, ◌∙◌, ap, arith, subst}
+use Rattle.term_traces.specs.Input.{EndsPart}
+use Rattle.term_traces.proofs.Runs.{reads_ended, reads_more}
+use Rattle.term_traces.proofs.input.next_line.Goals as goal
 
-pub returns-in-Ok-eq0 : goal.returns-in-Ok-eq0
-returns-in-Ok-eq0 g c =
-    reads_none (g.R.Read.remaining c.args.reader.now) (g.R.Read.remaining c.read_until.new.self) c.read_until.new.buf.items (c.in-Ok-eq0.ensures.end c.in-Ok-eq0.field-0-test)
+pub returns-then-ends : goal.returns-then-ends
+returns-then-ends g c =
+    let took = c.in_ok-ends.ensures in
+    reads_ended (g.R.Read.remaining c.args.reader.now) (g.R.Read.remaining c.parts.reader) (g.R.Read.remaining c.take_part.new.reader) c.parts.line.items took.0
+    c.take_part.new.line.items c.is_empty.result took.1 c.parts.invariant.taken c.parts.invariant.none took.3
+    (subst (λ b. EndsPart b took.0 (g.R.Read.remaining c.parts.reader) (g.R.Read.remaining c.take_part.new.reader)) c.if-ends.true took.4)
+    (c.is_empty.ensures ∙ ap (λ (n : ℕ). n == 0) (omega arith))
 
-pub returns-in-Ok : goal.returns-in-Ok
-returns-in-Ok g c =
-    reads_line (g.R.Read.remaining c.args.reader.now) (g.R.Read.remaining c.read_until.new.self) c.clear.new.self.items c.read_until.new.buf.items c.clear.ensures.items
-    (omega (arith, c.in-Ok.ensures.ok, c.in-Ok.field-0-test)) c.in-Ok.ensures.bytes c.in-Ok.ensures.rest
+pub returns-then-len-ge-READ_LIMIT : goal.returns-then-len-ge-READ_LIMIT
+returns-then-len-ge-READ_LIMIT g c =
+    let took = c.in_ok-ends.ensures in
+    reads_more (g.R.Read.remaining c.args.reader.now) (g.R.Read.remaining c.parts.reader) (g.R.Read.remaining c.take_part.new.reader) c.parts.line.items took.0
+    c.take_part.new.line.items took.1 c.parts.invariant.taken c.parts.invariant.none took.3
+    (subst (λ b. EndsPart b took.0 (g.R.Read.remaining c.parts.reader) (g.R.Read.remaining c.take_part.new.reader)) c.if-ends.false took.4)
+    (omega (arith, c.len-in-parts.ensures, c.if-len-ge-READ_LIMIT.true))
