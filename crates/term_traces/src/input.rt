@@ -51,7 +51,8 @@ fn part_len(bytes: &[u8]) -> usize
 /// Whether a line ends with these bytes: by their LF, or since there are none.
 fn ends_line(part: &[u8]) -> bool
     ensures some { result ≡ false → 0 < length part.now }
-    ensures last { 0 < length part.now → (result ≡ true ↔ slice_index part.now (length part.now - 1) ≡ 10) }
+    ensures last { 0 < length part.now
+        → (result ≡ true ↔ slice_index part.now (length part.now - 1) ≡ 10) }
 {
     match part.last() {
         Some(last) => *last == b'\n',
