@@ -6,38 +6,38 @@ use Rattle.tn_session.specs.declared.fault.RunFault.{RunFault}
 use Rattle.tn_session.specs.declared.fault.RunFault.TheVariants.{Wire, Header, Session, Inbound, Bind, OutOfMemory}
 use Rattle.tn_session.specs.OneLog.{waits, has_failed, is_at_fault}
 use Rattle.tn_traces.specs.declared.line.Side.{Side}
-use Rattle.tn_traces.specs.declared.negotiated.Seen.{Seen}
+use Rattle.tn_traces.specs.declared.negotiated.Sender.{Sender}
 use Rattle.term_traces.specs.declared.asked.Asked.{Asked}
 use Rattle.term_traces.specs.declared.follower.Follower.{Follower}
 use Rattle.term_traces.specs.declared.line.Next.{Next}
 use Rattle.term_traces.specs.declared.line.Next.TheVariants.{Goes, Stops}
-use Rattle.term_traces.specs.Following.{Following, goes, stops, seen_of, open_of, AddsPiece}
+use Rattle.term_traces.specs.Following.{Following, goes, stops, sender_of, open_of, AddsPiece}
 use Rattle.term_traces.specs.Held.{AddsFault, IsReady, TakesSide, course_seen}
 use Rattle.term_traces.specs.Reading.{same_side}
 use Rattle.term_traces.specs.Text.{fault_text, wire_name, header_name}
 
 module _ (asked : Asked) (number : ℕ) (side : Side) (old : Following) (piece text : List ℕ) where
   -- with what is asked for, written out
-  asked_for : (seen : Seen) (wanted : Bool) (result : Result (Unit {0}) RunFault) (new : Following) (added : List ℕ)
-      → seen ≡ seen_of asked.source → wanted ≡ same_side side asked.side
-      → TakesSide (record { seen = seen; wanted = wanted; line = number }) side old piece text result new added
-      → TakesSide (record { seen = seen_of asked.source; wanted = same_side side asked.side; line = number }) side old piece text result new added
-  asked_for seen wanted result new added is same went =
-      subst (λ w. TakesSide (record { seen = seen_of asked.source; wanted = w; line = number }) side old piece text result new added) same
-      (subst (λ s. TakesSide (record { seen = s; wanted = wanted; line = number }) side old piece text result new added) is went)
+  asked_for : (sender : Sender) (wanted : Bool) (result : Result (Unit {0}) RunFault) (new : Following) (added : List ℕ)
+      → sender ≡ sender_of asked.source side → wanted ≡ same_side side asked.side
+      → TakesSide (record { sender = sender; wanted = wanted; line = number }) side old piece text result new added
+      → TakesSide (record { sender = sender_of asked.source side; wanted = same_side side asked.side; line = number }) side old piece text result new added
+  asked_for sender wanted result new added is same went =
+      subst (λ w. TakesSide (record { sender = sender_of asked.source side; wanted = w; line = number }) side old piece text result new added) same
+      (subst (λ s. TakesSide (record { sender = s; wanted = wanted; line = number }) side old piece text result new added) is went)
 
-  pub piece_goes_on : (seen : Seen) (wanted : Bool) (new : Following) (added : List ℕ) → seen ≡ seen_of asked.source → wanted ≡ same_side side asked.side
-      → TakesSide (record { seen = seen; wanted = wanted; line = number }) side old piece text (Ok tt) new added
+  pub piece_goes_on : (sender : Sender) (wanted : Bool) (new : Following) (added : List ℕ) → sender ≡ sender_of asked.source side → wanted ≡ same_side side asked.side
+      → TakesSide (record { sender = sender; wanted = wanted; line = number }) side old piece text (Ok tt) new added
       → (x : List ℕ) × (added ≡ text ++ x) × AddsPiece asked number side old piece x (goes new)
-  piece_goes_on seen wanted new added is same went =
-      let w = asked_for seen wanted (Ok tt) new added is same went in (
+  piece_goes_on sender wanted new added is same went =
+      let w = asked_for sender wanted (Ok tt) new added is same went in (
         w.0.0,
         w.0.2,
         record { due = w.0.0; standing = waits new.reading (open_of side new); log = w.0.1; adds = (refl, ap goes w.1) },
       )
 
   adds_fault : (why : RunFault) (new : Following) (mid added : List ℕ)
-      → TakesSide (record { seen = seen_of asked.source; wanted = same_side side asked.side; line = number }) side old piece text (Err why) new mid
+      → TakesSide (record { sender = sender_of asked.source side; wanted = same_side side asked.side; line = number }) side old piece text (Err why) new mid
       → AddsFault number why mid added
       → (x : List ℕ) × (added ≡ text ++ x) × AddsPiece asked number side old piece x stops
   adds_fault (Wire fault) new mid added w more = (
@@ -55,14 +55,14 @@ module _ (asked : Asked) (number : ℕ) (side : Side) (old : Following) (piece t
   adds_fault (Bind fault) new mid added w more = absurd more
   adds_fault OutOfMemory new mid added w more = absurd more
 
-  pub piece_stops : (seen : Seen) (wanted : Bool) (why : RunFault) (new : Following) (mid added : List ℕ) (result : Result Next AllocError)
-      → seen ≡ seen_of asked.source → wanted ≡ same_side side asked.side
-      → TakesSide (record { seen = seen; wanted = wanted; line = number }) side old piece text (Err why) new mid
+  pub piece_stops : (sender : Sender) (wanted : Bool) (why : RunFault) (new : Following) (mid added : List ℕ) (result : Result Next AllocError)
+      → sender ≡ sender_of asked.source side → wanted ≡ same_side side asked.side
+      → TakesSide (record { sender = sender; wanted = wanted; line = number }) side old piece text (Err why) new mid
       → OnOk result (AddsFault number why mid added) → IfOk result (λ next. next ≡ Stops)
       → IfOk result (λ next. (x : List ℕ) × (added ≡ text ++ x) × AddsPiece asked number side old piece x (course_seen next new))
-  piece_stops seen wanted why new mid added (Ok next) is same went more last =
-      rw last (adds_fault why new mid added (asked_for seen wanted (Err why) new mid is same went) more)
-  piece_stops seen wanted why new mid added (Err e) is same went more last = tt
+  piece_stops sender wanted why new mid added (Ok next) is same went more last =
+      rw last (adds_fault why new mid added (asked_for sender wanted (Err why) new mid is same went) more)
+  piece_stops sender wanted why new mid added (Err e) is same went more last = tt
 
 pub is_last : (follower : Follower) (result : Result Next AllocError) → IfOk result (λ next. next ≡ Stops) → IfOk result (λ next. next ≡ Goes → IsReady follower)
 is_last follower (Ok next) last = λ goes. absurd (clash (sym last ∙ goes))

@@ -8,8 +8,9 @@ use Rattle.tn_session.specs.OneLog.{Standing, waits, has_failed, is_at_fault, Ha
 use Rattle.tn_traces.specs.declared.line.Side.{Side}
 use Rattle.tn_traces.specs.declared.line.Side.TheVariants.{Host, Terminal}
 use Rattle.tn_traces.specs.declared.negotiated.Negotiated.TheVariants.{Classic}
-use Rattle.tn_traces.specs.declared.negotiated.Seen.{Seen}
-use Rattle.tn_traces.specs.declared.negotiated.Seen.TheVariants.{BothSides, OneSide}
+use Rattle.tn_traces.specs.declared.negotiated.Sender.{Sender}
+use Rattle.tn_traces.specs.declared.negotiated.Sender.TheVariants as sends
+use Rattle.tn_traces.specs.declared.negotiated.Sender.TheVariants.{OnlyHost, OnlyTerminal}
 use Rattle.tn_traces.specs.Line.{Said, nothing, connected, piece, bad, trace_said, stream_said}
 use Rattle.term_traces.specs.declared.asked.Asked.{Asked}
 use Rattle.term_traces.specs.declared.asked.Source.{Source}
@@ -21,9 +22,12 @@ use Rattle.term_traces.specs.Text.{connection_text, refused_text, wire_name, hea
 
 -- ---- what is asked for
 
-abbrev pub seen_of : Source → Seen
-seen_of Trace = BothSides
-seen_of Stream = OneSide
+-- a trace shows both sides, a stream one
+abbrev pub sender_of : Source → Side → Sender
+sender_of Trace Host = sends.Host
+sender_of Trace Terminal = sends.Terminal
+sender_of Stream Host = OnlyHost
+sender_of Stream Terminal = OnlyTerminal
 
 abbrev pub said_from : Source → Side → List ℕ → Said
 said_from Trace side line = trace_said line
@@ -70,7 +74,7 @@ pub data Course : Type 0 where
 
 -- what an event does that this side sent
 abbrev pub act_of : Asked → Side → ℕ → Reading → Told → Log Reading
-act_of asked side number = event_log (seen_of asked.source) (same_side side asked.side) number
+act_of asked side number = event_log (sender_of asked.source side) (same_side side asked.side) number
 
 -- The log of a piece is its text; after a fault of the stream or of a header there is a line of it, and the end.
 abbrev pub AddsLog : ℕ → Side → Following → List ℕ → Standing Reading → List ℕ → Course → Type 0

@@ -31,7 +31,7 @@ course_seen Stops following = stops
 -- a piece of what a side sent was taken, and the other side's stream is as it was
 abbrev pub TakesSide : Task → Side → Following → List ℕ → List ℕ → Result (Unit {0}) RunFault → Following → List ℕ → Type 0
 TakesSide task side old piece text result new added =
-    TakesPiece (event_log task.seen task.wanted task.line) (open_of side old) old.reading piece text result (open_of side new) new.reading added
+    TakesPiece (event_log task.sender task.wanted task.line) (open_of side old) old.reading piece text result (open_of side new) new.reading added
     × (new ≡ with_open side old (open_of side new) new.reading)
 
 -- the line of a fault was added

@@ -6,7 +6,7 @@ use Rattle.tn_session.specs.declared.fault.RunFault.TheVariants.{Header as Heade
 use Rattle.tn_session.specs.Runs.{Log, going, failed}
 use Rattle.tn_traces.specs.declared.line.Side.{Side}
 use Rattle.tn_traces.specs.declared.line.Side.TheVariants.{Host, Terminal}
-use Rattle.tn_traces.specs.declared.negotiated.Seen.{Seen}
+use Rattle.tn_traces.specs.declared.negotiated.Sender.{Sender}
 use Rattle.tn_traces.specs.Negotiated.{negotiated_after}
 use Rattle.tn_traces.specs.Record.{Kept, kept_of}
 use Rattle.term_traces.specs.declared.piece.Reading.{Reading}
@@ -23,13 +23,13 @@ abbrev pub kept_log : ℕ → Reading → Result Kept HeaderFault → Log Readin
 kept_log line reading (Ok kept) = going (record_text reading.count line kept) (record reading { count = count_after reading.count kept })
 kept_log line reading (Err fault) = failed (HeaderFails fault)
 
-abbrev pub negotiated_log : Seen → Reading → Told → Log Reading
-negotiated_log seen reading event = going [] (record reading { now = negotiated_after seen reading.now event })
+abbrev pub negotiated_log : Sender → Reading → Told → Log Reading
+negotiated_log sender reading event = going [] (record reading { now = negotiated_after sender reading.now event })
 
 -- The text of an event that ends in the line of this number: that of a record which is asked for. Every event counts for
 -- what is agreed.
-abbrev pub event_log : Seen → Bool → ℕ → Reading → Told → Log Reading
-event_log seen wanted line reading (told_record bytes) = if wanted then kept_log line reading (kept_of reading.now bytes) else going [] reading
-event_log seen wanted line reading (told_verb verb option) = negotiated_log seen reading (told_verb verb option)
-event_log seen wanted line reading (told_sub option parameters) = negotiated_log seen reading (told_sub option parameters)
-event_log seen wanted line reading (told_passed byte) = negotiated_log seen reading (told_passed byte)
+abbrev pub event_log : Sender → Bool → ℕ → Reading → Told → Log Reading
+event_log sender wanted line reading (told_record bytes) = if wanted then kept_log line reading (kept_of reading.now bytes) else going [] reading
+event_log sender wanted line reading (told_verb verb option) = negotiated_log sender reading (told_verb verb option)
+event_log sender wanted line reading (told_sub option parameters) = negotiated_log sender reading (told_sub option parameters)
+event_log sender wanted line reading (told_passed byte) = negotiated_log sender reading (told_passed byte)

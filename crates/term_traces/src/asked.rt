@@ -2,10 +2,10 @@
 
 ghost use Rattle.std.specs.Prelude.{◌≡◌, IfOk};
 ghost use Rattle.tn_traces.specs.Held.{said_seen};
-ghost use Rattle.term_traces.specs.Following.{seen_of, said_of};
+ghost use Rattle.term_traces.specs.Following.{sender_of, said_of};
 
 use std::alloc::{AllocError, Global};
-use tn_traces::{Said, Seen, Side, stream_line, trace_line};
+use tn_traces::{Said, Sender, Side, stream_line, trace_line};
 
 /// The most bytes of a line, without its end.
 const MOST_LINE: usize = 16_777_216;
@@ -29,13 +29,15 @@ pub struct Asked {
 }
 
 impl Asked {
-    /// The sides that the source shows.
-    pub(crate) fn seen(self) -> Seen
-        ensures { result ≡ seen_of self.source }
+    /// Who sends what a side sent: a trace shows both sides, a stream one.
+    pub(crate) fn sender(self, side: Side) -> Sender
+        ensures { result ≡ sender_of self.source side }
     {
-        match self.source {
-            Source::Trace => Seen::BothSides,
-            Source::Stream => Seen::OneSide,
+        match (self.source, side) {
+            (Source::Trace, Side::Host) => Sender::Host,
+            (Source::Trace, Side::Terminal) => Sender::Terminal,
+            (Source::Stream, Side::Host) => Sender::OnlyHost,
+            (Source::Stream, Side::Terminal) => Sender::OnlyTerminal,
         }
     }
 

@@ -63,7 +63,7 @@ fn take_piece_line(
     ensures ready { IfOk result (λ next. next ≡ Goes → IsReady follower.new) }
 {
     let task = Task {
-        seen: asked.seen(),
+        sender: asked.sender(side),
         wanted: is_same(side, asked.side),
         line: number,
     };

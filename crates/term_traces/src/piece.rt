@@ -12,7 +12,7 @@ use crate::spelled::{len_of, open_after};
 use crate::text::{is_line, push_record};
 use std::alloc::Global;
 use tn_session::RunFault;
-use tn_traces::{Negotiated, Seen, negotiated_after, read_record};
+use tn_traces::{Negotiated, Sender, negotiated_after, read_record};
 use tn_wire::{Deframer, Event, Step};
 
 /// What is known of a connection beside what is open of its streams.
@@ -27,8 +27,8 @@ pub(crate) struct Reading {
 /// What is to be done with the events of a piece.
 #[derive(Clone, Copy, Debug, PartialEq, Eq)]
 pub(crate) struct Task {
-    /// The sides that are seen.
-    pub(crate) seen: Seen,
+    /// Who sent it.
+    pub(crate) sender: Sender,
     /// Whether the records are asked for.
     pub(crate) wanted: bool,
     /// The number of the line, from 1.
@@ -66,14 +66,15 @@ fn take_event(
     out: &mut String,
     event: &Event<'_>,
 ) -> Result<(), RunFault>
-    ensures { TakesEvent (event_log task.seen task.wanted task.line reading.old (told_of event.now))
+    ensures { TakesEvent
+        (event_log task.sender task.wanted task.line reading.old (told_of event.now))
         (string_bytes out.old) result reading.new (string_bytes out.new) }
 {
     match event {
         Event::Record(bytes) if task.wanted => take_record(alloc, task.line, reading, out, bytes),
         Event::Record(_bytes) => Ok(()),
         other => {
-            reading.now = negotiated_after(task.seen, reading.now, other);
+            reading.now = negotiated_after(task.sender, reading.now, other);
             Ok(())
         }
     }
@@ -90,7 +91,7 @@ pub(crate) fn take_piece(
     piece: &[u8],
 ) -> Result<(), RunFault>
     requires open { IsOpen deframer.old count.old }
-    ensures taken { TakesPiece (event_log task.seen task.wanted task.line) deframer.old.content
+    ensures taken { TakesPiece (event_log task.sender task.wanted task.line) deframer.old.content
         reading.old piece.now (string_bytes out.old) result deframer.new.content reading.new
         (string_bytes out.new) }
     ensures open { OnOk result (IsOpen deframer.new count.new) }

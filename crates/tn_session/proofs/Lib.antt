@@ -19,3 +19,5 @@ pub mod OneLog
 pub mod TouchedPairs
 pub mod LayoutKept
 pub mod OutcomeLaws
+pub mod TraceHeard
+pub mod TraceLaws

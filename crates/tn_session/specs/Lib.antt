@@ -20,3 +20,4 @@ pub mod Ran
 pub mod TerminalRuns
 pub mod OneLog
 pub mod Outcomes
+pub mod Traced

@@ -4,6 +4,7 @@ ghost use Rattle.tn_session.specs.Pair.{PairsAgree, PairsSettle, PairsEnd, Termi
 ghost use Rattle.tn_session.specs.TerminalLog.{TerminalRunning};
 ghost use Rattle.tn_session.specs.HostLog.{HostRunning};
 ghost use Rattle.tn_session.specs.OneLog.{HaveOneLog, LogsGoOn};
+ghost use Rattle.tn_session.specs.Traced.{TerminalsAreTold, HostsAreTold};
 ghost use Rattle.tn_session.specs.Outcomes.{AnswersFinish, AnswersEndLogs, OutcomesAreTouched};
 
 /// Whatever a terminal's device, a host's layout, and the choices that both are made with, and in whatever order the
@@ -45,4 +46,12 @@ pub fn outcome_law()
     ensures finishes { AnswersFinish }
     ensures log { AnswersEndLogs }
     ensures outcome { OutcomesAreTouched }
+{}
+
+/// A trace that shows both sides tells of a session what its ends hold. Whatever events come to a terminal, if it refuses
+/// none and is ready, the rule for traces (`tn_traces::negotiated_after`), over these events with the terminal's reply
+/// behind each, says that the session is enhanced exactly where the terminal holds that it is; and so it is with a host.
+pub fn trace_law()
+    ensures terminals { TerminalsAreTold }
+    ensures hosts { HostsAreTold }
 {}

@@ -37,7 +37,7 @@ pub use fault::RunFault;
 pub use history::History;
 pub use host::HostCore;
 pub use host_session::host_run;
-pub use laws::{delivery_law, one_log, outcome_law, pair_law, reply_law};
+pub use laws::{delivery_law, one_log, outcome_law, pair_law, reply_law, trace_law};
 pub use outcome::HostOutcome;
 pub use report::{Report, RunEnd};
 pub use session::{Agreed, Out, SessionFault, Told};

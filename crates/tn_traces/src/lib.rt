@@ -7,5 +7,5 @@ mod negotiated;
 mod record;
 
 pub use line::{Said, Side, stream_line, trace_line};
-pub use negotiated::{Negotiated, Seen, is_tn3270e_off, negotiated_after};
+pub use negotiated::{Negotiated, Sender, is_tn3270e_off, negotiated_after};
 pub use record::{Kept, read_record};
