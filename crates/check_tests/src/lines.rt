@@ -95,7 +95,7 @@ fn push_many(alloc: Global, out: &mut String, words: &str) -> Result<()> {
 fn lines_of(alloc: Global, bytes: &[u8]) -> Result<String> {
     let record = Record::read(Mode::Bits14, bytes)?;
     let mut out = String::new(alloc);
-    push_record(alloc, &mut out, &record)?;
+    push_record(&mut out, &record)?;
     Ok(out)
 }
 
@@ -166,7 +166,7 @@ fn push_lent(out: &mut String, order: &OwnedOrder) -> Result<(), AllocError> {
 fn line_of_bytes(alloc: Global, name: &str, bytes: &[u8]) -> Result<String, AllocError> {
     let mut line = String::from_str(alloc, name)?;
     line.push(' ')?;
-    order_lines::push_bytes(alloc, &mut line, bytes)?;
+    order_lines::push_bytes(&mut line, bytes)?;
     Ok(line)
 }
 
@@ -202,7 +202,7 @@ fn push_pairs(alloc: Global, out: &mut String, words: &str) -> Result<()> {
 fn printed_bytes(alloc: Global, first: u8, rest: &[u8]) -> Result<String, AllocError> {
     let mut out = String::new(alloc);
     push_hex(&mut out, first)?;
-    order_lines::push_bytes(alloc, &mut out, rest)?;
+    order_lines::push_bytes(&mut out, rest)?;
     Ok(out)
 }
 

@@ -1,12 +1,14 @@
 -- Words consist of plain characters: from the space up to the last of ASCII.
-use Rattle.std.proofs.Common.{◌≡◌, ◌<◌, ℕ, suc, ◌/◌, ◌%◌, ◌^◌, Bool, true, false, ◌&&◌, List, [], ◌∷◌, ◌++◌, slice_index, refl, ◌∙◌, arith}
+use Rattle.std.proofs.Common.{◌≡◌, ◌<◌, ℕ, suc, ◌/◌, ◌%◌, ◌^◌, Bool, true, false, ◌&&◌, ◌==◌, ltb, List, [], ◌∷◌, ◌++◌, slice_index, refl, ◌∙◌, arith}
 use Rattle.std.specs.Fmt.{decimal, digit_glyph}
 use Rattle.std.specs.Char.{is_ascii_digit}
-use Rattle.std.specs.Str.{all_ascii_digits}
+use Rattle.std.specs.Str.{all_ascii_digits, IsAscii}
+use Rattle.std.proofs.lemmas.Bool.{eqb-true, ltb-true}
 use Rattle.std.proofs.lemmas.Bool.Decides.{nat_tests}
 use Rattle.std.proofs.lemmas.Fmt.{digits_decimal}
 use Rattle.std.proofs.lemmas.Str.Parse.{numerals_by_value, tells_all_ascii_digits, IsNumeralModel}
 use Rattle.std.specs.Str.Parse.{digits_value}
+use Rattle.std.proofs.lemmas.Str.Ascii.{IsAscii-from_reads}
 use Rattle.std.proofs.lemmas.List.Folds.{list_all-append}
 use Rattle.hex.specs.Hex.{IsBytes, encode_with, encode_upper, upper_digits}
 use Rattle.ds_codec.proofs.Below.{each_below, both_true}
@@ -41,6 +43,27 @@ glyph_test d = is_plain (digit_glyph true d)
 
 pub plain-glyph : (d : ℕ) → d < 16 → is_plain (digit_glyph true d) ≡ true
 plain-glyph d lt = each_below glyph_test 16 d refl lt
+
+-- both tables give a digit the same glyph, of ASCII
+abbrev glyphs_test : ℕ → Bool
+glyphs_test d = slice_index upper_digits d == digit_glyph true d
+
+pub glyph_at : (d : ℕ) → d < 16 → slice_index upper_digits d ≡ digit_glyph true d
+glyph_at d lt = eqb-true _ _ (each_below glyphs_test 16 d refl lt)
+
+abbrev ascii_test : ℕ → Bool
+ascii_test d = ltb (slice_index upper_digits d) 128
+
+pub ascii_at : (d : ℕ) → d < 16 → slice_index upper_digits d < 128
+ascii_at d lt = ltb-true _ _ (each_below ascii_test 16 d refl lt)
+
+pub ascii_digits : IsAscii upper_digits
+ascii_digits = IsAscii-from_reads upper_digits 16 (omega arith) ascii_at
+
+pub encode-append : (t xs ys : List ℕ) → encode_with t (xs ++ ys) ≡ encode_with t xs ++ encode_with t ys
+unfolding encode_with
+encode-append t [] ys = refl
+encode-append t (x ∷ xs) ys = rw (encode-append t xs ys) refl
 
 abbrev table_test : ℕ → Bool
 table_test d = is_plain (slice_index upper_digits d)

@@ -1,29 +1,73 @@
 //! A record as lines of words.
 
-ghost use Rattle.std.specs.Prelude.{◌≡◌, ◌++◌, ◌<◌, OnOk, codes};
+ghost use Rattle.std.specs.Prelude.{◌≡◌, ◌++◌, ◌≤◌, ◌<◌, ◌*◌, true, length, OnOk, codes};
 ghost use Rattle.std.specs.String.{string_bytes};
 ghost use Rattle.std.specs.List.{flat_map};
-ghost use Rattle.std.specs.Fmt.{decimal};
+ghost use Rattle.std.specs.Fmt.{decimal, digit_glyph};
 ghost use Rattle.hex.specs.Hex.{encode_upper};
 ghost use Rattle.ds_codec.specs.Order.{item_of, site_of};
 ghost use Rattle.order_lines.specs.Print.{hex_byte, pair_word, pair_words, character_word, order_words, command_words, order_line, record_lines};
 
 use ds_codec::{Char, Command, Order, Placed, Record};
-use std::alloc::{AllocError, Global};
+use std::alloc::AllocError;
+
+/// The digits, in upper case.
+const DIGITS: &[u8; 16] = b"0123456789ABCDEF";
+
+/// So many bytes are spelled at once.
+const PART: usize = 64;
+
+/// The digit of a value.
+fn digit(value: u8) -> char
+    requires { value < 16 }
+    ensures glyph { result ≡ digit_glyph true value }
+    ensures ascii { result < 128 }
+{
+    char::from(DIGITS[usize::from(value)])
+}
 
 /// A byte as two upper-case hexadecimal digits.
 pub fn push_hex(out: &mut String, byte: u8) -> Result<(), AllocError>
     ensures { OnOk result (string_bytes out.new ≡ string_bytes out.old ++ hex_byte byte) }
 {
-    write!(out, "{byte:02X}")
+    out.push(digit(byte / 16))?;
+    out.push(digit(byte % 16))
+}
+
+/// Stores the digits of bytes, two for each.
+fn store_digits(digits: &mut [u8], bytes: &[u8])
+    requires { length digits.old ≡ 2 * length bytes.now }
+    ensures { digits.new ≡ encode_upper bytes.now }
+{
+    'bytes: for i in 0..bytes.len() {
+        let byte = bytes[i];
+        digits[2 * i] = DIGITS[usize::from(byte / 16)];
+        digits[2 * i + 1] = DIGITS[usize::from(byte % 16)];
+    }
+}
+
+fn push_part(out: &mut String, bytes: &[u8]) -> Result<(), AllocError>
+    requires { length bytes.now ≤ 64 }
+    ensures { OnOk result (string_bytes out.new ≡ string_bytes out.old ++ encode_upper bytes.now) }
+{
+    let mut room = [0; 2 * PART];
+    let digits = &mut room[..2 * bytes.len()];
+    store_digits(digits, bytes);
+    // SAFETY: digits are ASCII.
+    out.push_str(unsafe { str::from_utf8_unchecked(digits) })
 }
 
 /// Bytes in upper-case hexadecimal.
-pub fn push_bytes(alloc: Global, out: &mut String, bytes: &[u8]) -> Result<(), AllocError>
+pub fn push_bytes(out: &mut String, bytes: &[u8]) -> Result<(), AllocError>
     ensures { OnOk result (string_bytes out.new ≡ string_bytes out.old ++ encode_upper bytes.now) }
 {
-    let text = hex::encode_upper(alloc, bytes)?;
-    out.push_str(text.as_str())
+    let mut rest = bytes;
+    while !rest.is_empty() {
+        let (part, others) = rest.split_at(rest.len().min(PART));
+        push_part(out, part)?;
+        rest = others;
+    }
+    Ok(())
 }
 
 fn push_pair(out: &mut String, kind: u8, value: u8) -> Result<(), AllocError>
@@ -73,14 +117,14 @@ fn push_repeat(out: &mut String, address: u32, character: Char) -> Result<(), Al
     push_character(out, character)
 }
 
-fn push_order(alloc: Global, out: &mut String, order: &Order<'_>) -> Result<(), AllocError>
+fn push_order(out: &mut String, order: &Order<'_>) -> Result<(), AllocError>
     ensures { OnOk result (string_bytes out.new ≡ string_bytes out.old
         ++ order_words (item_of order.now)) }
 {
     match order {
         Order::Text(run) => {
             out.push_str("TEXT ")?;
-            push_bytes(alloc, out, run)
+            push_bytes(out, run)
         }
         Order::Sf(attribute) => push_named(out, "SF ", attribute.bits()),
         Order::Sfe(pairs) => {
@@ -119,31 +163,31 @@ fn push_command(out: &mut String, command: Command) -> Result<(), AllocError>
     }
 }
 
-fn push_order_line(alloc: Global, out: &mut String, placed: &Placed<'_>) -> Result<(), AllocError>
+fn push_order_line(out: &mut String, placed: &Placed<'_>) -> Result<(), AllocError>
     ensures { OnOk result (string_bytes out.new ≡ string_bytes out.old
         ++ order_line (site_of placed.now)) }
 {
-    push_order(alloc, out, &placed.order)?;
+    push_order(out, &placed.order)?;
     out.push_str("\n")
 }
 
-fn push_orders(alloc: Global, out: &mut String, message: &Record<'_>) -> Result<(), AllocError>
+fn push_orders(out: &mut String, message: &Record<'_>) -> Result<(), AllocError>
     ensures { OnOk result (string_bytes out.new ≡ string_bytes out.old
         ++ flat_map order_line message.now.orders) }
 {
     for placed in message.orders() {
-        push_order_line(alloc, out, &placed)?;
+        push_order_line(out, &placed)?;
     }
     Ok(())
 }
 
 /// The lines of a record: its command, an order a line, and an empty line.
-pub fn push_record(alloc: Global, out: &mut String, message: &Record<'_>) -> Result<(), AllocError>
+pub fn push_record(out: &mut String, message: &Record<'_>) -> Result<(), AllocError>
     ensures { OnOk result (string_bytes out.new ≡ string_bytes out.old
         ++ record_lines message.now) }
 {
     push_command(out, message.command())?;
     out.push_str("\n")?;
-    push_orders(alloc, out, message)?;
+    push_orders(out, message)?;
     out.push_str("\n")
 }

@@ -14,7 +14,7 @@ use ds_screen::text_of;
 use order_lines::push_bytes;
 use scr_check::Bound;
 use scr_layout::Entry;
-use std::alloc::{AllocError, Global};
+use std::alloc::AllocError;
 
 /// How the characters of a field are printed.
 #[derive(Clone, Copy, Debug, PartialEq, Eq)]
@@ -47,24 +47,18 @@ fn push_text(out: &mut String, raw: &[u8]) -> Result<(), AllocError>
 }
 
 /// The characters of a field.
-fn push_characters(
-    alloc: Global,
-    out: &mut String,
-    form: Form,
-    pair: &Bound<'_>,
-) -> Result<(), AllocError>
+fn push_characters(out: &mut String, form: Form, pair: &Bound<'_>) -> Result<(), AllocError>
     ensures { OnOk result (string_bytes out.new
         ≡ string_bytes out.old ++ field_text form (bound_seen pair.now).characters) }
 {
     let raw = pair.raw;
     match form {
-        Form::Hexadecimal => push_bytes(alloc, out, raw),
+        Form::Hexadecimal => push_bytes(out, raw),
         Form::Text => push_text(out, raw),
     }
 }
 
 fn push_field(
-    alloc: Global,
     out: &mut String,
     form: Form,
     entries: &[Entry],
@@ -75,13 +69,12 @@ fn push_field(
 {
     out.push_str(name_at(entries, pair.entry))?;
     out.push_str(" ")?;
-    push_characters(alloc, out, form, pair)?;
+    push_characters(out, form, pair)?;
     out.push_str("\n")
 }
 
 /// The lines of bound fields, in the order of the answer.
 pub(crate) fn push_fields(
-    alloc: Global,
     out: &mut String,
     form: Form,
     entries: &[Entry],
@@ -91,7 +84,7 @@ pub(crate) fn push_fields(
         ++ flat_map (field_line form entries.now) (map bound_seen bound.now)) }
 {
     for pair in bound {
-        push_field(alloc, out, form, entries, pair)?;
+        push_field(out, form, entries, pair)?;
     }
     Ok(())
 }

@@ -77,7 +77,7 @@ fn push_read(
     match bind(alloc, layout, answer) {
         Ok(bound) => {
             push_head(out, index, answer)?;
-            push_fields(alloc, out, form, layout.entries(), bound.as_slice())?;
+            push_fields(out, form, layout.entries(), bound.as_slice())?;
             Ok(true)
         }
         Err(BindError::Refused(fault)) => {

@@ -56,7 +56,6 @@ fn name_at(entries: &[Entry], index: usize) -> &str
 }
 
 fn push_field(
-    alloc: Global,
     out: &mut String,
     entries: &[Entry],
     field: &(usize, Vec<u8>),
@@ -66,12 +65,11 @@ fn push_field(
 {
     out.push_str(name_at(entries, field.0))?;
     out.push_str(" ")?;
-    push_bytes(alloc, out, field.1.as_slice())?;
+    push_bytes(out, field.1.as_slice())?;
     out.push_str("\n")
 }
 
 fn push_fields(
-    alloc: Global,
     out: &mut String,
     entries: &[Entry],
     fields: &[(usize, Vec<u8>)],
@@ -80,13 +78,12 @@ fn push_fields(
         ++ flat_map (field_line entries.now) (map field_view fields.now)) }
 {
     for field in fields {
-        push_field(alloc, out, entries, field)?;
+        push_field(out, entries, field)?;
     }
     Ok(())
 }
 
 fn push_answered(
-    alloc: Global,
     out: &mut String,
     layout: &Layout,
     number: u16,
@@ -98,7 +95,7 @@ fn push_answered(
     write!(out, "terminal {number} aid ")?;
     push_hex(out, outcome.aid.byte())?;
     out.push_str("\n")?;
-    push_fields(alloc, out, layout.entries(), outcome.fields.as_slice())
+    push_fields(out, layout.entries(), outcome.fields.as_slice())
 }
 
 fn push_fault(out: &mut String, number: u16, why: RunFault) -> Result<(), AllocError>
@@ -121,7 +118,7 @@ pub(crate) fn session_text(
 {
     let mut out = String::new(alloc);
     match session {
-        Ok(outcome) => push_answered(alloc, &mut out, layout, number, outcome)?,
+        Ok(outcome) => push_answered(&mut out, layout, number, outcome)?,
         Err(why) => push_fault(&mut out, number, *why)?,
     }
     Ok(out)

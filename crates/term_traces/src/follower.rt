@@ -56,7 +56,6 @@ impl Follower {
     /// Takes a piece of what a side sent.
     pub(crate) fn take(
         &mut self,
-        alloc: Global,
         task: Task,
         side: Side,
         piece: &[u8],
@@ -69,7 +68,6 @@ impl Follower {
     {
         match side {
             Side::Host => take_piece(
-                alloc,
                 task,
                 &mut self.host,
                 &mut self.host_count,
@@ -78,7 +76,6 @@ impl Follower {
                 piece,
             ),
             Side::Terminal => take_piece(
-                alloc,
                 task,
                 &mut self.terminal,
                 &mut self.terminal_count,

@@ -47,7 +47,6 @@ fn push_run_fault(out: &mut String, number: u64, fault: RunFault) -> Result<Next
 
 /// Takes a piece of what a side sent.
 fn take_piece_line(
-    alloc: Global,
     asked: Asked,
     follower: &mut Follower,
     number: u64,
@@ -67,7 +66,7 @@ fn take_piece_line(
         wanted: is_same(side, asked.side),
         line: number,
     };
-    match follower.take(alloc, task, side, piece, out) {
+    match follower.take(task, side, piece, out) {
         Ok(()) => Ok(Next::Goes),
         Err(fault) => push_run_fault(out, number, fault),
     }
@@ -97,9 +96,7 @@ pub(crate) fn take_line(
             follower.reconnect(alloc)?;
             Ok(Next::Goes)
         }
-        Said::Piece(side, bytes) => {
-            take_piece_line(alloc, asked, follower, number, side, &bytes, out)
-        }
+        Said::Piece(side, bytes) => { take_piece_line(asked, follower, number, side, &bytes, out) }
         Said::Bad => {
             push_refused(out, number)?;
             Ok(Next::Stops)

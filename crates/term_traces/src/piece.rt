@@ -10,7 +10,6 @@ ghost use Rattle.tn_traces.specs.Record.{kept_of};
 
 use crate::spelled::{len_of, open_after};
 use crate::text::{is_line, push_record};
-use std::alloc::Global;
 use tn_session::RunFault;
 use tn_traces::{Negotiated, Sender, negotiated_after, read_record};
 use tn_wire::{Deframer, Event, Step};
@@ -37,7 +36,6 @@ pub(crate) struct Task {
 
 /// Takes a record that is asked for.
 fn take_record(
-    alloc: Global,
     line: u64,
     reading: &mut Reading,
     out: &mut String,
@@ -48,7 +46,7 @@ fn take_record(
 {
     match read_record(reading.now, bytes) {
         Ok(kept) => {
-            push_record(alloc, out, reading.count, line, &kept)?;
+            push_record(out, reading.count, line, &kept)?;
             if is_line(&kept) {
                 reading.count = reading.count.saturating_add(1);
             }
@@ -60,7 +58,6 @@ fn take_record(
 
 /// Takes one event.
 fn take_event(
-    alloc: Global,
     task: Task,
     reading: &mut Reading,
     out: &mut String,
@@ -71,7 +68,7 @@ fn take_event(
         (string_bytes out.old) result reading.new (string_bytes out.new) }
 {
     match event {
-        Event::Record(bytes) if task.wanted => take_record(alloc, task.line, reading, out, bytes),
+        Event::Record(bytes) if task.wanted => take_record(task.line, reading, out, bytes),
         Event::Record(_bytes) => Ok(()),
         other => {
             reading.now = negotiated_after(task.sender, reading.now, other);
@@ -82,7 +79,6 @@ fn take_event(
 
 /// Takes the events of a piece, one after the other, and counts the bytes that are open.
 pub(crate) fn take_piece(
-    alloc: Global,
     task: Task,
     deframer: &mut Deframer,
     count: &mut usize,
@@ -106,7 +102,7 @@ pub(crate) fn take_piece(
             }
             Ok(Step::Event(event)) => {
                 *count = open_after(*count, left - rest.len(), &event);
-                take_event(alloc, task, reading, out, &event)?;
+                take_event(task, reading, out, &event)?;
             }
             Err(fault) => return Err(RunFault::Wire(fault)),
         }

@@ -7,7 +7,7 @@ ghost use Rattle.term_traces.specs.Open.{open_text};
 ghost use Rattle.term_traces.specs.Text.{is_3270, is_line, type_name, header_words, number_words, comment_text, bytes_text, record_text, connection_text, refused_text, wire_name, header_name, fault_text};
 
 use order_lines::push_bytes;
-use std::alloc::{AllocError, Global};
+use std::alloc::AllocError;
 use tn_traces::Kept;
 use tn_wire::{DataType, Header, HeaderFault, WireFault};
 
@@ -80,20 +80,19 @@ fn push_comment(out: &mut String, count: u64, line: u64, kept: &Kept<'_>) -> Res
     out.push_str("\n")
 }
 
-fn push_line(alloc: Global, out: &mut String, kept: &Kept<'_>) -> Result<(), AllocError>
+fn push_line(out: &mut String, kept: &Kept<'_>) -> Result<(), AllocError>
     ensures { OnOk result (string_bytes out.new ≡ string_bytes out.old
         ++ bytes_text (kept_seen kept.now)) }
 {
     if !is_line(kept) {
         return Ok(());
     }
-    push_bytes(alloc, out, kept.body)?;
+    push_bytes(out, kept.body)?;
     out.push_str("\n")
 }
 
 /// A record that ends in the line of a number, after so many that were printed as lines.
 pub(crate) fn push_record(
-    alloc: Global,
     out: &mut String,
     count: u64,
     line: u64,
@@ -103,7 +102,7 @@ pub(crate) fn push_record(
         ++ record_text count line (kept_seen kept.now)) }
 {
     push_comment(out, count, line, kept)?;
-    push_line(alloc, out, kept)
+    push_line(out, kept)
 }
 
 /// That a new connection begins after a line.

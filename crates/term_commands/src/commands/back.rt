@@ -47,7 +47,7 @@ fn push_bytes_line(
 {
     match draft.write(alloc, mode, size.cells()) {
         Ok(bytes) => {
-            push_bytes(alloc, out, bytes.as_slice())?;
+            push_bytes(out, bytes.as_slice())?;
             Ok(out.push_str("\n")?)
         }
         Err(Unwritable::OutOfMemory) => Err(CommandError::OutOfMemory),

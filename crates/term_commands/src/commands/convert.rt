@@ -21,18 +21,12 @@ use std::alloc::Global;
 use std::io::{Read, Write};
 
 /// The lines of the record of this index, unless it is refused.
-fn push_lines(
-    alloc: Global,
-    out: &mut String,
-    mode: Mode,
-    index: usize,
-    bytes: &[u8],
-) -> Result<(), CommandError>
+fn push_lines(out: &mut String, mode: Mode, index: usize, bytes: &[u8]) -> Result<(), CommandError>
     ensures { Gives (λ done. string_bytes out.new) result
         (joined (Ok (string_bytes out.old)) (lines_or_refusal index (read_of mode bytes.now))) }
 {
     match Record::read(mode, bytes) {
-        Ok(record) => Ok(push_record(alloc, out, &record)?),
+        Ok(record) => Ok(push_record(out, &record)?),
         Err(refused) => Err(CommandError::Fault(Fault::RecordRefused(
             index,
             Refused::Read(refused),
@@ -46,7 +40,7 @@ fn lines_printed(alloc: Global, mode: Mode, records: &[Vec<u8>]) -> Result<Strin
 {
     let mut out = String::new(alloc);
     for (index, bytes) in records.iter().enumerate() {
-        push_lines(alloc, &mut out, mode, index, bytes.as_slice())?;
+        push_lines(&mut out, mode, index, bytes.as_slice())?;
     }
     Ok(out)
 }

@@ -26,12 +26,7 @@ use std::alloc::{AllocError, Global};
 use std::io::{Read, Write};
 
 /// The line of a reply; the key leaves the cursor there.
-fn push_reply(
-    alloc: Global,
-    out: &mut String,
-    cursor: u32,
-    reply: &KeyReply,
-) -> Result<(), AllocError>
+fn push_reply(out: &mut String, cursor: u32, reply: &KeyReply) -> Result<(), AllocError>
     ensures { OnOk result
         (string_bytes out.new ≡ string_bytes out.old ++ reply_line cursor (key_reply_seen reply.now)) }
 {
@@ -39,7 +34,7 @@ fn push_reply(
         KeyReply::Done => write!(out, "done {cursor}\n"),
         KeyReply::Inhibited => write!(out, "inhibited {cursor}\n"),
         KeyReply::Ignored => write!(out, "ignored {cursor}\n"),
-        KeyReply::Sent(bytes) => push_sent(alloc, out, "sent ", bytes.as_slice()),
+        KeyReply::Sent(bytes) => push_sent(out, "sent ", bytes.as_slice()),
     }
 }
 
@@ -55,7 +50,7 @@ fn push_key(
     ensures pressed { OnOk result (terminal.new ≡ (pressed terminal.old key).after) }
 {
     let reply = terminal.press(alloc, key)?;
-    push_reply(alloc, out, terminal.screen().cursor(), &reply)
+    push_reply(out, terminal.screen().cursor(), &reply)
 }
 
 /// The lines of keys that are pressed in turn.

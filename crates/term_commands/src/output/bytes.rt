@@ -5,19 +5,14 @@ ghost use Rattle.std.specs.String.{string_bytes};
 ghost use Rattle.term_commands.specs.Screen.{sent_line};
 
 use order_lines::push_bytes;
-use std::alloc::{AllocError, Global};
+use std::alloc::AllocError;
 
 /// A line of a word and bytes in hexadecimal.
-pub fn push_sent(
-    alloc: Global,
-    out: &mut String,
-    word: &str,
-    bytes: &[u8],
-) -> Result<(), AllocError>
+pub fn push_sent(out: &mut String, word: &str, bytes: &[u8]) -> Result<(), AllocError>
     ensures { OnOk result (string_bytes out.new ≡ string_bytes out.old
         ++ sent_line word.now bytes.now) }
 {
     out.push_str(word)?;
-    push_bytes(alloc, out, bytes)?;
+    push_bytes(out, bytes)?;
     out.push_str("\n")
 }

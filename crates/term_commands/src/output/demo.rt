@@ -110,7 +110,7 @@ pub fn push_sends(
     match (terminal, finding.demo()) {
         (Some(terminal), Some(demo)) => {
             let bytes = replay(alloc, &mut terminal.copied(alloc)?, demo)?;
-            push_sent(alloc, out, "sends ", bytes.as_slice())
+            push_sent(out, "sends ", bytes.as_slice())
         }
         (None, _) | (_, None) => Ok(()),
     }
