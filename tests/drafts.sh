@@ -9,7 +9,15 @@ trap 'rm -rf "$work"' EXIT
 passed=0
 failed=0
 for input in "$cases"/show/*/stdin "$cases"/check/*/stdin "$cases"/draft/*/stdin; do
-  "$program" draft < "$input" > "$work/layout.toml" 2> "$work/errors" || continue
+  "$program" draft < "$input" > "$work/layout.toml" 2> "$work/errors" || {
+    # Records may leave no layout, but a layout that is drafted is never refused by its own reading, but for the number of
+    # its fields (L11).
+    if grep '^layout refused: ' "$work/layout.toml" | grep -qv '^layout refused: L11 '; then
+      failed=$((failed + 1))
+      echo "draft of ${input#"$cases"/}: $(head -n 1 "$work/layout.toml")"
+    fi
+    continue
+  }
   # The sizes stand in the layout.
   grep -v '^ *size' "$input" > "$work/records"
   "$program" check "$work/layout.toml" < "$work/records" > "$work/printed" 2> "$work/errors"
