@@ -51,7 +51,7 @@ pub(crate) fn push_text(
 ) -> Result<(), AllocError> {
     push_number(out, u32::from(finding.number()))?;
     out.push_str(": ")?;
-    finding.push_text(out, layout)
+    finding.push_text(out, layout.entries())
 }
 
 /// A finding's number, its text, and its keys by themselves.

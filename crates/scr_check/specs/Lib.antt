@@ -9,6 +9,7 @@ pub mod Promise
 pub mod Leads
 pub mod Demos
 pub mod FindingText
+pub mod BindFaultText
 pub mod Walk
 pub mod Talk
 pub mod TalkSeen

@@ -1,14 +1,15 @@
--- For the code's own proofs: records in turn, under whatever rule looks at each one before it is applied.
-use Rattle.std.specs.Prelude.{◌≡◌, ℕ, ◌+◌, List, [], ◌∷◌, Option, Result, Ok, Err}
+-- Records in turn, under whatever rule looks at each one before it is applied.
+use Rattle.std.specs.Prelude.{◌≡◌, ℕ, ◌+◌, ◌⊎◌, List, [], ◌∷◌, Option, Some, None, Result, Ok, Err}
 use Rattle.ds_codec.specs.declared.refused.Refused as read
 use Rattle.ds_codec.specs.declared.command.Command.{Command}
 use Rattle.ds_codec.specs.Order.{Site}
 use Rattle.ds_codec.specs.Record.{Message}
 use Rattle.ds_codec.specs.Reading.{◌>>=◌, read_of}
+use Rattle.ds_screen.specs.declared.refused.Refused as screen
 use Rattle.ds_screen.specs.Picture.{Picture}
 use Rattle.ds_screen.specs.Outline.{Outlined, IsOutlineOf}
 use Rattle.ds_screen.specs.Records.{shown_of}
-use Rattle.ds_terminal.specs.declared.refused.Refused.TheVariants.{Read}
+use Rattle.ds_terminal.specs.declared.refused.Refused.TheVariants.{Read, Apply}
 use Rattle.scr_check.specs.declared.finding.Finding.{Finding}
 use Rattle.scr_check.specs.declared.finding.Finding.TheVariants.{RecordRefused}
 use Rattle.scr_check.specs.Opening.{applied, unless_found}
@@ -16,6 +17,19 @@ use Rattle.scr_check.specs.Opening.{applied, unless_found}
 -- what the record of a number, with a command and orders, is at fault for before it is applied
 abbrev pub Fault : Type 0
 Fault = ℕ → Command → List Site → Option Finding
+
+-- what was read as the record of this number led from one state to the other, or this stands against it: that it can't
+-- be read, what it is at fault for, that it can't be applied
+abbrev pub TakesBy : {T : Type 0} → Fault → (T → Message → T → Type 0) → (T → Message → screen.Refused → Type 0) → ℕ → Result Message read.Refused → T → Result (Unit {0}) Finding → T → Type 0
+TakesBy fault leads refuses index (Err refused) old result new = result ≡ Err (RecordRefused index (Read refused))
+TakesBy fault leads refuses index (Ok message) old (Ok done) new =
+    (fault index message.command message.orders ≡ None) × leads old message new
+TakesBy fault leads refuses index (Ok message) old (Err finding) new =
+    (fault index message.command message.orders ≡ Some finding)
+    ⊎ ((fault index message.command message.orders ≡ None)
+    × ((why : screen.Refused) × refuses old message why × (finding ≡ RecordRefused index (Apply why))))
+
+-- ---- on pictures
 
 -- the picture that the record of this number leaves, or what stands against it
 abbrev pub taken_by : Fault → ℕ → Picture → Result Message read.Refused → Result Picture Finding

@@ -11,24 +11,50 @@ use crate::bound::Bound;
 use ds_inbound::{FieldSlice, Inbound, chars};
 use scr_layout::{Entry, Layout};
 use std::alloc::{AllocError, AllocFailed, Global};
+use std::fmt;
 use thiserror::Error;
 
 /// Why an answer is not that of a layout's screen.
-#[derive(Clone, Copy, Debug, PartialEq, Eq, Error)]
+#[derive(Clone, Copy, Debug, PartialEq, Eq)]
 pub enum BindFault {
-    /// A field at a place where no entry begins.
-    #[error("B1 NotDeclared")]
+    /// B1: a field at a place where no entry begins.
     NotDeclared,
-    /// A field with more characters than declared.
-    #[error("B2 Longer")]
+    /// B2: a field with more characters than declared.
     Longer,
-    /// A second field at the place of an entry.
-    #[error("B3 Twice")]
+    /// B3: a second field at the place of an entry.
     Twice,
-    /// Characters before the first field.
-    #[error("B4 Lead")]
+    /// B4: characters before the first field.
     Lead,
 }
+
+impl BindFault {
+    ghost use Rattle.scr_check.specs.BindFaultText.{bind_words};
+
+    /// The printed words, as `B2 Longer`.
+    pub fn words(self) -> &'static str
+        ensures { result.now ≡ bind_words self }
+    {
+        match self {
+            BindFault::NotDeclared => "B1 NotDeclared",
+            BindFault::Longer => "B2 Longer",
+            BindFault::Twice => "B3 Twice",
+            BindFault::Lead => "B4 Lead",
+        }
+    }
+}
+
+impl fmt::Display for BindFault {
+    ghost use Rattle.std.specs.Prelude.{Some};
+    ghost use Rattle.scr_check.specs.BindFaultText.{bind_words};
+
+    ghost output = { λ fault. Some (bind_words fault) };
+
+    fn fmt<W: fmt::Write>(&self, f: &mut fmt::Formatter<W>) -> fmt::Result {
+        f.write_str(self.words())
+    }
+}
+
+impl std::error::Error for BindFault {}
 
 /// Why an answer could not be bound.
 #[derive(Clone, Copy, Debug, PartialEq, Eq, Error)]

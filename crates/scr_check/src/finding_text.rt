@@ -6,7 +6,7 @@ ghost use Rattle.scr_check.specs.FindingText.{name_at, finding_text, missing_tex
 
 use crate::finding::{Demo, Finding, Overlong};
 use ds_codec::Size;
-use scr_layout::{Entry, Layout};
+use scr_layout::Entry;
 use std::alloc::AllocError;
 use std::fmt;
 
@@ -23,8 +23,8 @@ impl fmt::Display for Demo {
     }
 }
 
-/// The name of the entry of this index.
-fn name_at(entries: &[Entry], index: usize) -> &str
+/// The name of the layout's entry of this index; none where there is no such entry.
+pub fn name_at(entries: &[Entry], index: usize) -> &str
     ensures { result.now ≡ name_at entries.now index }
 {
     match entries.get(index) {
@@ -82,11 +82,10 @@ impl Finding {
 
     /// Adds the text of the finding's line, without the line's end. Entries go by their names in the layout
     /// that was checked.
-    pub fn push_text(self, out: &mut String, layout: &Layout) -> Result<(), AllocError>
+    pub fn push_text(self, out: &mut String, entries: &[Entry]) -> Result<(), AllocError>
         ensures { OnOk result (string_bytes out.new
-            ≡ string_bytes out.old ++ finding_text layout.now.entries self) }
+            ≡ string_bytes out.old ++ finding_text entries.now self) }
     {
-        let entries = layout.entries();
         match self {
             Finding::RecordRefused(index, refused) => write!(out, "F1 record {index} {refused}"),
             Finding::NoRecord => out.push_str("F2 no record"),

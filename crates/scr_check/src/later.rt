@@ -7,7 +7,7 @@ ghost use Rattle.scr_check.specs.TalkSeen.{OpensLater, Judges};
 use crate::fields::findings_of;
 use crate::finding::{Demo, Finding, Overlong};
 use crate::opening::{ready, writes};
-use crate::taking::{Rule, take_all};
+use crate::taking::{TurnRule, take_all};
 use ds_codec::{Command, Order, Record, Size};
 use ds_screen::Outline;
 use scr_layout::Layout;
@@ -40,7 +40,7 @@ fn depends_on_cursor(outbound: &Record<'_>) -> bool
 /// The rule of a later turn: each record writes, and none depends on the cursor.
 enum LaterTurn {}
 
-impl Rule for LaterTurn {
+impl TurnRule for LaterTurn {
     ghost use Rattle.scr_check.specs.Walk.{later_fault};
 
     ghost fault_of = { later_fault };

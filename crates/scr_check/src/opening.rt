@@ -2,10 +2,10 @@
 
 ghost use Rattle.std.specs.Prelude.{◌≡◌, map, IfOk};
 ghost use Rattle.scr_check.specs.Opening.{erases, writes, command_fault, is_size};
-ghost use Rattle.scr_check.specs.Seen.{IsReadyOn, IsOpening};
+ghost use Rattle.scr_check.specs.Seen.{IsReadyFor, IsReadyOn, IsOpening};
 
 use crate::finding::Finding;
-use crate::taking::{Rule, take_all};
+use crate::taking::{TurnRule, take_all};
 use ds_codec::{Command, Record, Size};
 use ds_screen::{Lock, Outline};
 use scr_layout::Layout;
@@ -53,9 +53,9 @@ fn command_fault(index: usize, command: Command) -> Option<Finding>
 }
 
 /// The rule of the first turn: the first record erases, and each one writes.
-pub(crate) enum FirstTurn {}
+pub enum FirstTurn {}
 
-impl Rule for FirstTurn {
+impl TurnRule for FirstTurn {
     ghost use Rattle.scr_check.specs.Opening.{command_fault};
 
     ghost fault_of = { λ index command orders. command_fault index command };
@@ -71,20 +71,33 @@ fn is_size(size: Size, other: Size) -> bool
     size.rows == other.rows && size.cols == other.cols
 }
 
-/// What keeps the operator from a screen of this size with fields.
+/// What keeps the operator from a screen with this lock, of this size, where one with fields is declared.
+///
+/// # Errors
+///
+/// The first of these: F5 where the keyboard isn't free, F6 where the sizes differ, F7 where it has no field.
+pub fn ready_for(lock: Lock, shown: Size, declared: Size, has_fields: bool) -> Result<(), Finding>
+    ensures { IsReadyFor lock shown declared has_fields result }
+{
+    if lock != Lock::Free {
+        return Err(Finding::KeyboardLocked);
+    }
+    if !is_size(shown, declared) {
+        return Err(Finding::OtherSize(shown, declared));
+    }
+    if has_fields {
+        Ok(())
+    } else {
+        Err(Finding::Unformatted)
+    }
+}
+
+/// What keeps the operator from a screen of this size with fields, by its outline.
 pub(crate) fn ready(outline: &Outline, size: Size) -> Result<(), Finding>
     ensures { IsReadyOn outline.now size result }
 {
-    if outline.lock() != Lock::Free {
-        return Err(Finding::KeyboardLocked);
-    }
-    if !is_size(outline.size(), size) {
-        return Err(Finding::OtherSize(outline.size(), size));
-    }
-    match outline.fields().next() {
-        Some(_) => Ok(()),
-        None => Err(Finding::Unformatted),
-    }
+    let has_fields = outline.fields().next().is_some();
+    ready_for(outline.lock(), outline.size(), size, has_fields)
 }
 
 /// Opens a new terminal of the layout's geometry with the records.

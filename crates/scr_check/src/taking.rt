@@ -1,15 +1,16 @@
 //! Records in turn, each read, looked at by the rule of its turn, and applied.
 
 ghost use Rattle.std.specs.Prelude.{◌≡◌, map};
-ghost use Rattle.scr_check.specs.Taking.{TakesOn, TakesAllOn};
+ghost use Rattle.ds_codec.specs.Reading.{read_of};
+ghost use Rattle.scr_check.specs.Taking.{TakesBy, TakesOn, TakesAllOn};
 
 use crate::finding::Finding;
 use ds_codec::Record;
 use ds_screen::Outline;
-use ds_terminal::{apply_record, read_record};
+use ds_terminal::{RecordTarget, apply_record, read_record};
 
 /// What a turn of a dialogue asks of each record before it is applied.
-pub(crate) trait Rule {
+pub trait TurnRule {
     ghost use Rattle.scr_check.specs.Taking.{Fault};
 
     /// What a record of these parts is at fault for.
@@ -20,25 +21,42 @@ pub(crate) trait Rule {
         ensures { result ≡ fault_of index outbound.now.command outbound.now.orders };
 }
 
-/// Reads and applies the record of this number.
-fn take<R: Rule>(outline: &mut Outline, index: usize, bytes: &[u8]) -> Result<(), Finding>
-    ensures { TakesOn R.fault_of outline.old outline.new index bytes.now result }
+/// Reads the record of this number, looks at it by the rule of its turn, and applies it to whatever takes records.
+///
+/// # Errors
+///
+/// What stands against the record: F1 where it can't be read, or else what the rule tells of it, or else F1 where it
+/// can't be applied.
+pub fn take_by<R: TurnRule, T: RecordTarget>(
+    target: &mut T,
+    index: usize,
+    bytes: &[u8],
+) -> Result<(), Finding>
+    ensures { TakesBy R.fault_of T.leads T.refuses index
+        (read_of (T.mode_of target.old) bytes.now) target.old result target.new }
 {
-    let record = match read_record(outline, bytes) {
+    let record = match read_record(target, bytes) {
         Ok(record) => record,
         Err(refused) => return Err(Finding::RecordRefused(index, refused)),
     };
     if let Some(finding) = R::fault(index, &record) {
         return Err(finding);
     }
-    match apply_record(outline, &record) {
+    match apply_record(target, &record) {
         Ok(_) => Ok(()),
         Err(refused) => Err(Finding::RecordRefused(index, refused)),
     }
 }
 
+/// The same on an outline, whatever picture it outlines.
+fn take<R: TurnRule>(outline: &mut Outline, index: usize, bytes: &[u8]) -> Result<(), Finding>
+    ensures { TakesOn R.fault_of outline.old outline.new index bytes.now result }
+{
+    take_by::<R, Outline>(outline, index, bytes)
+}
+
 /// Takes the records in turn, up to the first against which something stands.
-pub(crate) fn take_all<R: Rule>(outline: &mut Outline, records: &[&[u8]]) -> Result<(), Finding>
+pub(crate) fn take_all<R: TurnRule>(outline: &mut Outline, records: &[&[u8]]) -> Result<(), Finding>
     ensures { TakesAllOn R.fault_of outline.old outline.new
         (map (λ bytes. bytes.now) records.now) result }
 {

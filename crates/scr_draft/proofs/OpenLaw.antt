@@ -14,13 +14,12 @@ use Rattle.ds_screen.specs.Records.{new_picture}
 use Rattle.scr_layout.specs.Layout.{Declaration}
 use Rattle.scr_check.specs.declared.finding.Finding.{Finding}
 use Rattle.scr_check.specs.declared.finding.Finding.TheVariants.{KeyboardLocked, OtherSize, Unformatted}
-use Rattle.scr_check.specs.Opening as checker
-use Rattle.scr_check.specs.Opening.{is_free, is_size, is_none_of, taken_from, opening_of}
+use Rattle.scr_check.specs.Opening.{is_free, is_size, is_none_of, taken_from, ready, opening_of}
 use Rattle.scr_check.specs.Findings.{findings_of, told, Conforms}
 use Rattle.scr_check.proofs.LeadLaws.{opened_geometry}
 use Rattle.scr_draft.specs.declared.opening.Opened.{Opened}
 use Rattle.scr_draft.specs.declared.opening.Opened.TheVariants.{Leads, Stands}
-use Rattle.scr_draft.specs.Opened.{ready, opened, IsOpened}
+use Rattle.scr_draft.specs.Opened.{opened, IsOpened}
 use Rattle.scr_layout.specs.declared.fault.LayoutError.{LayoutError}
 use Rattle.scr_layout.specs.Results.{Gives}
 use Rattle.scr_draft.specs.Draft.{drafted}
@@ -32,56 +31,50 @@ use Rattle.scr_draft.proofs.BestLaw.{draft_left, all_left}
 ok_same : {A E : Type 0} (x y : A) → ◌≡◌ {A = Result A E} (Ok x) (Ok y) → x ≡ y
 ok_same x y is = cc
 
--- ---- ready for a draft, and for a layout of the size
+-- ---- ready for a layout of the size that is shown, and for one of another
 abbrev both_ready : (free other none : Bool) (w : Picture) (size : Size) → Result Picture Finding
 both_ready free other none w size = cond (not free) (Err KeyboardLocked) (cond (not other) (Err (OtherSize w.size size)) (cond none (Err Unformatted) (Ok w)))
 
-abbrev one_ready : (free none : Bool) (w : Picture) → Result Picture Finding
-one_ready free none w = cond (not free) (Err KeyboardLocked) (cond none (Err Unformatted) (Ok w))
+own_ready : (free other own none : Bool) (w p : Picture) (size : Size) → own ≡ true → both_ready free other none w size ≡ Ok p
+    → both_ready free own none w w.size ≡ Ok p
+own_ready false other own none w p size same is = absurd cc
+own_ready true false own none w p size same is = absurd cc
+own_ready true true false none w p size same is = absurd cc
+own_ready true true true true w p size same is = absurd cc
+own_ready true true true false w p size same is = is
 
-fewer_ready : (free other none : Bool) (w p : Picture) (size : Size) → both_ready free other none w size ≡ Ok p → one_ready free none w ≡ Ok p
-fewer_ready false other none w p size is = absurd cc
-fewer_ready true false none w p size is = absurd cc
-fewer_ready true true true w p size is = absurd cc
-fewer_ready true true false w p size is = is
-
-more_ready : (free other none : Bool) (w p : Picture) (size : Size) → other ≡ true → one_ready free none w ≡ Ok p → both_ready free other none w size ≡ Ok p
-more_ready false other none w p size same is = absurd cc
-more_ready true false none w p size same is = absurd cc
-more_ready true true true w p size same is = absurd cc
-more_ready true true false w p size same is = is
-
-ready_is : (free none : Bool) (w p : Picture) → one_ready free none w ≡ Ok p → w ≡ p
-ready_is false none w p is = absurd cc
-ready_is true true w p is = absurd cc
-ready_is true false w p is = ok_same w p is
+ready_is : (free other none : Bool) (w p : Picture) (size : Size) → both_ready free other none w size ≡ Ok p → w ≡ p
+ready_is false other none w p size is = absurd cc
+ready_is true false none w p size is = absurd cc
+ready_is true true true w p size is = absurd cc
+ready_is true true false w p size is = ok_same w p is
 
 own_size : (size : Size) → is_size size size ≡ true
 own_size size = and_from (size.rows == size.rows) (size.cols == size.cols) (eq-eqb size.rows size.rows refl) (eq-eqb size.cols size.cols refl)
 
 -- ---- the records
-opens_on : (size : Size) (p : Picture) (r : Result Picture Finding) → (r >>= checker.ready size) ≡ Ok p → (r >>= ready) ≡ Ok p
+opens_on : (size : Size) (p : Picture) (r : Result Picture Finding) → (r >>= ready size) ≡ Ok p → (r >>= λ v. ready v.size v) ≡ Ok p
 opens_on size p (Err finding) is = absurd cc
-opens_on size p (Ok w) is = fewer_ready (is_free w.lock) (is_size w.size size) (is_none_of (fields_of w.cells)) w p size is
+opens_on size p (Ok w) is =
+    own_ready (is_free w.lock) (is_size w.size size) (is_size w.size w.size) (is_none_of (fields_of w.cells)) w p size (own_size w.size) is
 
 -- what a layout's records open is opened
 opens : (layout : Declaration) (records : List (List ℕ)) (p : Picture) → opening_of layout records ≡ Ok p → opened layout.geometry records ≡ Ok p
 opens layout [] p is = absurd cc
 opens layout (bytes ∷ others) p is = opens_on layout.size p (taken_from 0 (new_picture layout.geometry) (bytes ∷ others)) is
 
-opened_on : (p : Picture) (r : Result Picture Finding) → (r >>= ready) ≡ Ok p → (r >>= checker.ready p.size) ≡ Ok p
+opened_on : (p : Picture) (r : Result Picture Finding) → (r >>= λ v. ready v.size v) ≡ Ok p → (r >>= ready p.size) ≡ Ok p
 opened_on p (Err finding) is = absurd cc
 opened_on p (Ok w) is =
-    let same : w ≡ p = ready_is (is_free w.lock) (is_none_of (fields_of w.cells)) w p is in
-    more_ready (is_free w.lock) (is_size w.size p.size) (is_none_of (fields_of w.cells)) w p p.size
-    (ap (λ (q : Picture). is_size q.size p.size) same ∙ own_size p.size) is
+    let same : w ≡ p = ready_is (is_free w.lock) (is_size w.size w.size) (is_none_of (fields_of w.cells)) w p w.size is in
+    ap (λ (q : Picture). ready q.size w) (sym same) ∙ is
 
 -- what is opened is so for a layout of this geometry and its size
 opened_by : (layout : Declaration) (records : List (List ℕ)) (p : Picture) → layout.size ≡ p.size → opened layout.geometry records ≡ Ok p → opening_of layout records ≡ Ok p
 opened_by layout [] p sized is = absurd cc
 opened_by layout (bytes ∷ others) p sized is =
     let r = taken_from 0 (new_picture layout.geometry) (bytes ∷ others) in
-    ap (λ (s : Size). r >>= checker.ready s) sized ∙ opened_on p r is
+    ap (λ (s : Size). r >>= ready s) sized ∙ opened_on p r is
 
 -- of the terminal's geometry
 plain : Sizes → Picture → Declaration

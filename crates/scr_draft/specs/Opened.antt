@@ -1,27 +1,21 @@
 -- The screen that records open for an operator, whatever its layout.
-use Rattle.std.specs.Prelude.{◌≡◌, ℕ, not, List, [], ◌∷◌, map, Result, Ok, Err, if◌then◌else◌}
+use Rattle.std.specs.Prelude.{◌≡◌, ℕ, List, [], ◌∷◌, map, Result, Ok, Err}
 use Rattle.std.specs.Global.{Vec}
 use Rattle.ds_codec.specs.Geometry.{Sizes}
 use Rattle.ds_codec.specs.Reading.{◌>>=◌}
 use Rattle.ds_screen.specs.Picture.{Picture}
-use Rattle.ds_screen.specs.Fields.{fields_of}
 use Rattle.ds_screen.specs.Records.{new_picture}
 use Rattle.scr_check.specs.declared.finding.Finding.{Finding}
-use Rattle.scr_check.specs.declared.finding.Finding.TheVariants.{NoRecord, KeyboardLocked, Unformatted}
-use Rattle.scr_check.specs.Opening.{is_free, is_none_of, taken_from}
+use Rattle.scr_check.specs.declared.finding.Finding.TheVariants.{NoRecord}
+use Rattle.scr_check.specs.Opening.{taken_from, ready}
 use Rattle.scr_draft.specs.declared.opening.Opened.{Opened}
 use Rattle.scr_draft.specs.declared.opening.Opened.TheVariants.{Leads, Stands}
 
--- the operator can type, on a screen that has fields
-abbrev pub ready : Picture → Result Picture Finding
-ready v =
-    if not (is_free v.lock) then Err KeyboardLocked
-    else (if is_none_of (fields_of v.cells) then Err Unformatted else Ok v)
-
--- the picture that all records leave on a new terminal, or the one finding that comes first, as the checker has it
+-- the picture that all records leave on a new terminal, or the one finding that comes first, as the checker has it of a
+-- layout for the size that they leave
 abbrev pub opened : Sizes → List (List ℕ) → Result Picture Finding
 opened geometry [] = Err NoRecord
-opened geometry (bytes ∷ others) = taken_from 0 (new_picture geometry) (bytes ∷ others) >>= ready
+opened geometry (bytes ∷ others) = taken_from 0 (new_picture geometry) (bytes ∷ others) >>= λ v. ready v.size v
 
 -- ---- as the program holds it
 

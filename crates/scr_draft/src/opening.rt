@@ -2,14 +2,13 @@
 
 ghost use Rattle.std.specs.Prelude.{◌≡◌, IfOk};
 ghost use Rattle.ds_codec.specs.Reading.{read_of};
-ghost use Rattle.scr_check.specs.Opening.{erases, writes, command_fault, taken, taken_from};
-ghost use Rattle.scr_draft.specs.Opened.{ready, opened, held, LeadsTo, IsOpened};
+ghost use Rattle.scr_check.specs.Opening.{taken, taken_from, ready};
+ghost use Rattle.scr_draft.specs.Opened.{opened, held, LeadsTo, IsOpened};
 ghost use Rattle.scr_draft.specs.Best.{FitsNone};
 
-use ds_codec::{Command, Geometry};
-use ds_screen::{Lock, PlaneCells, Screen};
-use ds_terminal::{apply_record, read_record};
-use scr_check::Finding;
+use ds_codec::Geometry;
+use ds_screen::{PlaneCells, Screen};
+use scr_check::{Finding, FirstTurn, ready_for, take_by};
 use std::alloc::{AllocError, Global};
 
 /// Where records lead: to a screen, or to the one finding that comes first.
@@ -19,56 +18,12 @@ pub enum Opened {
     Stands(Finding),
 }
 
-fn erases(command: Command) -> bool
-    ensures { result ≡ erases command }
-{
-    matches!(
-        command,
-        Command::EraseWrite(_) | Command::EraseWriteAlternate(_)
-    )
-}
-
-fn writes(command: Command) -> bool
-    ensures { result ≡ writes command }
-{
-    match command {
-        Command::ReadBuffer
-        | Command::ReadModified
-        | Command::ReadModifiedAll
-        | Command::NoOperation => false,
-        _ => true,
-    }
-}
-
-/// What the command of the record of this number is at fault for.
-fn command_fault(index: usize, command: Command) -> Option<Finding>
-    ensures { result ≡ command_fault index command }
-{
-    if index == 0 && !erases(command) {
-        Some(Finding::FirstNotErase)
-    } else if writes(command) {
-        None
-    } else {
-        Some(Finding::NotAWrite(index))
-    }
-}
-
-/// Reads and applies the record of this number.
+/// Reads and applies the record of this number, which in the first turn erases.
 fn take(screen: &mut Screen<PlaneCells>, index: usize, bytes: &[u8]) -> Result<(), Finding>
     ensures { LeadsTo screen.new
         (taken index screen.old (read_of screen.old.geometry.mode bytes.now)) result }
 {
-    let record = match read_record(screen, bytes) {
-        Ok(record) => record,
-        Err(refused) => return Err(Finding::RecordRefused(index, refused)),
-    };
-    if let Some(finding) = command_fault(index, record.command()) {
-        return Err(finding);
-    }
-    match apply_record(screen, &record) {
-        Ok(_) => Ok(()),
-        Err(refused) => Err(Finding::RecordRefused(index, refused)),
-    }
+    take_by::<FirstTurn, Screen<PlaneCells>>(screen, index, bytes)
 }
 
 /// Takes the records in turn, up to the first against which something stands.
@@ -83,15 +38,11 @@ fn take_all(screen: &mut Screen<PlaneCells>, records: &[Vec<u8>]) -> Result<(), 
 
 /// What keeps the operator from a screen with fields.
 fn ready(screen: &Screen<PlaneCells>) -> Result<(), Finding>
-    ensures { LeadsTo screen.now (ready screen.now) result }
+    ensures { LeadsTo screen.now (ready screen.now.size screen.now) result }
 {
-    if screen.lock() != Lock::Free {
-        return Err(Finding::KeyboardLocked);
-    }
-    match screen.fields().next() {
-        Some(_) => Ok(()),
-        None => Err(Finding::Unformatted),
-    }
+    let size = screen.size();
+    let has_fields = screen.fields().next().is_some();
+    ready_for(screen.lock(), size, size, has_fields)
 }
 
 /// Opens a new terminal with records: the screen on which an operator can type, or the finding of the checker that

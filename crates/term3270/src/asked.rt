@@ -12,7 +12,7 @@ use tn_traces::Side;
 
 /// A command, with the files, the options and the place on the net that it was given.
 #[derive(Clone, Copy, Debug, PartialEq, Eq)]
-pub enum Asked<'a> {
+pub(crate) enum Asked<'a> {
     Show,
     Check {
         layout: &'a str,
@@ -52,7 +52,7 @@ impl<'a> Asked<'a> {
     ghost use Rattle.term3270.specs.Asked.{Asks};
 
     /// What parsed words ask for. The default command is `show`.
-    pub fn from_matches(matches: &ArgMatches<'a>) -> Asked<'a>
+    pub(crate) fn from_matches(matches: &ArgMatches<'a>) -> Asked<'a>
         ensures { Asks (subcommand_rows_of matches.now) result }
     {
         match named_in(matches) {

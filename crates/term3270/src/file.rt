@@ -6,7 +6,7 @@ use std::{fs, io};
 
 /// The file of a path, as a reader. That it can't be opened is the error of the first read.
 #[derive(Drop)]
-pub struct FileAt<'a> {
+pub(crate) struct FileAt<'a> {
     pub rt: &'a HostRuntime,
     pub path: &'a str,
     /// The file, once it is open.

@@ -19,7 +19,7 @@ use term_sessions::{Prepared, Screen, Visits, attach_on, prepare_serve, serve_on
 use tn_session::Device;
 
 /// Serves a layout's screen at a place to so many terminals. The port is bound once the screen is found fit.
-pub fn run_serve<L: Read, R: Read, W: Write>(
+pub(crate) fn run_serve<L: Read, R: Read, W: Write>(
     rt: &HostRuntime,
     layout: &mut L,
     records: &mut R,
@@ -60,7 +60,7 @@ fn serve_at<W: Write>(
 
 /// Attaches a terminal of the device of this name to the host at a place, and presses keys. The keys are read once the device
 /// is known, and the host is called once the keys are good.
-pub fn run_attach<K: Read, W: Write>(
+pub(crate) fn run_attach<K: Read, W: Write>(
     rt: &HostRuntime,
     place: Place<'_>,
     keys: &mut K,

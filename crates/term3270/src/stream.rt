@@ -5,7 +5,7 @@ use std::io::{Read, Write};
 
 /// A stream and what people call it.
 #[derive(Drop)]
-pub struct Named<'a, S> {
+pub(crate) struct Named<'a, S> {
     pub rt: &'a HostRuntime,
     pub name: &'a str,
     pub stream: S,

@@ -13,7 +13,7 @@ const MOST_GATHERED: usize = 65_536;
 /// A line over TCP. It gathers what is written, and sends it before each read, at a flush, or where it is more than 65,536
 /// bytes; so all that is due between two reads goes out in one write.
 #[derive(Drop)]
-pub struct TcpLine {
+pub(crate) struct TcpLine {
     stream: BufWriter<TcpStream>,
 }
 
@@ -52,7 +52,7 @@ impl Write for TcpLine {
 
 /// A place on the net: a host's name or address, and a port.
 #[derive(Clone, Copy, Debug)]
-pub struct Place<'a> {
+pub(crate) struct Place<'a> {
     pub host: &'a str,
     pub port: u16,
 }
@@ -63,7 +63,7 @@ impl Place<'_> {
     ghost use Rattle.term_commands.specs.Streams.{failure_of, IsWantOrFailure};
 
     /// Says on standard error what failed there and why, and gives the status.
-    pub fn report(self, rt: &HostRuntime, error: &io::Error) -> Status
+    pub(crate) fn report(self, rt: &HostRuntime, error: &io::Error) -> Status
         ensures exact { result ≡ failure_of (error_kind error.now) }
         ensures failed { IsWantOrFailure result }
     {
@@ -75,7 +75,7 @@ impl Place<'_> {
 
 /// A port that is listened to, where terminals come from.
 #[derive(Drop)]
-pub struct Listening<'a> {
+pub(crate) struct Listening<'a> {
     pub rt: &'a HostRuntime,
     pub place: Place<'a>,
     pub listener: TcpListener,

@@ -10,8 +10,8 @@ use Rattle.ds_inbound.specs.declared.refused.Refused.{Refused}
 use Rattle.order_lines.specs.Print.{hex_byte}
 use Rattle.scr_layout.specs.Layout.{Declaration}
 use Rattle.scr_check.specs.Binding.{Pair, bound_of}
+use Rattle.scr_check.specs.BindFaultText.{bind_words}
 use Rattle.scr_check.specs.declared.binding.BindFault.{BindFault}
-use Rattle.scr_check.specs.declared.binding.BindFault.TheVariants.{NotDeclared, Longer, Twice, Lead}
 use Rattle.term_binds.specs.declared.fields.Form.{Form}
 use Rattle.term_binds.specs.Fields.{field_line}
 
@@ -42,12 +42,6 @@ is_bound (bound answer pairs) = true
 
 -- ---- its lines
 
-abbrev pub fault_words : BindFault → List ℕ
-fault_words NotDeclared = codes "B1 NotDeclared"
-fault_words Longer = codes "B2 Longer"
-fault_words Twice = codes "B3 Twice"
-fault_words Lead = codes "B4 Lead"
-
 -- the cursor; a short answer has none
 abbrev pub cursor_words : Option ℕ → List ℕ
 cursor_words None = []
@@ -58,7 +52,7 @@ refused_line index why =
     codes "answer " ++ (decimal index ++ (codes " refused at " ++ (decimal why.at ++ (codes ": " ++ (why_words why.why ++ codes "\n")))))
 
 abbrev pub unbound_line : ℕ → BindFault → List ℕ
-unbound_line index why = codes "answer " ++ (decimal index ++ (codes " unbound: " ++ (fault_words why ++ codes "\n")))
+unbound_line index why = codes "answer " ++ (decimal index ++ (codes " unbound: " ++ (bind_words why ++ codes "\n")))
 
 abbrev pub head_line : ℕ → Answer → List ℕ
 head_line index answer =

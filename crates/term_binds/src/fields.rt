@@ -6,13 +6,12 @@ ghost use Rattle.std.specs.List.{flat_map};
 ghost use Rattle.ds_inbound.specs.Characters.{characters_in};
 ghost use Rattle.ds_screen.specs.Shown.{text_of};
 ghost use Rattle.scr_check.specs.Bound.{bound_seen};
-ghost use Rattle.scr_check.specs.FindingText.{name_at};
 ghost use Rattle.term_binds.specs.Fields.{field_text, field_line};
 
 use ds_inbound::chars;
 use ds_screen::text_of;
 use order_lines::push_bytes;
-use scr_check::Bound;
+use scr_check::{Bound, name_at};
 use scr_layout::Entry;
 use std::alloc::AllocError;
 
@@ -23,16 +22,6 @@ pub enum Form {
     Hexadecimal,
     /// Each by what is printed for its code, `?` for one of the alternate set and for a code that has no character.
     Text,
-}
-
-/// The name of the entry of this index.
-fn name_at(entries: &[Entry], index: usize) -> &str
-    ensures { result.now ≡ name_at entries.now index }
-{
-    match entries.get(index) {
-        Some(entry) => entry.name.as_str(),
-        None => "",
-    }
 }
 
 /// The text of characters.

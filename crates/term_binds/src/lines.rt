@@ -3,7 +3,7 @@
 ghost use Rattle.std.specs.Prelude.{◌≡◌, ◌++◌, IfOk, OnOk};
 ghost use Rattle.std.specs.String.{string_bytes};
 ghost use Rattle.scr_check.specs.Binding.{bound_of};
-ghost use Rattle.term_binds.specs.Lines.{told_bound, told_of, is_bound, fault_words, cursor_words, refused_line, unbound_line, head_line, answer_lines};
+ghost use Rattle.term_binds.specs.Lines.{told_bound, told_of, is_bound, cursor_words, refused_line, unbound_line, head_line, answer_lines};
 
 use crate::fields::{Form, push_fields};
 use ds_inbound::{Inbound, Refused};
@@ -20,23 +20,11 @@ fn push_refused(out: &mut String, index: usize, refused: Refused) -> Result<(), 
     write!(out, "answer {index} refused at {at}: {why}\n")
 }
 
-fn fault_words(fault: BindFault) -> &'static str
-    ensures { result.now ≡ fault_words fault }
-{
-    match fault {
-        BindFault::NotDeclared => "B1 NotDeclared",
-        BindFault::Longer => "B2 Longer",
-        BindFault::Twice => "B3 Twice",
-        BindFault::Lead => "B4 Lead",
-    }
-}
-
 fn push_unbound(out: &mut String, index: usize, fault: BindFault) -> Result<(), AllocError>
     ensures { OnOk result
         (string_bytes out.new ≡ string_bytes out.old ++ unbound_line index fault) }
 {
-    let words = fault_words(fault);
-    write!(out, "answer {index} unbound: {words}\n")
+    write!(out, "answer {index} unbound: {fault}\n")
 }
 
 /// The cursor, where the answer has one.

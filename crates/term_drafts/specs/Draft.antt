@@ -4,7 +4,6 @@ use Rattle.ds_codec.specs.Reading.{◌>>=◌}
 use Rattle.ds_screen.specs.Picture.{Picture}
 use Rattle.scr_layout.specs.declared.fault.LayoutFault.{LayoutFault}
 use Rattle.scr_check.specs.declared.finding.Finding.{Finding}
-use Rattle.scr_check.specs.declared.finding.Finding.TheVariants.{RecordRefused, NoRecord, FirstNotErase, NotAWrite, KeyboardLocked, Unformatted}
 use Rattle.scr_check.specs.FindingText.{finding_text}
 use Rattle.scr_draft.specs.Draft.{drafted}
 use Rattle.scr_draft.specs.Opened.{opened}
@@ -15,18 +14,9 @@ use Rattle.term_commands.specs.declared.status.Status.TheVariants.{Done, Finding
 use Rattle.term_commands.specs.Printed.{Printed, printed, printed_or_fault}
 use Rattle.term_commands.specs.Records.{records_in}
 
--- the findings that come before a layout is looked at, in the checker's words; no other comes here
-abbrev pub stop_text : Finding → List ℕ
-stop_text (RecordRefused index refused) = finding_text [] (RecordRefused index refused)
-stop_text NoRecord = finding_text [] NoRecord
-stop_text FirstNotErase = finding_text [] FirstNotErase
-stop_text (NotAWrite index) = finding_text [] (NotAWrite index)
-stop_text KeyboardLocked = finding_text [] KeyboardLocked
-stop_text Unformatted = finding_text [] Unformatted
-stop_text finding = []
-
+-- a finding in the checker's words; those that come before a layout is looked at name no entry
 abbrev pub stop_line : Finding → List ℕ
-stop_line finding = stop_text finding ++ codes "\n"
+stop_line finding = finding_text [] finding ++ codes "\n"
 
 -- the draft, or why it is refused as a layout
 abbrev pub printed_text : Result (List ℕ) LayoutFault → Result Printed Fault

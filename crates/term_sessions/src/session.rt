@@ -3,12 +3,12 @@
 ghost use Rattle.std.specs.Prelude.{◌≡◌, ◌++◌, map, IfOk, OnOk};
 ghost use Rattle.std.specs.String.{string_bytes};
 ghost use Rattle.std.specs.List.{flat_map};
-ghost use Rattle.scr_check.specs.FindingText.{name_at};
 ghost use Rattle.tn_session.specs.HostView.{field_view, outcome_view};
 ghost use Rattle.term_sessions.specs.Session.{CanRun, IsEnded, IsHosted, session_seen, field_line, answered_lines, fault_line, session_lines};
 
 use crate::fault::fault_number;
 use order_lines::{push_bytes, push_hex};
+use scr_check::name_at;
 use scr_layout::{Entry, Layout};
 use std::alloc::{AllocError, Global};
 use std::io::{Read, Write};
@@ -43,16 +43,6 @@ pub(crate) fn host_session<L: Read + Write>(
 {
     let ran = host_run(alloc, wire, records, layout, true, true);
     flushed(wire, ran)
-}
-
-/// The name of the entry of this index.
-fn name_at(entries: &[Entry], index: usize) -> &str
-    ensures { result.now ≡ name_at entries.now index }
-{
-    match entries.get(index) {
-        Some(entry) => entry.name.as_str(),
-        None => "",
-    }
 }
 
 fn push_field(

@@ -23,7 +23,7 @@ fn push_lines(
     ensures { OnOk result (string_bytes out.new ≡ string_bytes out.old
         ++ finding_lines layout.now.entries (option_map (λ t. t.now) terminal.entry) finding) }
 {
-    finding.push_text(out, layout)?;
+    finding.push_text(out, layout.entries())?;
     out.push_str("\n")?;
     push_sends(alloc, out, terminal, finding)
 }
