@@ -2,18 +2,18 @@
 use Rattle.std.proofs.Common.{◌≡◌, ℕ, List, [], Ok, Err, refl, sym, ◌∙◌, ap}
 use Rattle.std.specs.Prelude.{Result}
 use Rattle.tn_wire.specs.Stream.{Told, told_record}
-use Rattle.tn_session.specs.declared.fault.RunFault.{RunFault}
-use Rattle.tn_session.specs.declared.fault.RunFault.TheVariants as faults
 use Rattle.tn_cores.specs.declared.host.HostCore.{HostCore}
 use Rattle.tn_cores.specs.declared.session.SessionFault.{SessionFault}
 use Rattle.tn_cores.specs.declared.session.Told.{Told as Means}
-use Rattle.tn_session.specs.declared.turn.Turn.{Turn}
 use Rattle.tn_cores.specs.Host.{host_agreed}
+use Rattle.tn_cores.specs.Steps.{Stepped, Takes, host_step}
+use Rattle.tn_cores.proofs.ReplyLaws.{host_refuses}
+use Rattle.tn_session.specs.declared.fault.RunFault.{RunFault}
+use Rattle.tn_session.specs.declared.fault.RunFault.TheVariants as faults
+use Rattle.tn_session.specs.declared.turn.Turn.{Turn}
 use Rattle.tn_session.specs.HostLog.{HostRunning, taken_record, host_act}
 use Rattle.tn_session.specs.Ran.{Cause, of_stream, of_memory, of_line, of_reads, of_end, of_events, IsOfEvents, session_cause, Does, FailsAs}
 use Rattle.tn_session.specs.Runs.{Log, failed}
-use Rattle.tn_cores.specs.Steps.{Stepped, Takes, host_step}
-use Rattle.tn_cores.proofs.ReplyLaws.{host_refuses}
 use Rattle.tn_session.proofs.CoreFaults.{of_event}
 
 refused : {Core : Type 0} (step : Result (Stepped Core) SessionFault) (old new : Core) (why : SessionFault) (out : List ℕ) → Takes step old (Err why) new out → step ≡ Err why

@@ -5,15 +5,15 @@ use Rattle.tn_wire.specs.Stream.{Told as Event, told_record}
 use Rattle.tn_cores.specs.declared.session.Agreed.{Agreed}
 use Rattle.tn_cores.specs.declared.session.Told.{Told}
 use Rattle.tn_cores.specs.declared.session.SessionFault.{SessionFault}
-use Rattle.tn_session.specs.declared.fault.RunFault.{RunFault}
-use Rattle.tn_session.specs.declared.fault.RunFault.TheVariants as faults
 use Rattle.tn_cores.specs.declared.terminal.TermCore.{TermCore}
 use Rattle.tn_cores.specs.Steps.{Stepped, record_step, terminal_step, Takes}
 use Rattle.tn_cores.specs.Terminal.{terminal_agreed}
+use Rattle.tn_cores.proofs.ReplyLaws.{terminal_refuses}
+use Rattle.tn_session.specs.declared.fault.RunFault.{RunFault}
+use Rattle.tn_session.specs.declared.fault.RunFault.TheVariants as faults
 use Rattle.tn_session.specs.Runs.{Log, failed}
 use Rattle.tn_session.specs.Ran.{Cause, of_stream, of_memory, of_line, of_reads, of_end, of_events, IsOfEvents, session_cause, FailsAs}
 use Rattle.tn_session.specs.TerminalLog.{TerminalRunning, terminal_act, by_core, taken_record, with_core}
-use Rattle.tn_cores.proofs.ReplyLaws.{terminal_refuses}
 use Rattle.tn_session.proofs.CoreFaults.{of_event}
 
 -- a core that refused did so by its table
