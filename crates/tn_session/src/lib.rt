@@ -32,6 +32,8 @@ pub use outcome::HostOutcome;
 pub use report::{Report, RunEnd};
 pub use stop::Stop;
 pub use terminal_line::terminal_run;
-pub use tn_cores::{Agreed, Device, DeviceName, HostCore, Out, ScreenModel, SessionFault, TermCore, Told};
-pub use tn_cores::{delivery_law, pair_law, reply_law, trace_law};
+pub use tn_cores::{
+    Agreed, Device, DeviceName, HostCore, Out, ScreenModel, SessionFault, TermCore, Told,
+    delivery_law, pair_law, reply_law, trace_law,
+};
 pub use wire::Wire;
