@@ -10,7 +10,7 @@ use Rattle.term_commands.specs.declared.status.Status.TheVariants.{BadInput, Fai
 use Rattle.term_commands.specs.Fault.{Gives, fault_line}
 use Rattle.term_commands.specs.Printed.{Printed, printed}
 use Rattle.term_commands.specs.Streams.{AppendsFront, Finishes, IsStopped, IsWantOrFailure, IsWritten, Prints}
-use Rattle.tn_session.specs.declared.device.Device.{Device}
+use Rattle.tn_cores.specs.declared.device.Device.{Device}
 use Rattle.term_sessions.specs.Prepare.{Prepared, ready, stops}
 use Rattle.term_sessions.proofs.Serving.{appends_none}
 use Rattle.term3270.specs.Sessions.{AttachesNamed, HasFailed, ServesPrepared}

@@ -7,7 +7,7 @@ use Rattle.term_commands.specs.declared.status.Status.TheVariants.{BadInput}
 use Rattle.term_commands.specs.Fault.{fault_line}
 use Rattle.term_commands.specs.Printed.{printed}
 use Rattle.term_commands.specs.Streams.{IsWantOrFailure, Prints}
-use Rattle.tn_session.specs.declared.device.Device.{Device}
+use Rattle.tn_cores.specs.declared.device.Device.{Device}
 use Rattle.tn_session.specs.Wire.{WireState}
 use Rattle.term_sessions.specs.Attach.{Attaches}
 use Rattle.term_sessions.specs.Prepare.{Prepared, ready, stops}

@@ -1,11 +1,11 @@
 //! The commands `serve` and `attach`, from their inputs to the net.
 
 ghost use Rattle.std.specs.Prelude.{◌≡◌, ◌⊎◌, List, [], IfSome, None, Some};
-ghost use Rattle.tn_session.specs.declared.device.Device.{Device};
+ghost use Rattle.tn_cores.specs.declared.device.Device.{Device};
 ghost use Rattle.term_commands.specs.declared.status.Status.TheVariants.{BadInput};
 ghost use Rattle.term_commands.specs.Held.{records_held};
 ghost use Rattle.term_commands.specs.Keys.{keys_in};
-ghost use Rattle.tn_session.specs.Devices.{device_of};
+ghost use Rattle.tn_cores.specs.Devices.{device_of};
 ghost use Rattle.tn_session.specs.Wire.{WireState};
 ghost use Rattle.term_sessions.specs.Prepare.{prepare};
 ghost use Rattle.term_sessions.specs.Serve.{Serves, serving};

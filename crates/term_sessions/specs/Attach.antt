@@ -6,7 +6,7 @@ use Rattle.term_commands.specs.declared.status.Status.{Status}
 use Rattle.term_commands.specs.declared.status.Status.TheVariants.{Done, Failed}
 use Rattle.term_commands.specs.Printed.{Printed, printed}
 use Rattle.term_commands.specs.Streams.{Prints}
-use Rattle.tn_session.specs.declared.device.Device.{Device}
+use Rattle.tn_cores.specs.declared.device.Device.{Device}
 use Rattle.tn_session.specs.declared.fault.RunFault.{RunFault}
 use Rattle.tn_session.specs.declared.report.Report.{Report}
 use Rattle.tn_session.specs.declared.report.RunEnd.{RunEnd}

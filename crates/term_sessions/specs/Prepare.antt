@@ -13,8 +13,8 @@ use Rattle.term_commands.specs.Check.{printed_answer}
 use Rattle.term_commands.specs.LayoutText.{layout_in}
 use Rattle.term_commands.specs.Printed.{Printed, printed}
 use Rattle.term_commands.specs.Records.{records_in}
-use Rattle.tn_session.specs.declared.device.ScreenModel.TheVariants.{Two, Three, Four, Five}
-use Rattle.tn_session.specs.Devices.{fits}
+use Rattle.tn_cores.specs.declared.device.ScreenModel.TheVariants.{Two, Three, Four, Five}
+use Rattle.tn_cores.specs.Devices.{fits}
 
 -- a screen that can be served, or what is printed in its place
 pub data Prepared : Type 0 where

@@ -7,10 +7,10 @@ use Rattle.order_lines.specs.Print.{hex_byte}
 use Rattle.scr_layout.specs.Entry.{Declared}
 use Rattle.scr_layout.specs.Layout.{Declaration}
 use Rattle.scr_check.specs.FindingText.{name_at}
+use Rattle.tn_cores.specs.declared.session.SessionFault.TheVariants.{LineFault}
 use Rattle.tn_session.specs.declared.fault.RunFault.{RunFault}
 use Rattle.tn_session.specs.declared.fault.RunFault.TheVariants.{Session}
 use Rattle.tn_session.specs.declared.outcome.HostOutcome.{HostOutcome}
-use Rattle.tn_session.specs.declared.session.SessionFault.TheVariants.{LineFault}
 use Rattle.tn_session.specs.HostLog.{Outcome}
 use Rattle.tn_session.specs.HostRan.{HostRan}
 use Rattle.tn_session.specs.HostView.{outcome_view}

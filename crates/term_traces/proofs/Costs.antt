@@ -4,7 +4,7 @@ use Rattle.std.specs.List.{filter, flat_map}
 use Rattle.tn_wire.specs.Codes.{iac, record_most}
 use Rattle.tn_wire.specs.Telnet.{Token, data_byte, record_end, command, subnegotiation, passed, quoted, quoted_byte, spelling, pending_after, MayCome, AreTokens}
 use Rattle.tn_wire.specs.Stream.{Told, Tells, events_after}
-use Rattle.tn_session.proofs.PairWords.{by_bool}
+use Rattle.tn_cores.proofs.PairWords.{by_bool}
 use Rattle.term_traces.specs.Open.{cost_in}
 
 -- ---- quoted bytes

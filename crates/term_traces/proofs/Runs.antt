@@ -7,7 +7,7 @@ use Rattle.std.proofs.BufReadLemmas.{take_through-append, Consumes_through, IsAt
 use Rattle.std.proofs.lemmas.Bool.{cond-true, cond_both, lt-ltb, eqb-true}
 use Rattle.std.proofs.Common.{length-take-le}
 use Rattle.std.proofs.lemmas.List.Elements.{All-append}
-use Rattle.tn_session.proofs.PairWords.{by_bool}
+use Rattle.tn_cores.proofs.PairWords.{by_bool}
 use Rattle.bstr.specs.Text.{line_len, lines_of, no_cr, without_terminator}
 use Rattle.bstr.proofs.lemmas.LineLemmas.{lines-nil, lines-step}
 use Rattle.term_commands.specs.declared.status.Status.{Status}

@@ -2,18 +2,18 @@
 use Rattle.std.proofs.Common.{◌≡◌, ℕ, ◌+◌, ◌≤◌, Bool, List, None, Some, Ok, Err, sym, ◌∙◌, ap, subst, inl, inr, ⊎_elim, arith}
 use Rattle.std.specs.Prelude.{Result, ◌↔◌}
 use Rattle.scr_layout.specs.Layout.{Declaration}
+use Rattle.tn_cores.specs.declared.session.SessionFault.TheVariants as session
+use Rattle.tn_cores.specs.Host.{new_host, opening}
+use Rattle.tn_cores.specs.Replies.{bytes_of}
 use Rattle.tn_session.specs.declared.fault.RunFault.{RunFault}
 use Rattle.tn_session.specs.declared.fault.RunFault.TheVariants as faults
 use Rattle.tn_session.specs.declared.outcome.HostOutcome.{HostOutcome}
-use Rattle.tn_session.specs.declared.session.SessionFault.TheVariants as session
 use Rattle.tn_session.specs.declared.stop.Stop.TheVariants.{Ended, ReadFailed, WriteFailed}
 use Rattle.tn_session.specs.declared.turn.Finish.{Finish}
 use Rattle.tn_session.specs.declared.turn.Finish.TheVariants as finish
-use Rattle.tn_session.specs.Host.{new_host, opening}
 use Rattle.tn_session.specs.HostLog.{HostRunning, host_start, host_act}
 use Rattle.tn_session.specs.HostRan.{Answers, HostRan}
 use Rattle.tn_session.specs.Ran.{Ran, cause_of}
-use Rattle.tn_session.specs.Replies.{bytes_of}
 use Rattle.tn_session.specs.TerminalRuns.{HasFailed}
 use Rattle.tn_session.specs.Wire.{WireState}
 use Rattle.tn_session.proofs.RunEnds.{line_cause, failed_line, line_failed, not_by_finish, few_reads}

@@ -14,21 +14,21 @@ use Rattle.tn_wire.specs.declared.header.DataType.{DataType}
 use Rattle.tn_wire.specs.declared.header.DataType.TheVariants.{Data3270, ScsData, Response, BindImage, Unbind, NvtData, Request, SscpLuData, PrintEoj}
 use Rattle.tn_wire.specs.declared.header.Header.{Header}
 use Rattle.tn_wire.specs.declared.header.HeaderFault.{HeaderFault}
+use Rattle.tn_cores.specs.declared.host.HostCore.{HostCore}
+use Rattle.tn_cores.specs.declared.session.Agreed.{Agreed}
+use Rattle.tn_cores.specs.declared.session.SessionFault.{SessionFault}
+use Rattle.tn_cores.specs.Host.{new_host, opening, host_agreed}
+use Rattle.tn_cores.specs.Replies.{bytes_of}
+use Rattle.tn_cores.specs.Steps.{Stepped, host_step}
 use Rattle.tn_session.specs.declared.fault.RunFault.{RunFault}
-use Rattle.tn_session.specs.declared.host.HostCore.{HostCore}
 use Rattle.tn_session.specs.declared.outcome.HostOutcome.{HostOutcome}
-use Rattle.tn_session.specs.declared.session.Agreed.{Agreed}
-use Rattle.tn_session.specs.declared.session.SessionFault.{SessionFault}
 use Rattle.tn_session.specs.declared.turn.Finish.{Finish}
 use Rattle.tn_session.specs.declared.turn.Finish.TheVariants as finish
-use Rattle.tn_session.specs.Host.{new_host, opening, host_agreed}
 use Rattle.tn_session.specs.HostLog.{Outcome, HostRunning, host_start, ready_due, responded, is_awaited, outcome_of, bound_answer, read_answer, taken_answer, taken_typed, taken_headed, taken_record, host_stepped, host_by_core, host_act}
 use Rattle.tn_session.specs.HostRan.{Answers, HostRuns}
 use Rattle.tn_session.specs.HostView.{OutcomeTaken}
 use Rattle.tn_session.specs.Ran.{Ran}
-use Rattle.tn_session.specs.Replies.{bytes_of}
 use Rattle.tn_session.specs.Runs.{Course, goes, finishes, fails, Log, going, failed, log_on, log_of}
-use Rattle.tn_session.specs.Steps.{Stepped, host_step}
 use Rattle.tn_session.specs.Wire.{WireState}
 
 abbrev HasOutcome : HostRunning → Type 0

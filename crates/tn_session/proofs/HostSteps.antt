@@ -2,18 +2,19 @@
 use Rattle.std.proofs.Common.{◌≡◌, ℕ, List, [], Ok, Err, refl, sym, ◌∙◌, ap}
 use Rattle.std.specs.Prelude.{Result}
 use Rattle.tn_wire.specs.Stream.{Told, told_record}
+use Rattle.tn_cores.specs.declared.host.HostCore.{HostCore}
+use Rattle.tn_cores.specs.declared.session.SessionFault.{SessionFault}
+use Rattle.tn_cores.specs.declared.session.Told.{Told as Means}
+use Rattle.tn_cores.specs.Host.{host_agreed}
+use Rattle.tn_cores.specs.Steps.{Stepped, Takes, host_step}
+use Rattle.tn_cores.proofs.ReplyLaws.{host_refuses}
 use Rattle.tn_session.specs.declared.fault.RunFault.{RunFault}
 use Rattle.tn_session.specs.declared.fault.RunFault.TheVariants as faults
-use Rattle.tn_session.specs.declared.host.HostCore.{HostCore}
-use Rattle.tn_session.specs.declared.session.SessionFault.{SessionFault}
-use Rattle.tn_session.specs.declared.session.Told.{Told as Means}
 use Rattle.tn_session.specs.declared.turn.Turn.{Turn}
-use Rattle.tn_session.specs.Host.{host_agreed}
 use Rattle.tn_session.specs.HostLog.{HostRunning, taken_record, host_act}
 use Rattle.tn_session.specs.Ran.{Cause, of_stream, of_memory, of_line, of_reads, of_end, of_events, IsOfEvents, session_cause, Does, FailsAs}
 use Rattle.tn_session.specs.Runs.{Log, failed}
-use Rattle.tn_session.specs.Steps.{Stepped, Takes, host_step}
-use Rattle.tn_session.proofs.ReplyLaws.{host_refuses}
+use Rattle.tn_session.proofs.CoreFaults.{of_event}
 
 refused : {Core : Type 0} (step : Result (Stepped Core) SessionFault) (old new : Core) (why : SessionFault) (out : List ℕ) → Takes step old (Err why) new out → step ≡ Err why
 refused (Ok s) old new why out (is, core, reply) = absurd cc
@@ -42,7 +43,7 @@ pub host_fails : (running : HostRunning) (core : HostCore) (event : Told) (new :
     → FailsAs (host_act running event) (faults.Session why) (session_cause why)
 host_fails running core event new why out same takes =
     let is : host_step core event ≡ Err why = refused (host_step core event) core new why out takes in
-    of_this (host_act running event) (faults.Session why) (session_cause why) (host_refuses core event why is) (rw (same, is) refl)
+    of_this (host_act running event) (faults.Session why) (session_cause why) (of_event why (host_refuses core event why is)) (rw (same, is) refl)
 
 -- a record that the core takes
 record_act : (running now : HostRunning) (bytes : List ℕ) (stepped : Stepped HostCore) → host_step running.core (told_record bytes) ≡ Ok stepped → now ≡ record running { core = stepped.core }

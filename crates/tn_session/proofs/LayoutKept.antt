@@ -13,15 +13,15 @@ use Rattle.tn_wire.specs.declared.header.HeaderFault.{HeaderFault}
 use Rattle.tn_wire.specs.declared.header.Header.{Header}
 use Rattle.tn_wire.specs.Header.{Headed, header_of}
 use Rattle.tn_wire.specs.Stream.{Told, told_record, told_verb, told_sub, told_passed}
-use Rattle.tn_session.specs.declared.host.HostCore.{HostCore}
-use Rattle.tn_session.specs.declared.session.Agreed.{Agreed}
+use Rattle.tn_cores.specs.declared.host.HostCore.{HostCore}
+use Rattle.tn_cores.specs.declared.session.Agreed.{Agreed}
+use Rattle.tn_cores.specs.declared.session.SessionFault.{SessionFault}
+use Rattle.tn_cores.specs.declared.session.SessionFault.TheVariants.{BadResponse, TerminalRefused}
+use Rattle.tn_cores.specs.Host.{host_agreed}
+use Rattle.tn_cores.specs.Steps.{Stepped, host_step}
 use Rattle.tn_session.specs.declared.fault.RunFault.TheVariants as faults
-use Rattle.tn_session.specs.declared.session.SessionFault.{SessionFault}
-use Rattle.tn_session.specs.declared.session.SessionFault.TheVariants.{BadResponse, TerminalRefused}
-use Rattle.tn_session.specs.Host.{host_agreed}
 use Rattle.tn_session.specs.HostLog.{HostRunning, after_response, is_awaited, responded, bound_answer, read_answer, taken_answer, taken_typed, taken_headed, taken_record, host_by_core, host_act}
 use Rattle.tn_session.specs.Runs.{Course, goes, finishes, fails, Log, going, failed, log_on, log_of}
-use Rattle.tn_session.specs.Steps.{Stepped, host_step}
 
 -- where the run goes on, it has the layout that it had
 abbrev Keeps : HostRunning → Course HostRunning → Type 0

@@ -1,13 +1,8 @@
-pub mod Names
-pub mod NameLaws
-pub mod PairWords
-pub mod PairStages
-pub mod PairLaws
-pub mod ReplyLaws
 pub mod Walks
 pub mod RunLaws
 pub mod RunStates
 pub mod RunSteps
+pub mod CoreFaults
 pub mod HostSteps
 pub mod HostFinish
 pub mod HostEnds
@@ -19,5 +14,3 @@ pub mod OneLog
 pub mod TouchedPairs
 pub mod LayoutKept
 pub mod OutcomeLaws
-pub mod TraceHeard
-pub mod TraceLaws

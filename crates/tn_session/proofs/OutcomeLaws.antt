@@ -14,20 +14,20 @@ use Rattle.scr_check.proofs.BindLaw.{binds_exactly}
 use Rattle.scr_check.proofs.KeptLaws.{attribute_inside}
 use Rattle.scr_check.proofs.UserLaw.{yes_means}
 use Rattle.tn_wire.specs.Stream.{Told, told_record}
+use Rattle.tn_cores.specs.declared.session.Agreed.{Agreed}
+use Rattle.tn_cores.specs.Host.{new_host, host_agreed, opening}
+use Rattle.tn_cores.specs.Replies.{bytes_of}
+use Rattle.tn_cores.specs.Steps.{record_step}
 use Rattle.tn_session.specs.declared.fault.RunFault.{RunFault}
 use Rattle.tn_session.specs.declared.outcome.HostOutcome.{HostOutcome}
-use Rattle.tn_session.specs.declared.session.Agreed.{Agreed}
 use Rattle.tn_session.specs.declared.turn.Finish.{Finish}
 use Rattle.tn_session.specs.declared.turn.Finish.TheVariants as finish
-use Rattle.tn_session.specs.Host.{new_host, host_agreed, opening}
 use Rattle.tn_session.specs.HostLog.{HostRunning, host_start, outcome_of, bound_answer, read_answer, taken_answer, taken_typed, taken_headed, taken_record, host_by_core, host_act}
 use Rattle.tn_session.specs.HostRan.{Answers, HostRan}
 use Rattle.tn_session.specs.HostView.{outcome_view}
 use Rattle.tn_session.specs.Outcomes.{sent_by, IsOfTouched, HoldsIn, Finishes, EndsLog, AnswersFinish, AnswersEndLogs, OutcomesAreTouched}
 use Rattle.tn_session.specs.Ran.{Ran}
-use Rattle.tn_session.specs.Replies.{bytes_of}
 use Rattle.tn_session.specs.Runs.{finishes, Log, going, finished, log_on, log_of, EndsBy}
-use Rattle.tn_session.specs.Steps.{record_step}
 use Rattle.tn_session.specs.Wire.{WireState}
 use Rattle.tn_session.specs.OneLog.{is_over}
 use Rattle.tn_session.proofs.LayoutKept.{layout_kept}

@@ -7,9 +7,9 @@ use Rattle.tn_wire.specs.declared.event.WireFault.{WireFault}
 use Rattle.tn_wire.specs.Deframer.{Held, Moves}
 use Rattle.tn_wire.specs.Stream.{Told, Tells}
 use Rattle.tn_wire.proofs.Streams.{tells_nothing}
+use Rattle.tn_cores.specs.declared.session.SessionFault.TheVariants as session
 use Rattle.tn_session.specs.declared.stop.Stop.{Stop}
 use Rattle.tn_session.specs.declared.stop.Stop.TheVariants.{Ended, ReadFailed, WriteFailed}
-use Rattle.tn_session.specs.declared.session.SessionFault.TheVariants as session
 use Rattle.tn_session.specs.declared.fault.RunFault.{RunFault}
 use Rattle.tn_session.specs.declared.fault.RunFault.TheVariants as faults
 use Rattle.tn_session.specs.declared.turn.Finish.{Finish}

@@ -2,9 +2,9 @@
 use Rattle.std.proofs.Common.{◌≡◌, ◌+◌, ◌≤◌, Bool, List, [], Some, Ok, Err, ap, subst}
 use Rattle.std.specs.Prelude.{Result, ◌↔◌, IfOk}
 use Rattle.ds_keys.specs.declared.key.Key.{Key}
-use Rattle.tn_session.specs.declared.device.Device.{Device}
+use Rattle.tn_cores.specs.declared.device.Device.{Device}
+use Rattle.tn_cores.specs.declared.session.SessionFault.TheVariants as session
 use Rattle.tn_session.specs.declared.stop.Stop.TheVariants.{Ended}
-use Rattle.tn_session.specs.declared.session.SessionFault.TheVariants as session
 use Rattle.tn_session.specs.declared.fault.RunFault.{RunFault}
 use Rattle.tn_session.specs.declared.fault.RunFault.TheVariants as faults
 use Rattle.tn_session.specs.declared.report.Report.{Report}

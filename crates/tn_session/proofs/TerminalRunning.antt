@@ -5,15 +5,15 @@ use Rattle.ds_codec.specs.Geometry.{Sizes}
 use Rattle.ds_screen.specs.Picture.{Picture}
 use Rattle.ds_screen.specs.Records.{new_picture}
 use Rattle.ds_keys.specs.declared.key.Key.{Key}
-use Rattle.tn_session.specs.declared.device.Device.{Device}
+use Rattle.tn_cores.specs.declared.device.Device.{Device}
+use Rattle.tn_cores.specs.declared.terminal.TermCore.{TermCore}
+use Rattle.tn_cores.specs.Devices.{sizes_of}
+use Rattle.tn_cores.specs.Terminal.{new_terminal}
 use Rattle.tn_session.specs.declared.fault.RunFault.{RunFault}
 use Rattle.tn_session.specs.declared.fault.RunFault.TheVariants as faults
 use Rattle.tn_session.specs.declared.turn.Finish.{Finish}
 use Rattle.tn_session.specs.declared.turn.Finish.TheVariants as finish
 use Rattle.tn_session.specs.declared.report.Report.{Report}
-use Rattle.tn_session.specs.declared.terminal.TermCore.{TermCore}
-use Rattle.tn_session.specs.Devices.{sizes_of}
-use Rattle.tn_session.specs.Terminal.{new_terminal}
 use Rattle.tn_session.specs.Wire.{WireState}
 use Rattle.tn_session.specs.Ran.{Ran, RunFails, cause_of}
 use Rattle.tn_session.specs.TerminalLog.{TerminalRunning, terminal_start, terminal_act, terminal_weight}

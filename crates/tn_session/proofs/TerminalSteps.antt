@@ -2,18 +2,19 @@
 use Rattle.std.proofs.Common.{◌≡◌, ℕ, List, sym, ap, Ok, Err, None, Some}
 use Rattle.std.specs.Prelude.{Option, Result}
 use Rattle.tn_wire.specs.Stream.{Told as Event, told_record}
-use Rattle.tn_session.specs.declared.session.Agreed.{Agreed}
-use Rattle.tn_session.specs.declared.session.Told.{Told}
-use Rattle.tn_session.specs.declared.session.SessionFault.{SessionFault}
+use Rattle.tn_cores.specs.declared.session.Agreed.{Agreed}
+use Rattle.tn_cores.specs.declared.session.Told.{Told}
+use Rattle.tn_cores.specs.declared.session.SessionFault.{SessionFault}
+use Rattle.tn_cores.specs.declared.terminal.TermCore.{TermCore}
+use Rattle.tn_cores.specs.Steps.{Stepped, record_step, terminal_step, Takes}
+use Rattle.tn_cores.specs.Terminal.{terminal_agreed}
+use Rattle.tn_cores.proofs.ReplyLaws.{terminal_refuses}
 use Rattle.tn_session.specs.declared.fault.RunFault.{RunFault}
 use Rattle.tn_session.specs.declared.fault.RunFault.TheVariants as faults
-use Rattle.tn_session.specs.declared.terminal.TermCore.{TermCore}
-use Rattle.tn_session.specs.Steps.{Stepped, record_step, terminal_step, Takes}
-use Rattle.tn_session.specs.Terminal.{terminal_agreed}
 use Rattle.tn_session.specs.Runs.{Log, failed}
 use Rattle.tn_session.specs.Ran.{Cause, of_stream, of_memory, of_line, of_reads, of_end, of_events, IsOfEvents, session_cause, FailsAs}
 use Rattle.tn_session.specs.TerminalLog.{TerminalRunning, terminal_act, by_core, taken_record, with_core}
-use Rattle.tn_session.proofs.ReplyLaws.{terminal_refuses}
+use Rattle.tn_session.proofs.CoreFaults.{of_event}
 
 -- a core that refused did so by its table
 pub refused_by : {Core : Type 0} (x : Result (Stepped Core) SessionFault) (old new : Core) (why : SessionFault) (out : List ℕ) → Takes x old (Err why) new out → x ≡ Err why
@@ -34,7 +35,7 @@ pub refused_act : (running : TerminalRunning) (event : Event) (new : TermCore) (
     → FailsAs (terminal_act running event) (faults.Session why) (session_cause why)
 refused_act running event new why out takes =
     let step : terminal_step running.state.core event ≡ Err why = refused_by _ running.state.core new why out takes in
-    fails_as (terminal_act running event) (faults.Session why) (session_cause why) (terminal_refuses running.state.core event why step)
+    fails_as (terminal_act running event) (faults.Session why) (session_cause why) (of_event why (terminal_refuses running.state.core event why step))
     (ap (by_core running event) step)
 
 -- a record leaves the core as it is

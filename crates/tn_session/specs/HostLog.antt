@@ -13,18 +13,18 @@ use Rattle.tn_wire.specs.declared.header.DataType.{DataType}
 use Rattle.tn_wire.specs.declared.header.DataType.TheVariants.{Data3270, Response}
 use Rattle.tn_wire.specs.declared.header.Header.{Header}
 use Rattle.tn_wire.specs.declared.header.HeaderFault.{HeaderFault}
+use Rattle.tn_cores.specs.declared.host.HostCore.{HostCore}
+use Rattle.tn_cores.specs.declared.session.Agreed.{Agreed}
+use Rattle.tn_cores.specs.declared.session.SessionFault.{SessionFault}
+use Rattle.tn_cores.specs.declared.session.SessionFault.TheVariants.{BadResponse, TerminalRefused}
+use Rattle.tn_cores.specs.declared.session.Told.{Told as Means}
+use Rattle.tn_cores.specs.declared.session.Told.TheVariants.{Nothing, Ready, Record}
+use Rattle.tn_cores.specs.Host.{new_host, host_agreed}
+use Rattle.tn_cores.specs.Replies.{bytes_of}
+use Rattle.tn_cores.specs.Steps.{Stepped, host_step}
 use Rattle.tn_session.specs.declared.fault.RunFault.TheVariants as faults
-use Rattle.tn_session.specs.declared.host.HostCore.{HostCore}
-use Rattle.tn_session.specs.declared.session.Agreed.{Agreed}
-use Rattle.tn_session.specs.declared.session.SessionFault.{SessionFault}
-use Rattle.tn_session.specs.declared.session.SessionFault.TheVariants.{BadResponse, TerminalRefused}
-use Rattle.tn_session.specs.declared.session.Told.{Told as Means}
-use Rattle.tn_session.specs.declared.session.Told.TheVariants.{Nothing, Ready, Record}
-use Rattle.tn_session.specs.Host.{new_host, host_agreed}
-use Rattle.tn_session.specs.Replies.{bytes_of}
 use Rattle.tn_session.specs.Runs.{Log, going, finished, failed}
 use Rattle.tn_session.specs.Sent.{next_sequence, sent_data}
-use Rattle.tn_session.specs.Steps.{Stepped, host_step}
 
 -- what came of a session: what was agreed on, the attention identifier, and for each field that was sent, in the
 -- answer's order, the index of its entry and the bytes of its characters

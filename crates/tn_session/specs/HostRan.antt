@@ -1,19 +1,19 @@
 -- What a host's run over a line did, and what it answers.
 use Rattle.std.specs.Prelude.{ℕ, ◌≡◌, ◌⊎◌, Bool, true, List, Some, Result, Ok, Err}
 use Rattle.scr_layout.specs.Layout.{Declaration}
-use Rattle.tn_session.specs.declared.device.ScreenModel.{ScreenModel}
+use Rattle.tn_cores.specs.declared.device.ScreenModel.{ScreenModel}
+use Rattle.tn_cores.specs.declared.session.SessionFault.TheVariants.{Closed, NoDevice}
+use Rattle.tn_cores.specs.Devices.{fits}
+use Rattle.tn_cores.specs.Host.{new_host, opening}
+use Rattle.tn_cores.specs.Replies.{bytes_of}
 use Rattle.tn_session.specs.declared.fault.RunFault.{RunFault}
 use Rattle.tn_session.specs.declared.fault.RunFault.TheVariants.{Session}
 use Rattle.tn_session.specs.declared.outcome.HostOutcome.{HostOutcome}
-use Rattle.tn_session.specs.declared.session.SessionFault.TheVariants.{Closed, NoDevice}
 use Rattle.tn_session.specs.declared.turn.Finish.{Finish}
 use Rattle.tn_session.specs.declared.turn.Finish.TheVariants as finish
-use Rattle.tn_session.specs.Devices.{fits}
-use Rattle.tn_session.specs.Host.{new_host, opening}
 use Rattle.tn_session.specs.HostLog.{HostRunning, host_start, host_act}
 use Rattle.tn_session.specs.HostView.{outcome_view}
 use Rattle.tn_session.specs.Ran.{Ran}
-use Rattle.tn_session.specs.Replies.{bytes_of}
 use Rattle.tn_session.specs.Wire.{WireState}
 
 -- A run that an answer ended gives what came of it. Where the line ended before one, that is the fault.

@@ -1,14 +1,3 @@
-pub mod Options
-pub mod Devices
-pub mod Heard
-pub mod HeardView
-pub mod Replies
-pub mod ReplyView
-pub mod Rows
-pub mod Terminal
-pub mod Host
-pub mod Steps
-pub mod Pair
 pub mod Sent
 pub mod Runs
 pub mod TerminalLog
@@ -20,4 +9,3 @@ pub mod Ran
 pub mod TerminalRuns
 pub mod OneLog
 pub mod Outcomes
-pub mod Traced

@@ -17,9 +17,9 @@ use Rattle.tn_wire.specs.declared.header.DataType.TheVariants.{Data3270}
 use Rattle.tn_wire.specs.declared.header.Header.{Header}
 use Rattle.tn_wire.specs.Header.{header_of}
 use Rattle.tn_wire.specs.Stream.{Told, told_record, Tells}
+use Rattle.tn_cores.specs.declared.session.Agreed.{Agreed}
+use Rattle.tn_cores.specs.Host.{host_agreed}
 use Rattle.tn_session.specs.declared.outcome.HostOutcome.{HostOutcome}
-use Rattle.tn_session.specs.declared.session.Agreed.{Agreed}
-use Rattle.tn_session.specs.Host.{host_agreed}
 use Rattle.tn_session.specs.HostLog.{Outcome, HostRunning, host_start, taken_answer, host_act}
 use Rattle.tn_session.specs.HostRan.{HostRan}
 use Rattle.tn_session.specs.HostView.{outcome_view}

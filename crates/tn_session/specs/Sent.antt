@@ -5,7 +5,7 @@ use Rattle.tn_wire.specs.Telnet.{quoted}
 use Rattle.tn_wire.specs.declared.header.Header.{Header}
 use Rattle.tn_wire.specs.declared.header.DataType.TheVariants.{Data3270}
 use Rattle.tn_wire.specs.Header.{header_bytes}
-use Rattle.tn_session.specs.declared.session.Agreed.{Agreed}
+use Rattle.tn_cores.specs.declared.session.Agreed.{Agreed}
 
 -- each IAC twice, and then the record's end
 abbrev pub framed : List ℕ → List ℕ

@@ -16,16 +16,16 @@ use Rattle.tn_wire.specs.declared.header.DataType.{DataType}
 use Rattle.tn_wire.specs.declared.header.DataType.TheVariants.{Data3270, Response}
 use Rattle.tn_wire.specs.Header.{Headed, header_bytes, header_of}
 use Rattle.tn_wire.specs.Stream.{Told, told_record}
-use Rattle.tn_session.specs.declared.device.Device.{Device}
-use Rattle.tn_session.specs.declared.session.Agreed.{Agreed}
-use Rattle.tn_session.specs.declared.session.SessionFault.{SessionFault}
+use Rattle.tn_cores.specs.declared.device.Device.{Device}
+use Rattle.tn_cores.specs.declared.session.Agreed.{Agreed}
+use Rattle.tn_cores.specs.declared.session.SessionFault.{SessionFault}
+use Rattle.tn_cores.specs.declared.terminal.TermCore.{TermCore}
+use Rattle.tn_cores.specs.Devices.{sizes_of}
+use Rattle.tn_cores.specs.Replies.{bytes_of}
+use Rattle.tn_cores.specs.Steps.{Stepped, terminal_step}
+use Rattle.tn_cores.specs.Terminal.{new_terminal, terminal_agreed}
 use Rattle.tn_session.specs.declared.fault.RunFault.TheVariants as faults
-use Rattle.tn_session.specs.declared.terminal.TermCore.{TermCore}
 use Rattle.tn_session.specs.declared.terminal_state.TerminalState.{TerminalState}
-use Rattle.tn_session.specs.Devices.{sizes_of}
-use Rattle.tn_session.specs.Replies.{bytes_of}
-use Rattle.tn_session.specs.Steps.{Stepped, terminal_step}
-use Rattle.tn_session.specs.Terminal.{new_terminal, terminal_agreed}
 use Rattle.tn_session.specs.Runs.{Log, going, finished, failed}
 use Rattle.tn_session.specs.Sent.{framed, next_sequence, sent_data, data_header}
 

@@ -1,7 +1,7 @@
 -- What a terminal's run over a line did.
 use Rattle.std.specs.Prelude.{◌≡◌, ◌⊎◌, Bool, List, [], Option, Some, Result, Ok, Err}
 use Rattle.ds_keys.specs.declared.key.Key.{Key}
-use Rattle.tn_session.specs.declared.device.Device.{Device}
+use Rattle.tn_cores.specs.declared.device.Device.{Device}
 use Rattle.tn_session.specs.declared.stop.Stop.{Stop}
 use Rattle.tn_session.specs.declared.stop.Stop.TheVariants.{ReadFailed, WriteFailed}
 use Rattle.tn_session.specs.declared.fault.RunFault.{RunFault}

@@ -1,9 +1,9 @@
 //! Why a run over a line ends without a report or an outcome.
 
-use crate::session::SessionFault;
 use scr_check::BindFault;
 use std::alloc::{AllocError, AllocFailed};
 use thiserror::Error;
+use tn_cores::SessionFault;
 use tn_wire::{HeaderFault, WireFault};
 
 /// Why a run over a line fails.

@@ -4,17 +4,16 @@ ghost use Rattle.std.specs.Prelude.{◌≡◌, [], ◌++◌, map, OnOk};
 ghost use Rattle.tn_session.specs.HostLog.{records_due, wanted};
 
 use crate::fault::RunFault;
-use crate::host::HostCore;
 use crate::machine::Machine;
 use crate::outcome::{HostOutcome, owned_fields};
 use crate::sent::{next_sequence, push_data};
-use crate::session::{Agreed, Out, SessionFault, Told};
 use crate::turn::Turn;
 use ds_inbound::Inbound;
 use scr_check::{BindError, bind};
 use scr_layout::Layout;
 use std::alloc::{AllocError, Global};
 use std::marker::Model;
+use tn_cores::{Agreed, HostCore, Out, SessionFault, Told};
 use tn_wire::{DataType, Event, Header};
 
 /// A host's run: the session, and which records wait for a RESPONSE.
@@ -63,7 +62,7 @@ fn push_records(due: &mut Vec<u8>, agreed: Agreed, records: &[&[u8]]) -> Result<
 
 impl<'a> HostMachine<'a> {
     ghost use Rattle.std.specs.Prelude.{length};
-    ghost use Rattle.tn_session.specs.Host.{host_agreed};
+    ghost use Rattle.tn_cores.specs.Host.{host_agreed};
     ghost use Rattle.tn_session.specs.HostLog.{HostRunning, taken_response, taken_answer, taken_typed, taken_record, is_awaited};
     ghost use Rattle.tn_session.specs.Ran.{Does};
     ghost use Rattle.tn_session.specs.HostView.{OutcomeTaken};

@@ -1,22 +1,21 @@
 //! A host's session over a line.
 
 ghost use Rattle.std.specs.Prelude.{◌≡◌, ◌+◌, ◌≤◌, ◌↔◌, map, None, Some, Err};
-ghost use Rattle.tn_session.specs.declared.session.SessionFault.TheVariants as session;
+ghost use Rattle.tn_cores.specs.declared.session.SessionFault.TheVariants as session;
 ghost use Rattle.tn_session.specs.declared.stop.Stop.TheVariants.{Ended};
 ghost use Rattle.tn_session.specs.HostRan.{HostRan};
 ghost use Rattle.tn_session.specs.TerminalRuns.{HasFailed};
 
 use crate::fault::RunFault;
-use crate::host::HostCore;
 use crate::host_machine::HostMachine;
 use crate::outcome::HostOutcome;
 use crate::run::run_over;
-use crate::session::{Out, SessionFault};
 use crate::turn::Finish;
 use crate::wire::Wire;
 use scr_layout::Layout;
 use std::alloc::Global;
 use std::io::{Read, Write};
+use tn_cores::{HostCore, Out, SessionFault};
 
 /// Runs a host's session over a line: says what a host says first, sends the records once the session is ready, takes the
 /// RESPONSES to them, and reads the first answer by the layout. `enhanced` says whether it asks for TN3270E, `responses`

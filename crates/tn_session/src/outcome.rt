@@ -5,10 +5,10 @@ ghost use Rattle.ds_inbound.specs.Answer.{written_characters};
 ghost use Rattle.scr_check.specs.Bound.{bound_seen};
 ghost use Rattle.tn_session.specs.HostView.{field_view};
 
-use crate::session::Agreed;
 use ds_codec::Aid;
 use scr_check::Bound;
 use std::alloc::{AllocError, Global};
+use tn_cores::Agreed;
 
 /// What comes of a host's session: the terminal's answer, field by field.
 #[derive(Debug, Drop)]

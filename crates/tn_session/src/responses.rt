@@ -4,10 +4,10 @@ ghost use Rattle.std.specs.Prelude.{◌≡◌, ◌∷◌, [], ◌++◌, OnOk};
 ghost use Rattle.tn_session.specs.TerminalLog.{response_bytes, positive, negative, refusal_code, read_code};
 
 use crate::sent::push_headed;
-use crate::session::Agreed;
 use ds_codec::Why;
 use ds_terminal::Refused;
 use std::alloc::AllocError;
+use tn_cores::Agreed;
 use tn_wire::{DataType, Header};
 
 /// COMMAND-REJECT where the command is refused, else OPERATION-CHECK.

@@ -8,12 +8,12 @@ ghost use Rattle.tn_session.specs.Ran.{Sends, TakesEvent, TakesPiece, stopped_by
 
 use crate::fault::RunFault;
 use crate::machine::Machine;
-use crate::session::SessionFault;
 use crate::stop::Stop;
 use crate::turn::{Finish, Turn};
 use crate::wire::Wire;
 use std::alloc::Global;
 use std::io::{Read, Write};
+use tn_cores::SessionFault;
 use tn_wire::{Deframer, Event, Step};
 
 /// The most reads of one run.

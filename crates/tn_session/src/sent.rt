@@ -4,8 +4,8 @@ ghost use Rattle.std.specs.Prelude.{◌≡◌, ◌++◌, OnOk};
 ghost use Rattle.tn_wire.specs.Header.{header_bytes};
 ghost use Rattle.tn_session.specs.Sent.{framed, next_sequence, sent_data};
 
-use crate::session::Agreed;
 use std::alloc::AllocError;
+use tn_cores::Agreed;
 use tn_wire::{DataType, Header, push_frame};
 
 /// The sequence number after one: from 0 up to 32,767, and then on from 0.

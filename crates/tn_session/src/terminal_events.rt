@@ -3,16 +3,16 @@
 ghost use Rattle.std.specs.Prelude.{◌≡◌, ◌+◌, ◌<◌, ◌≤◌, ◌^◌, [], length, OnOk};
 ghost use Rattle.tn_wire.specs.Calls.{told_of};
 ghost use Rattle.tn_wire.specs.Header.{header_of};
-ghost use Rattle.tn_session.specs.Terminal.{terminal_agreed};
+ghost use Rattle.tn_cores.specs.Terminal.{terminal_agreed};
 ghost use Rattle.tn_session.specs.Ran.{Does};
 ghost use Rattle.tn_session.specs.TerminalLog.{counted, taken_data, taken_headed, taken_record, terminal_act};
 
 use crate::fault::RunFault;
-use crate::session::{Agreed, Out};
 use crate::terminal_state::TerminalState;
 use crate::turn::Turn;
 use ds_keys::Key;
 use std::alloc::Global;
+use tn_cores::{Agreed, Out};
 use tn_wire::{DataType, Event, Header};
 
 /// Takes a record of 3270 data, and presses keys.

@@ -1,16 +1,14 @@
 //! A terminal's run over a line.
 
 ghost use Rattle.std.specs.Prelude.{◌≡◌, ◌+◌, ◌≤◌, ◌↔◌, None, Some, Err, IfOk};
-ghost use Rattle.tn_session.specs.declared.session.SessionFault.TheVariants as session;
+ghost use Rattle.tn_cores.specs.declared.session.SessionFault.TheVariants as session;
 ghost use Rattle.tn_session.specs.declared.report.RunEnd.TheVariants as ends;
 ghost use Rattle.tn_session.specs.declared.stop.Stop.TheVariants.{Ended};
 ghost use Rattle.tn_session.specs.TerminalRuns.{TerminalRan, HasFailed};
 
-use crate::device::Device;
 use crate::fault::RunFault;
 use crate::report::Report;
 use crate::run::run_over;
-use crate::terminal::TermCore;
 use crate::terminal_machine::TerminalRun;
 use crate::terminal_state::TerminalState;
 use crate::wire::Wire;
@@ -18,6 +16,7 @@ use ds_keys::Key;
 use ds_terminal::Terminal;
 use std::alloc::Global;
 use std::io::{Read, Write};
+use tn_cores::{Device, TermCore};
 
 /// Runs a terminal of this device over a line: it answers the host, and its operator presses these keys, each as soon as the
 /// keyboard doesn't wait for a record. `enhanced` says whether it takes TN3270E, `responses` whether it asks for RESPONSES

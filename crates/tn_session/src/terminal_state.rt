@@ -1,8 +1,8 @@
 //! What a terminal keeps during a run over a line.
 
-use crate::terminal::TermCore;
 use ds_screen::PlaneCells;
 use ds_terminal::Terminal;
+use tn_cores::TermCore;
 
 /// A terminal's run, the keys that are left aside.
 #[derive(Drop)]

@@ -6,12 +6,12 @@ ghost use Rattle.ds_terminal.specs.Seen.{reply_seen, key_reply_seen};
 
 use crate::responses::{push_negative, push_positive};
 use crate::sent::{next_sequence, push_data};
-use crate::session::Agreed;
 use crate::terminal_state::TerminalState;
 use ds_keys::Key;
 use ds_screen::Lock;
 use ds_terminal::{KeyReply, RecordReply};
 use std::alloc::{AllocError, Global};
+use tn_cores::Agreed;
 use tn_wire::Header;
 
 fn is_free(lock: Lock) -> bool

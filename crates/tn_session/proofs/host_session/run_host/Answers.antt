@@ -1,7 +1,7 @@
 use Rattle.std.proofs.Common.{map, length, Ok, Err, refl, sym, ap, ◌∙◌, inl}
 use Rattle.std.proofs.lemmas.List.{length-map}
+use Rattle.tn_cores.specs.declared.session.SessionFault.TheVariants.{Closed}
 use Rattle.tn_session.specs.declared.fault.RunFault.TheVariants.{Session}
-use Rattle.tn_session.specs.declared.session.SessionFault.TheVariants.{Closed}
 use Rattle.tn_session.specs.declared.turn.Finish.TheVariants.{Finished, Closed as Shut}
 use Rattle.tn_session.proofs.HostFinish.{finished_tells, runs_as}
 use Rattle.tn_session.proofs.host_session.run_host.Goals as goal

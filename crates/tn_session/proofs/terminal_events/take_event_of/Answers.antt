@@ -1,9 +1,9 @@
 use Rattle.std.proofs.Common.{sym, ◌∙◌, ap, subst, Ok}
 use Rattle.tn_wire.specs.declared.event.Event.{Event}
 use Rattle.tn_wire.specs.Calls.{told_of}
+use Rattle.tn_cores.specs.Steps.{Takes, terminal_step}
 use Rattle.tn_session.specs.Ran.{Does}
 use Rattle.tn_session.specs.Runs.{Log}
-use Rattle.tn_session.specs.Steps.{Takes, terminal_step}
 use Rattle.tn_session.specs.TerminalLog.{TerminalRunning, terminal_act}
 use Rattle.tn_session.proofs.TerminalSteps.{refused_act, record_act}
 use Rattle.tn_session.proofs.terminal_events.take_event_of.Goals as goal

@@ -1,0 +1,12 @@
+pub mod Options
+pub mod Devices
+pub mod Heard
+pub mod HeardView
+pub mod Replies
+pub mod ReplyView
+pub mod Rows
+pub mod Terminal
+pub mod Host
+pub mod Steps
+pub mod Pair
+pub mod Traced

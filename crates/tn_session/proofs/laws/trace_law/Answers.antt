@@ -1,5 +1,0 @@
-use Rattle.tn_session.proofs.TraceLaws.{terminals_told, hosts_told}
-use Rattle.tn_session.proofs.laws.trace_law.Goals as goal
-
-pub returns : goal.returns
-returns c = record { terminals = terminals_told; hosts = hosts_told }
