@@ -161,20 +161,33 @@ known_is : {A : Type 0} (o : Option A) (x : A) (P : A → Type 0) → o ≡ Some
 known_is None x P e has = absurd cc
 known_is (Some y) x P e has = let same : y ≡ x = cc in subst P same has
 
--- one more layout was read
-pub layout_read : {L : Type 0} (remaining : L → Option (List ℕ)) (reader : L) (text : List ℕ) (turn : ℕ) (rest : List (List ℕ)) (before after : List Declaration) (layout : Declaration)
-    → remaining reader ≡ Some text → IfSome (remaining reader) (λ input. turn_layout_in turn input ≡ Ok layout) → turn ≡ length before → after ≡ before ++ layout ∷ []
+-- one more layout
+pub layout_more : (text : List ℕ) (rest : List (List ℕ)) (before after : List Declaration) (layout : Declaration) → turn_layout_in (length before) text ≡ Ok layout → after ≡ before ++ layout ∷ []
     → layouts_from (length after) after rest ≡ layouts_from (length before) before (text ∷ rest)
 unfolding layouts_from
-layout_read remaining reader text turn rest before after layout known reads here pushed =
-    let read : turn_layout_in (length before) text ≡ Ok layout = ap (λ k. turn_layout_in k text) (sym here) ∙ known_is (remaining reader) text (λ input. turn_layout_in turn input ≡ Ok layout) known reads in
+layout_more text rest before after layout said pushed =
     let more : length after ≡ length before + 1 = ap length pushed ∙ length_one before layout in
     ap (λ k. layouts_from k after rest) more ∙ ap (λ ls. layouts_from (length before + 1) ls rest) pushed
-    ∙ sym (ap (λ r. r >>= λ l. layouts_from (length before + 1) (before ++ l ∷ []) rest) read)
+    ∙ sym (ap (λ r. r >>= λ l. layouts_from (length before + 1) (before ++ l ∷ []) rest) said)
   where
     length_one : (xs : List Declaration) (y : Declaration) → length (xs ++ y ∷ []) ≡ length xs + 1
     length_one [] y = refl
     length_one (x ∷ xs) y = let e = length_one xs y in omega (arith, e)
+
+-- a layout is refused, or there was no memory for it
+pub layout_stops : (text : List ℕ) (rest : List (List ℕ)) (before : List Declaration) (error : CommandError) → Gives {A = Declaration} (λ l. l) (Err error) (turn_layout_in (length before) text)
+    → Gives {A = Vec Declaration} (λ v. v.items) (Err error) (layouts_from (length before) before (text ∷ rest))
+unfolding layouts_from
+layout_stops text rest before (Told fault) fails = ap (λ r. r >>= λ l. layouts_from (length before + 1) (before ++ l ∷ []) rest) fails
+layout_stops text rest before ReadFailed fails = tt
+layout_stops text rest before OutOfMemory fails = tt
+
+-- one more layout was read
+pub layout_read : {L : Type 0} (remaining : L → Option (List ℕ)) (reader : L) (text : List ℕ) (turn : ℕ) (rest : List (List ℕ)) (before after : List Declaration) (layout : Declaration)
+    → remaining reader ≡ Some text → IfSome (remaining reader) (λ input. turn_layout_in turn input ≡ Ok layout) → turn ≡ length before → after ≡ before ++ layout ∷ []
+    → layouts_from (length after) after rest ≡ layouts_from (length before) before (text ∷ rest)
+layout_read remaining reader text turn rest before after layout known reads here pushed =
+    layout_more text rest before after layout (ap (λ k. turn_layout_in k text) (sym here) ∙ known_is (remaining reader) text (λ input. turn_layout_in turn input ≡ Ok layout) known reads) pushed
 
 -- a layout was refused, or could not be read
 pub layout_fails : {L : Type 0} (remaining : L → Option (List ℕ)) (reader : L) (text : List ℕ) (turn : ℕ) (rest texts : List (List ℕ)) (before : List Declaration) (error : CommandError)
