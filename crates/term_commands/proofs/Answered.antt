@@ -13,7 +13,7 @@ use Rattle.term_commands.specs.declared.status.Status.{Status}
 use Rattle.term_commands.specs.declared.status.Status.TheVariants.{Done, Findings, BadInput, Failed, NoMemory}
 use Rattle.term_commands.specs.Fault.{Gives, fault_line}
 use Rattle.term_commands.specs.Held.{answer_seen}
-use Rattle.term_commands.specs.Lines.{within_limit}
+use Rattle.term_commands.specs.Lines.{at_most, within_limit}
 use Rattle.term_commands.specs.Printed.{Printed, printed, printed_or_fault}
 use Rattle.term_commands.specs.Streams.{AppendsFront, IsWritten, IsStopped, Finishes, Prints}
 
@@ -29,6 +29,10 @@ same_limit input text is =
           rw (cut, lt-ltb 16777216 (length input) long) refl
       | inr short ↦ ap within_limit (sym (is ∙ take_all 16777217 input (omega arith)))
     ]
+
+pub bounded : (text : List ℕ) (fits : Result (Unit {0}) Fault) → fits ≡ at_most (length text) 16777216 → within_limit text ≡ (fits >>= λ short. Ok text)
+unfolding within_limit
+bounded text fits is = rw is refl
 
 pub alike : (known : Option (List ℕ)) (text : List ℕ) → IfSome known (λ input. text ≡ take 16777217 input) → IfSome known (λ input. within_limit input ≡ within_limit text)
 alike None text is = tt
