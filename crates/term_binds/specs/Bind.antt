@@ -29,11 +29,11 @@ status_of all = if all then Done else BadInput
 abbrev pub printed_answers : Form → Declaration → List (List ℕ) → Printed
 printed_answers form layout answers = printed (lines_from form layout 0 answers) (status_of (are_bound layout answers))
 
+abbrev pub bind_answers : Form → Declaration → List ℕ → Result Printed Fault
+bind_answers form layout input = records_in Refused input >>= λ told. Ok (printed_answers form layout told.records)
+
 abbrev pub bind : Form → List ℕ → List ℕ → Result Printed Fault
-bind form text input = do
-  layout ← layout_in text
-  told ← records_in Refused input
-  Ok (printed_answers form layout told.records)
+bind form text input = layout_in text >>= λ layout. bind_answers form layout input
 
 -- what `bind` prints for a layout's text and answers, and its status
 abbrev pub printed_bind : Form → List ℕ → List ℕ → Printed

@@ -6,14 +6,16 @@ ghost use Rattle.term_commands.specs.Fault.{Gives};
 ghost use Rattle.term_commands.specs.Held.{answer_seen, records_held};
 ghost use Rattle.term_commands.specs.LayoutText.{layout_in};
 ghost use Rattle.term_commands.specs.Streams.{Prints};
-ghost use Rattle.term_binds.specs.Bind.{lines_from, are_bound, status_of, printed_answers, bind, printed_bind};
+ghost use Rattle.term_binds.specs.Bind.{lines_from, are_bound, status_of, printed_answers, bind_answers, bind, printed_bind};
 
 use crate::fields::Form;
 use crate::lines::push_answer;
 use scr_layout::Layout;
 use std::alloc::{AllocError, Global};
 use std::io::{Read, Write};
-use term_commands::{Answer, CommandError, SizeLine, Status, finish, read_layout, read_records};
+use term_commands::{
+    Answer, CommandError, SizeLine, Status, finish, layout_in, read_layout, read_text, records_in,
+};
 
 /// The lines of answers in turn; whether all of them are bound.
 fn push_answers(
@@ -59,7 +61,37 @@ fn answers_text(
     })
 }
 
-fn bind_answers<L: Read, R: Read>(
+/// What `bind` answers to a layout and a text of answers.
+fn bind_answers(
+    alloc: Global,
+    layout: &Layout,
+    answers: &[u8],
+    form: Form,
+) -> Result<Answer, CommandError>
+    ensures { Gives answer_seen result (bind_answers form layout.now answers.now) }
+{
+    let told = records_in(alloc, answers, SizeLine::Refused)?;
+    Ok(answers_text(alloc, form, layout, told.records.as_slice())?)
+}
+
+/// What `bind` answers to the texts of a layout and of answers.
+///
+/// # Errors
+///
+/// The first fault of the layout, then of the lines; out of memory.
+pub fn bind_texts(
+    alloc: Global,
+    layout: &[u8],
+    answers: &[u8],
+    form: Form,
+) -> Result<Answer, CommandError>
+    ensures { Gives answer_seen result (bind form layout.now answers.now) }
+{
+    let layout = layout_in(alloc, layout)?;
+    bind_answers(alloc, &layout, answers, form)
+}
+
+fn bind_read<L: Read, R: Read>(
     alloc: Global,
     layout: &mut L,
     reader: &mut R,
@@ -71,8 +103,8 @@ fn bind_answers<L: Read, R: Read>(
         reader.new ≡ reader.old)) }
 {
     let layout = read_layout(alloc, layout)?;
-    let told = read_records(alloc, reader, SizeLine::Refused)?;
-    Ok(answers_text(alloc, form, &layout, told.records.as_slice())?)
+    let answers = read_text(alloc, reader)?;
+    bind_answers(alloc, &layout, answers.as_slice(), form)
 }
 
 /// Reads a layout and then answers in hexadecimal, one a line, and prints for each, counted from 0, its attention
@@ -95,6 +127,6 @@ pub fn run_bind<L: Read, R: Read, W: Write>(
     ensures unread { IfSome (L.remaining layout.old) (λ text. IfErr (layout_in text) (λ fault.
         reader.new ≡ reader.old)) }
 {
-    let answer = bind_answers(alloc, layout, reader, form);
+    let answer = bind_read(alloc, layout, reader, form);
     finish(alloc, writer, answer)
 }

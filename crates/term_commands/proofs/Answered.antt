@@ -30,15 +30,13 @@ same_limit input text is =
       | inr short ↦ ap within_limit (sym (is ∙ take_all 16777217 input (omega arith)))
     ]
 
-bounded : (text : List ℕ) (fits : Result (Unit {0}) Fault) → fits ≡ at_most (length text) 16777216 → within_limit text ≡ (fits >>= λ short. Ok text)
+pub bounded : (text : List ℕ) (fits : Result (Unit {0}) Fault) → fits ≡ at_most (length text) 16777216 → within_limit text ≡ (fits >>= λ short. Ok text)
 unfolding within_limit
 bounded text fits is = rw is refl
 
-pub limited : (known : Option (List ℕ)) (text : List ℕ) (fits : Result (Unit {0}) Fault)
-    → IfSome known (λ input. text ≡ take 16777217 input) → fits ≡ at_most (length text) 16777216
-    → IfSome known (λ input. within_limit input ≡ (fits >>= λ short. Ok text))
-limited None text fits is test = tt
-limited (Some input) text fits is test = same_limit input text is ∙ bounded text fits test
+pub alike : (known : Option (List ℕ)) (text : List ℕ) → IfSome known (λ input. text ≡ take 16777217 input) → IfSome known (λ input. within_limit input ≡ within_limit text)
+alike None text is = tt
+alike (Some input) text is = same_limit input text is
 
 -- ---- one step after another
 

@@ -1,5 +1,5 @@
 -- The turns of a dialogue and their layouts, one after the other.
-use Rattle.std.proofs.Common.{◌≡◌, ℕ, suc, ◌+◌, ◌<◌, ◌≤◌, ◌&&◌, Bool, true, false, cond, ltb, List, [], ◌∷◌, ◌++◌, length, map, get_or, drop, Option, Some, None, Result, Ok, Err, refl, sym, ◌∙◌, ap, subst, arith}
+use Rattle.std.proofs.Common.{◌≡◌, ℕ, suc, ◌+◌, ◌<◌, ◌≤◌, ◌&&◌, Bool, true, false, cond, ltb, List, [], ◌∷◌, ◌++◌, length, map, get_or, drop, Option, Some, None, Result, Ok, Err, refl, sym, ◌∙◌, ap, subst, arith, add-one}
 use Rattle.std.specs.Prelude.{IfSome}
 use Rattle.std.specs.Global.{Vec}
 use Rattle.std.specs.Borrow.{Bor}
@@ -161,20 +161,33 @@ known_is : {A : Type 0} (o : Option A) (x : A) (P : A → Type 0) → o ≡ Some
 known_is None x P e has = absurd cc
 known_is (Some y) x P e has = let same : y ≡ x = cc in subst P same has
 
--- one more layout was read
-pub layout_read : {L : Type 0} (remaining : L → Option (List ℕ)) (reader : L) (text : List ℕ) (turn : ℕ) (rest : List (List ℕ)) (before after : List Declaration) (layout : Declaration)
-    → remaining reader ≡ Some text → IfSome (remaining reader) (λ input. turn_layout_in turn input ≡ Ok layout) → turn ≡ length before → after ≡ before ++ layout ∷ []
+-- one more layout
+pub layout_more : (text : List ℕ) (rest : List (List ℕ)) (before after : List Declaration) (layout : Declaration) → turn_layout_in (length before) text ≡ Ok layout → after ≡ before ++ layout ∷ []
     → layouts_from (length after) after rest ≡ layouts_from (length before) before (text ∷ rest)
 unfolding layouts_from
-layout_read remaining reader text turn rest before after layout known reads here pushed =
-    let read : turn_layout_in (length before) text ≡ Ok layout = ap (λ k. turn_layout_in k text) (sym here) ∙ known_is (remaining reader) text (λ input. turn_layout_in turn input ≡ Ok layout) known reads in
+layout_more text rest before after layout said pushed =
     let more : length after ≡ length before + 1 = ap length pushed ∙ length_one before layout in
     ap (λ k. layouts_from k after rest) more ∙ ap (λ ls. layouts_from (length before + 1) ls rest) pushed
-    ∙ sym (ap (λ r. r >>= λ l. layouts_from (length before + 1) (before ++ l ∷ []) rest) read)
+    ∙ sym (ap (λ r. r >>= λ l. layouts_from (length before + 1) (before ++ l ∷ []) rest) said)
   where
     length_one : (xs : List Declaration) (y : Declaration) → length (xs ++ y ∷ []) ≡ length xs + 1
     length_one [] y = refl
     length_one (x ∷ xs) y = let e = length_one xs y in omega (arith, e)
+
+-- a layout is refused, or there was no memory for it
+pub layout_stops : (text : List ℕ) (rest : List (List ℕ)) (before : List Declaration) (error : CommandError) → Gives {A = Declaration} (λ l. l) (Err error) (turn_layout_in (length before) text)
+    → Gives {A = Vec Declaration} (λ v. v.items) (Err error) (layouts_from (length before) before (text ∷ rest))
+unfolding layouts_from
+layout_stops text rest before (Told fault) fails = ap (λ r. r >>= λ l. layouts_from (length before + 1) (before ++ l ∷ []) rest) fails
+layout_stops text rest before ReadFailed fails = tt
+layout_stops text rest before OutOfMemory fails = tt
+
+-- one more layout was read
+pub layout_read : {L : Type 0} (remaining : L → Option (List ℕ)) (reader : L) (text : List ℕ) (turn : ℕ) (rest : List (List ℕ)) (before after : List Declaration) (layout : Declaration)
+    → remaining reader ≡ Some text → IfSome (remaining reader) (λ input. turn_layout_in turn input ≡ Ok layout) → turn ≡ length before → after ≡ before ++ layout ∷ []
+    → layouts_from (length after) after rest ≡ layouts_from (length before) before (text ∷ rest)
+layout_read remaining reader text turn rest before after layout known reads here pushed =
+    layout_more text rest before after layout (ap (λ k. turn_layout_in k text) (sym here) ∙ known_is (remaining reader) text (λ input. turn_layout_in turn input ≡ Ok layout) known reads) pushed
 
 -- a layout was refused, or could not be read
 pub layout_fails : {L : Type 0} (remaining : L → Option (List ℕ)) (reader : L) (text : List ℕ) (turn : ℕ) (rest texts : List (List ℕ)) (before : List Declaration) (error : CommandError)
@@ -203,3 +216,30 @@ pub talk_finished : (due : List (List ℕ) → List ℕ → Result Printed Fault
 talk_finished due None other old new answer status is written = tt
 talk_finished due (Some texts) None old new answer status is written = tt
 talk_finished due (Some texts) (Some input) old new answer status is written = finishes (due texts input) old new answer status is written
+
+-- ---- the layouts of texts in turn
+text_on : (texts : List (Bor (List ℕ))) (index : ℕ) (d : Bor (List ℕ)) → index < length texts
+    → map (λ t. t.now) (drop index texts) ≡ (get_or texts index d).now ∷ map (λ t. t.now) (drop (index + 1) texts)
+text_on texts index d inside = ap (map (λ t. t.now)) (drop-cons texts index d inside) ∙ rw add-one refl
+
+pub layout_next : (texts : List (Bor (List ℕ))) (index turn : ℕ) (d : Bor (List ℕ)) (before after : List Declaration) (layout : Declaration) (all : Result (List Declaration) Fault)
+    → index < length texts → turn_layout_in turn (get_or texts index d).now ≡ Ok layout → turn ≡ length before → after ≡ before ++ layout ∷ []
+    → layouts_from (length before) before (map (λ t. t.now) (drop index texts)) ≡ all → layouts_from (length after) after (map (λ t. t.now) (drop (index + 1) texts)) ≡ all
+layout_next texts index turn d before after layout all inside said here pushed so_far =
+    let text : List ℕ = (get_or texts index d).now in
+    layout_more text (map (λ t. t.now) (drop (index + 1) texts)) before after layout (ap (λ k. turn_layout_in k text) (sym here) ∙ said) pushed
+    ∙ ap (layouts_from (length before) before) (sym (text_on texts index d inside)) ∙ so_far
+
+pub layout_last : (texts : List (Bor (List ℕ))) (index turn : ℕ) (d : Bor (List ℕ)) (before : List Declaration) (error : CommandError) (all : Result (List Declaration) Fault)
+    → index < length texts → Gives {A = Declaration} (λ l. l) (Err error) (turn_layout_in turn (get_or texts index d).now) → turn ≡ length before
+    → layouts_from (length before) before (map (λ t. t.now) (drop index texts)) ≡ all → Gives {A = Vec Declaration} (λ v. v.items) (Err error) all
+layout_last texts index turn d before error all inside fails here so_far =
+    let text : List ℕ = (get_or texts index d).now in
+    subst (λ (r : Result (List Declaration) Fault). Gives {A = Vec Declaration} (λ v. v.items) (Err error) r) (ap (layouts_from (length before) before) (sym (text_on texts index d inside)) ∙ so_far)
+    (layout_stops text (map (λ t. t.now) (drop (index + 1) texts)) before error
+    (subst (λ (k : ℕ). Gives {A = Declaration} (λ l. l) (Err error) (turn_layout_in k text)) here fails))
+
+pub layout_end : (texts : List (Bor (List ℕ))) (index : ℕ) (before : List Declaration) (all : Result (List Declaration) Fault) → length texts ≤ index
+    → layouts_from (length before) before (map (λ t. t.now) (drop index texts)) ≡ all → all ≡ Ok before
+layout_end texts index before all past so_far =
+    sym so_far ∙ layouts_end (length before) before (map (λ t. t.now) (drop index texts)) (ap (map (λ t. t.now)) (drop_all index texts past))

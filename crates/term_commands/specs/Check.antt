@@ -24,11 +24,11 @@ printed_verdict lines (finding ∷ findings) = printed (flat_map lines (finding 
 abbrev pub printed_answer : Demos → Declaration → List (List ℕ) → Printed
 printed_answer demos layout records = printed_verdict (finding_lines layout.entries (asked demos (opening_of layout records))) (answer_of layout records)
 
+abbrev pub check_records : Demos → Declaration → List ℕ → Result Printed Fault
+check_records demos layout records = records_in Refused records >>= λ told. Ok (printed_answer demos layout told.records)
+
 abbrev pub check : Demos → List ℕ → List ℕ → Result Printed Fault
-check demos text records = do
-  layout ← layout_in text
-  told ← records_in Refused records
-  Ok (printed_answer demos layout told.records)
+check demos text records = layout_in text >>= λ layout. check_records demos layout records
 
 -- what `check` prints for a layout's text and records, and its status
 abbrev pub printed_check : Demos → List ℕ → List ℕ → Printed

@@ -10,7 +10,7 @@ use Rattle.term_commands.specs.declared.input.sizes.SizeLine.TheVariants.{Allowe
 use Rattle.term_commands.specs.declared.status.Status.TheVariants.{Done}
 use Rattle.term_commands.specs.Keys.{keys_in}
 use Rattle.term_commands.specs.Printed.{Printed, printed, printed_or_fault}
-use Rattle.term_commands.specs.Records.{records_in}
+use Rattle.term_commands.specs.Records.{Records, records_in}
 use Rattle.term_commands.specs.Screen.{sent_line}
 use Rattle.term_commands.specs.Shown.{shown_on}
 
@@ -29,12 +29,14 @@ abbrev pub pressed_text : Picture → List Key → List ℕ
 pressed_text v [] = []
 pressed_text v (key ∷ keys) = turn_line (pressed v key) ++ pressed_text (pressed v key).after keys
 
-abbrev pub press : List ℕ → List ℕ → Result Printed Fault
-press records lines = do
-  told ← records_in Allowed records
+abbrev pub press_keys : Records → List ℕ → Result Printed Fault
+press_keys told lines = do
   keys ← keys_in lines
   v ← shown_on told.geometry told.records
   Ok (printed (pressed_text v keys) Done)
+
+abbrev pub press : List ℕ → List ℕ → Result Printed Fault
+press records lines = records_in Allowed records >>= λ told. press_keys told lines
 
 -- what `press` prints for records and keys, and its status
 abbrev pub printed_press : List ℕ → List ℕ → Printed

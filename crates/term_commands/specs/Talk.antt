@@ -91,15 +91,19 @@ abbrev pub printed_stop : List Declaration → Option Stop → Printed
 printed_stop layouts None = printed (codes "yes\n") Done
 printed_stop layouts (Some stop) = printed (stop_text layouts stop) Findings
 
--- the faults of the layouts, in order; then that they are not of one geometry; then those of the lines; then that the
--- numbers differ
+-- the faults of the lines; then that the numbers differ
+abbrev pub talk_turns : List Declaration → List ℕ → Result Printed Fault
+talk_turns layouts input = do
+  turns ← turns_in input
+  as_many ← counted (length turns) (length layouts)
+  Ok (printed_stop layouts (walk_of (rounds turns layouts)))
+
+-- the faults of the layouts, in order; then that they are not of one geometry; then those of the turns
 abbrev pub talk : List (List ℕ) → List ℕ → Result Printed Fault
 talk texts input = do
   layouts ← layouts_from 0 [] texts
   same ← unless_other (first_other layouts)
-  turns ← turns_in input
-  as_many ← counted (length turns) (length layouts)
-  Ok (printed_stop layouts (walk_of (rounds turns layouts)))
+  talk_turns layouts input
 
 -- what `talk` prints for its layouts' texts and its records, and its status
 abbrev pub printed_talk : List (List ℕ) → List ℕ → Printed

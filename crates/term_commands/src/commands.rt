@@ -7,9 +7,9 @@ mod press;
 mod show;
 mod talk;
 
-pub use back::run_convert_back;
-pub use check::{check_answer, run_check};
-pub use convert::run_convert;
-pub use press::run_press;
-pub use show::run_show;
-pub use talk::run_talk;
+pub use back::{convert_back_text, run_convert_back};
+pub use check::{check_answer, check_texts, run_check};
+pub use convert::{convert_text, run_convert};
+pub use press::{press_texts, run_press};
+pub use show::{run_show, show_text};
+pub use talk::{run_talk, talk_texts};

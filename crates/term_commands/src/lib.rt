@@ -1,5 +1,5 @@
-//! The commands of the program `term3270`, each over readers and a writer: inputs are read line by line
-//! (`input`), a command makes an answer of them (`commands`), and it is written (`output`).
+//! The commands of the program `term3270`, each from texts to its answer, and over readers and a writer: inputs are read
+//! whole and taken line by line (`input`), a command makes an answer of them (`commands`), and it is written (`output`).
 #![tactic(auto)]
 
 mod commands;
@@ -11,14 +11,16 @@ mod shown;
 mod status;
 
 pub use commands::{
-    check_answer, run_check, run_convert, run_convert_back, run_press, run_show, run_talk,
+    check_answer, check_texts, convert_back_text, convert_text, press_texts, run_check,
+    run_convert, run_convert_back, run_press, run_show, run_talk, show_text, talk_texts,
 };
 pub use fault::{CommandError, Fault, failure};
+pub use input::bytes::read_text;
 pub use input::keys::{Keys, read_keys};
-pub use input::layout::read_layout;
-pub use input::records::{Records, read_records};
+pub use input::layout::{layout_in, read_layout};
+pub use input::records::{Records, read_records, records_in};
 pub use input::sizes::SizeLine;
 pub use law::{convert_law, lines_law};
-pub use output::answer::{Answer, finish};
+pub use output::answer::{Answer, finish, printed};
 pub use output::demo::Demos;
 pub use status::Status;

@@ -12,7 +12,7 @@ use ds_screen::{PlaneCells, Screen};
 use scr_draft::{Opened, draft, open};
 use std::alloc::Global;
 use std::io::{Read, Write};
-use term_commands::{Answer, CommandError, SizeLine, Status, finish, read_records};
+use term_commands::{Answer, CommandError, SizeLine, Status, finish, read_text, records_in};
 
 /// What `draft` answers to a screen.
 fn draft_answer(alloc: Global, screen: &Screen<PlaneCells>) -> Result<Answer, CommandError>
@@ -25,10 +25,15 @@ fn draft_answer(alloc: Global, screen: &Screen<PlaneCells>) -> Result<Answer, Co
     })
 }
 
-fn draft_records<R: Read>(alloc: Global, reader: &mut R) -> Result<Answer, CommandError>
-    ensures { IfSome (R.remaining reader.old) (λ input. Gives answer_seen result (draft input)) }
+/// What `draft` answers to a text of records.
+///
+/// # Errors
+///
+/// The first fault of the lines, or of the draft as a layout; out of memory.
+pub fn draft_text(alloc: Global, records: &[u8]) -> Result<Answer, CommandError>
+    ensures { Gives answer_seen result (draft records.now) }
 {
-    let told = read_records(alloc, reader, SizeLine::Allowed)?;
+    let told = records_in(alloc, records, SizeLine::Allowed)?;
     match open(alloc, told.geometry, told.records.as_slice())? {
         Opened::Leads(screen) => draft_answer(alloc, &screen),
         Opened::Stands(finding) => Ok(Answer {
@@ -36,6 +41,13 @@ fn draft_records<R: Read>(alloc: Global, reader: &mut R) -> Result<Answer, Comma
             status: Status::Findings,
         }),
     }
+}
+
+fn draft_records<R: Read>(alloc: Global, reader: &mut R) -> Result<Answer, CommandError>
+    ensures { IfSome (R.remaining reader.old) (λ input. Gives answer_seen result (draft input)) }
+{
+    let records = read_text(alloc, reader)?;
+    draft_text(alloc, records.as_slice())
 }
 
 /// Reads records in hexadecimal, one a line, applies them to a new screen, and prints a layout for it, in TOML: an entry

@@ -6,4 +6,4 @@ mod stop;
 #[cfg(test)]
 mod tests;
 
-pub use drafting::run_draft;
+pub use drafting::{draft_text, run_draft};

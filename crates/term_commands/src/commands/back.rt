@@ -11,7 +11,8 @@ ghost use Rattle.term_commands.specs.Printed.{joined};
 ghost use Rattle.term_commands.specs.Streams.{Prints};
 
 use crate::fault::{CommandError, Fault};
-use crate::input::drafts::read_drafts;
+use crate::input::bytes::read_text;
+use crate::input::drafts::drafts_in;
 use crate::output::answer::{Answer, finish};
 use crate::status::Status;
 use ds_codec::{Command, Geometry, Mode, Size, Unwritable};
@@ -76,14 +77,26 @@ fn lines_written(
     Ok(out)
 }
 
-fn back<R: Read>(alloc: Global, reader: &mut R) -> Result<Answer, CommandError>
-    ensures { IfSome (R.remaining reader.old) (λ input. Gives answer_seen result (back input)) }
+/// What `convert --back` answers to a text of order lines.
+///
+/// # Errors
+///
+/// The first fault of the lines, then the first record that cannot be written; out of memory.
+pub fn convert_back_text(alloc: Global, lines: &[u8]) -> Result<Answer, CommandError>
+    ensures { Gives answer_seen result (back lines.now) }
 {
-    let drafts = read_drafts(alloc, reader)?;
+    let drafts = drafts_in(alloc, lines)?;
     Ok(Answer {
         text: lines_written(alloc, &drafts.geometry, drafts.ended.as_slice())?,
         status: Status::Done,
     })
+}
+
+fn back<R: Read>(alloc: Global, reader: &mut R) -> Result<Answer, CommandError>
+    ensures { IfSome (R.remaining reader.old) (λ input. Gives answer_seen result (back input)) }
+{
+    let lines = read_text(alloc, reader)?;
+    convert_back_text(alloc, lines.as_slice())
 }
 
 /// Reads order lines and prints the bytes of each record in hexadecimal, one a line; or the first fault

@@ -5,7 +5,7 @@ ghost use Rattle.std.specs.List.{flat_map, list_any};
 ghost use Rattle.scr_check.specs.Seen.{findings_in, TellsSome};
 ghost use Rattle.term_commands.specs.declared.status.Status.TheVariants.{Findings};
 ghost use Rattle.term_commands.specs.declared.output.demo.Demos.TheVariants.{Omitted};
-ghost use Rattle.term_commands.specs.Check.{printed_verdict, printed_answer, check, printed_check};
+ghost use Rattle.term_commands.specs.Check.{printed_verdict, printed_answer, check_records, check, printed_check};
 ghost use Rattle.term_commands.specs.DemoLines.{finding_lines, has_keys, asked, shown_on};
 ghost use Rattle.term_commands.specs.Fault.{Gives};
 ghost use Rattle.term_commands.specs.Held.{answer_seen, records_held};
@@ -14,8 +14,9 @@ ghost use Rattle.term_commands.specs.Printed.{printed};
 ghost use Rattle.term_commands.specs.Streams.{Prints};
 
 use crate::fault::CommandError;
-use crate::input::layout::read_layout;
-use crate::input::records::read_records;
+use crate::input::bytes::read_text;
+use crate::input::layout::{layout_in, read_layout};
+use crate::input::records::records_in;
 use crate::input::sizes::SizeLine;
 use crate::output::answer::{Answer, finish};
 use crate::output::demo::{Demos, demo_terminal};
@@ -119,7 +120,37 @@ pub fn check_answer(
     verdict_text(alloc, layout, records, demos, &verdict)
 }
 
-fn check_records<L: Read, R: Read>(
+/// What `check` answers to a layout and a text of records.
+fn check_records(
+    alloc: Global,
+    layout: &Layout,
+    records: &[u8],
+    demos: Demos,
+) -> Result<Answer, CommandError>
+    ensures { Gives answer_seen result (check_records demos layout.now records.now) }
+{
+    let told = records_in(alloc, records, SizeLine::Refused)?;
+    Ok(check_answer(alloc, layout, told.records.as_slice(), demos)?)
+}
+
+/// What `check` answers to the texts of a layout and of records.
+///
+/// # Errors
+///
+/// The first fault of the layout, then of the lines; out of memory.
+pub fn check_texts(
+    alloc: Global,
+    layout: &[u8],
+    records: &[u8],
+    demos: Demos,
+) -> Result<Answer, CommandError>
+    ensures { Gives answer_seen result (check demos layout.now records.now) }
+{
+    let layout = layout_in(alloc, layout)?;
+    check_records(alloc, &layout, records, demos)
+}
+
+fn check_read<L: Read, R: Read>(
     alloc: Global,
     layout: &mut L,
     reader: &mut R,
@@ -131,8 +162,8 @@ fn check_records<L: Read, R: Read>(
         reader.new ≡ reader.old)) }
 {
     let layout = read_layout(alloc, layout)?;
-    let told = read_records(alloc, reader, SizeLine::Refused)?;
-    Ok(check_answer(alloc, &layout, told.records.as_slice(), demos)?)
+    let records = read_text(alloc, reader)?;
+    check_records(alloc, &layout, records.as_slice(), demos)
 }
 
 /// Reads a layout and then records in hexadecimal, one a line, and prints `yes` or what stands against
@@ -154,6 +185,6 @@ pub fn run_check<L: Read, R: Read, W: Write>(
     ensures unread { IfSome (L.remaining layout.old) (λ text. IfErr (layout_in text) (λ fault.
         reader.new ≡ reader.old)) }
 {
-    let answer = check_records(alloc, layout, reader, demos);
+    let answer = check_read(alloc, layout, reader, demos);
     finish(alloc, writer, answer)
 }

@@ -10,7 +10,8 @@ ghost use Rattle.term_commands.specs.Printed.{joined};
 ghost use Rattle.term_commands.specs.Streams.{Prints};
 
 use crate::fault::{CommandError, Fault};
-use crate::input::records::read_records;
+use crate::input::bytes::read_text;
+use crate::input::records::records_in;
 use crate::input::sizes::SizeLine;
 use crate::output::answer::{Answer, finish};
 use crate::status::Status;
@@ -45,14 +46,26 @@ fn lines_printed(alloc: Global, mode: Mode, records: &[Vec<u8>]) -> Result<Strin
     Ok(out)
 }
 
-fn convert<R: Read>(alloc: Global, reader: &mut R) -> Result<Answer, CommandError>
-    ensures { IfSome (R.remaining reader.old) (λ input. Gives answer_seen result (convert input)) }
+/// What `convert` answers to a text of records.
+///
+/// # Errors
+///
+/// The first fault of the lines, then the first record that is refused; out of memory.
+pub fn convert_text(alloc: Global, records: &[u8]) -> Result<Answer, CommandError>
+    ensures { Gives answer_seen result (convert records.now) }
 {
-    let told = read_records(alloc, reader, SizeLine::Allowed)?;
+    let told = records_in(alloc, records, SizeLine::Allowed)?;
     Ok(Answer {
         text: lines_printed(alloc, told.geometry.mode(), told.records.as_slice())?,
         status: Status::Done,
     })
+}
+
+fn convert<R: Read>(alloc: Global, reader: &mut R) -> Result<Answer, CommandError>
+    ensures { IfSome (R.remaining reader.old) (λ input. Gives answer_seen result (convert input)) }
+{
+    let records = read_text(alloc, reader)?;
+    convert_text(alloc, records.as_slice())
 }
 
 /// Reads records in hexadecimal, one a line, and prints each as lines: its command, its orders, and an

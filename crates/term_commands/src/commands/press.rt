@@ -6,14 +6,15 @@ ghost use Rattle.ds_terminal.specs.Seen.{key_reply_seen};
 ghost use Rattle.ds_terminal.specs.Terminal.{pressed};
 ghost use Rattle.term_commands.specs.declared.input.sizes.SizeLine.TheVariants.{Allowed};
 ghost use Rattle.term_commands.specs.Fault.{Gives};
-ghost use Rattle.term_commands.specs.Held.{answer_seen};
-ghost use Rattle.term_commands.specs.Press.{reply_line, turn_line, pressed_text, press, printed_press};
+ghost use Rattle.term_commands.specs.Held.{answer_seen, records_seen};
+ghost use Rattle.term_commands.specs.Press.{reply_line, turn_line, pressed_text, press_keys, press, printed_press};
 ghost use Rattle.term_commands.specs.Records.{records_in};
 ghost use Rattle.term_commands.specs.Streams.{Prints};
 
 use crate::fault::CommandError;
-use crate::input::keys::read_keys;
-use crate::input::records::read_records;
+use crate::input::bytes::read_text;
+use crate::input::keys::keys_in;
+use crate::input::records::{Records, read_records, records_in};
 use crate::input::sizes::SizeLine;
 use crate::output::answer::{Answer, finish};
 use crate::output::bytes::push_sent;
@@ -69,7 +70,34 @@ fn push_keys(
     Ok(())
 }
 
-fn press_keys<R: Read, K: Read>(
+/// What `press` answers to records and a text of keys.
+fn press_keys(alloc: Global, told: &Records, keys: &[u8]) -> Result<Answer, CommandError>
+    ensures { Gives answer_seen result (press_keys (records_seen told.now) keys.now) }
+{
+    let named = keys_in(alloc, keys)?;
+    let mut terminal = Terminal::<PlaneCells>::new(alloc, told.geometry)?;
+    show_all(&mut terminal, told.records.as_slice())?;
+    let mut text = String::new(alloc);
+    push_keys(alloc, &mut text, &mut terminal, named.keys.as_slice())?;
+    Ok(Answer {
+        text,
+        status: Status::Done,
+    })
+}
+
+/// What `press` answers to the texts of records and of keys.
+///
+/// # Errors
+///
+/// The first fault of the records' lines, then of the keys' lines, then the first record that is refused; out of memory.
+pub fn press_texts(alloc: Global, records: &[u8], keys: &[u8]) -> Result<Answer, CommandError>
+    ensures { Gives answer_seen result (press records.now keys.now) }
+{
+    let told = records_in(alloc, records, SizeLine::Allowed)?;
+    press_keys(alloc, &told, keys)
+}
+
+fn press_read<R: Read, K: Read>(
     alloc: Global,
     reader: &mut R,
     keys: &mut K,
@@ -80,15 +108,8 @@ fn press_keys<R: Read, K: Read>(
         IfErr (records_in Allowed input) (λ fault. keys.new ≡ keys.old)) }
 {
     let told = read_records(alloc, reader, SizeLine::Allowed)?;
-    let named = read_keys(alloc, keys)?;
-    let mut terminal = Terminal::<PlaneCells>::new(alloc, told.geometry)?;
-    show_all(&mut terminal, told.records.as_slice())?;
-    let mut text = String::new(alloc);
-    push_keys(alloc, &mut text, &mut terminal, named.keys.as_slice())?;
-    Ok(Answer {
-        text,
-        status: Status::Done,
-    })
+    let lines = read_text(alloc, keys)?;
+    press_keys(alloc, &told, lines.as_slice())
 }
 
 /// Reads records in hexadecimal, one a line, and keys, one a line; applies the records to a new screen,
@@ -109,6 +130,6 @@ pub fn run_press<R: Read, K: Read, W: Write>(
     ensures unread { IfSome (R.remaining reader.old) (λ input.
         IfErr (records_in Allowed input) (λ fault. keys.new ≡ keys.old)) }
 {
-    let answer = press_keys(alloc, reader, keys);
+    let answer = press_read(alloc, reader, keys);
     finish(alloc, writer, answer)
 }

@@ -7,7 +7,8 @@ ghost use Rattle.term_commands.specs.Show.{show, printed_show};
 ghost use Rattle.term_commands.specs.Streams.{Prints};
 
 use crate::fault::CommandError;
-use crate::input::records::read_records;
+use crate::input::bytes::read_text;
+use crate::input::records::records_in;
 use crate::input::sizes::SizeLine;
 use crate::output::answer::{Answer, finish};
 use crate::output::screen::screen_text;
@@ -18,16 +19,28 @@ use ds_terminal::Terminal;
 use std::alloc::Global;
 use std::io::{Read, Write};
 
-fn show<R: Read>(alloc: Global, reader: &mut R) -> Result<Answer, CommandError>
-    ensures { IfSome (R.remaining reader.old) (λ input. Gives answer_seen result (show input)) }
+/// What `show` answers to a text of records, or its first fault.
+///
+/// # Errors
+///
+/// The first fault of the lines, then the first record that is refused; out of memory.
+pub fn show_text(alloc: Global, records: &[u8]) -> Result<Answer, CommandError>
+    ensures { Gives answer_seen result (show records.now) }
 {
-    let told = read_records(alloc, reader, SizeLine::Allowed)?;
+    let told = records_in(alloc, records, SizeLine::Allowed)?;
     let mut terminal = Terminal::<PlaneCells>::new(alloc, told.geometry)?;
     show_all(&mut terminal, told.records.as_slice())?;
     Ok(Answer {
         text: screen_text(alloc, terminal.screen())?,
         status: Status::Done,
     })
+}
+
+fn show<R: Read>(alloc: Global, reader: &mut R) -> Result<Answer, CommandError>
+    ensures { IfSome (R.remaining reader.old) (λ input. Gives answer_seen result (show input)) }
+{
+    let records = read_text(alloc, reader)?;
+    show_text(alloc, records.as_slice())
 }
 
 /// Reads records in hexadecimal, one a line, applies them to a new screen, and prints the screen; or

@@ -9,14 +9,15 @@ ghost use Rattle.term_commands.specs.Fault.{Gives};
 ghost use Rattle.term_commands.specs.Held.{answer_seen};
 ghost use Rattle.term_commands.specs.Printed.{printed};
 ghost use Rattle.term_commands.specs.Streams.{Prints};
-ghost use Rattle.term_commands.specs.Talk.{is_geometry, modes_equal, other_from, first_other, layouts_from, rounds, turn_lines, stop_text, printed_stop, talk, printed_talk, sizes_equal};
+ghost use Rattle.term_commands.specs.Talk.{is_geometry, modes_equal, other_from, first_other, unless_other, layouts_from, rounds, turn_lines, stop_text, printed_stop, talk_turns, talk, printed_talk, sizes_equal};
 ghost use Rattle.term_commands.specs.TurnsHeld.{turns_held, lent_held, all_remaining};
 ghost use Rattle.std.specs.Prelude.{[]};
 
 use crate::commands::check::lent;
 use crate::fault::{CommandError, Fault};
-use crate::input::layouts::read_layouts;
-use crate::input::turns::read_turns;
+use crate::input::bytes::read_text;
+use crate::input::layouts::{layouts_in, read_layouts};
+use crate::input::turns::turns_in;
 use crate::output::answer::{Answer, finish};
 use crate::output::findings::push_findings;
 use crate::status::Status;
@@ -72,6 +73,17 @@ fn first_other(layouts: &[Layout]) -> Option<usize>
     };
     let geometry = first.geometry();
     other_after(&geometry, others)
+}
+
+/// Refuses layouts for terminals of other geometries than the first's.
+fn one_geometry(layouts: &[Layout]) -> Result<(), Fault>
+    ensures exact { result ≡ unless_other (first_other layouts.now) }
+    ensures same { IfOk result (λ done. first_other layouts.now ≡ None) }
+{
+    match first_other(layouts) {
+        Some(turn) => Err(Fault::OtherGeometry(turn)),
+        None => Ok(()),
+    }
 }
 
 /// The records of the turns as slices.
@@ -184,7 +196,33 @@ fn turns_answer(
     verdict_text(alloc, layouts, &verdict)
 }
 
-fn talk_records<L: Read + Drop, R: Read>(
+/// What `talk` answers to layouts of one geometry and a text of turns.
+fn talk_turns(alloc: Global, layouts: &[Layout], records: &[u8]) -> Result<Answer, CommandError>
+    requires { first_other layouts.now ≡ None }
+    ensures { Gives answer_seen result (talk_turns layouts.now records.now) }
+{
+    let turns = turns_in(alloc, records)?;
+    if turns.len() != layouts.len() {
+        return Err(CommandError::Fault(Fault::OtherCount(turns.len(), layouts.len())));
+    }
+    Ok(turns_answer(alloc, layouts, turns.as_slice())?)
+}
+
+/// What `talk` answers to the texts of layouts and of turns.
+///
+/// # Errors
+///
+/// The first fault: of the layouts in order, then that they are not of one geometry, then of the lines, then that there are
+/// not as many turns as layouts; out of memory.
+pub fn talk_texts(alloc: Global, layouts: &[&[u8]], records: &[u8]) -> Result<Answer, CommandError>
+    ensures { Gives answer_seen result (talk (map (λ text. text.now) layouts.now) records.now) }
+{
+    let layouts = layouts_in(alloc, layouts)?;
+    one_geometry(layouts.as_slice())?;
+    talk_turns(alloc, layouts.as_slice(), records)
+}
+
+fn talk_read<L: Read + Drop, R: Read>(
     alloc: Global,
     layouts: Vec<L>,
     reader: &mut R,
@@ -196,14 +234,9 @@ fn talk_records<L: Read + Drop, R: Read>(
         (λ texts. IfErr (layouts_from 0 [] texts) (λ fault. reader.new ≡ reader.old)) }
 {
     let layouts = read_layouts(alloc, layouts)?;
-    if let Some(turn) = first_other(layouts.as_slice()) {
-        return Err(CommandError::Fault(Fault::OtherGeometry(turn)));
-    }
-    let turns = read_turns(alloc, reader)?;
-    if turns.len() != layouts.len() {
-        return Err(CommandError::Fault(Fault::OtherCount(turns.len(), layouts.len())));
-    }
-    Ok(turns_answer(alloc, layouts.as_slice(), turns.as_slice())?)
+    one_geometry(layouts.as_slice())?;
+    let records = read_text(alloc, reader)?;
+    talk_turns(alloc, layouts.as_slice(), records.as_slice())
 }
 
 /// Reads the layouts of the turns of a dialogue, and then records in hexadecimal, one a line, with a line
@@ -226,6 +259,6 @@ pub fn run_talk<L: Read + Drop, R: Read, W: Write>(
     ensures unread { IfSome (all_remaining L.remaining layouts.items)
         (λ texts. IfErr (layouts_from 0 [] texts) (λ fault. reader.new ≡ reader.old)) }
 {
-    let answer = talk_records(alloc, layouts, reader);
+    let answer = talk_read(alloc, layouts, reader);
     finish(alloc, writer, answer)
 }

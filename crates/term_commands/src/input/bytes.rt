@@ -1,6 +1,6 @@
-//! Inputs read whole, up to their limit.
+//! Texts up to their limit, and readers read whole.
 
-ghost use Rattle.std.specs.Prelude.{◌≡◌, ◌≤◌, IfErr, IfOk, IfSome, length, take};
+ghost use Rattle.std.specs.Prelude.{◌≡◌, ◌≤◌, IfErr, IfOk, IfSome, length};
 ghost use Rattle.term_commands.specs.Fault.{Gives, IsNoFault};
 ghost use Rattle.term_commands.specs.Lines.{at_most, within_limit};
 
@@ -10,7 +10,7 @@ use std::io::Read;
 
 /// The most bytes of an input.
 const MOST_BYTES: usize = 16_777_216;
-/// One more, by which an input shows that it is too long.
+/// One more.
 const READ_LIMIT: u64 = 16_777_217;
 
 /// Refuses more than a limit.
@@ -23,10 +23,21 @@ pub fn at_most(count: usize, most: usize) -> Result<(), Fault>
     Ok(())
 }
 
-/// All that a reader has left, up to one byte more than an input can have.
-fn read_some<R: Read>(alloc: Global, reader: &mut R) -> Result<Vec<u8>, CommandError>
-    ensures bytes { IfOk result (λ text. IfSome (R.remaining reader.old) (λ input. text.items
-        ≡ take 16777217 input)) }
+/// A text of at most 16,777,216 bytes.
+pub fn within_limit(text: &[u8]) -> Result<&[u8], CommandError>
+    ensures bytes { Gives (λ t. t.now) result (within_limit text.now) }
+    ensures short { IfOk result (λ t. length t.now ≤ 16777216) }
+{
+    match at_most(text.len(), MOST_BYTES) {
+        Ok(()) => Ok(text),
+        Err(fault) => Err(CommandError::Fault(fault)),
+    }
+}
+
+/// All that a reader has left, up to one byte more than a text can have, by which a longer one shows that it is too long.
+pub fn read_text<R: Read>(alloc: Global, reader: &mut R) -> Result<Vec<u8>, CommandError>
+    ensures bytes { IfOk result (λ text. IfSome (R.remaining reader.old)
+        (λ input. within_limit input ≡ within_limit text.items)) }
     ensures failed { IfErr result IsNoFault }
 {
     let mut text = Vec::new(alloc);
@@ -34,18 +45,5 @@ fn read_some<R: Read>(alloc: Global, reader: &mut R) -> Result<Vec<u8>, CommandE
     match lent.take(READ_LIMIT).read_to_end(&mut text) {
         Ok(_) => Ok(text),
         Err(error) => Err(CommandError::from(error)),
-    }
-}
-
-/// All that a reader has left: at most 16,777,216 bytes.
-pub fn read_all<R: Read>(alloc: Global, reader: &mut R) -> Result<Vec<u8>, CommandError>
-    ensures bytes { IfSome (R.remaining reader.old) (λ input. Gives (λ v. v.items) result
-        (within_limit input)) }
-    ensures short { IfOk result (λ text. length text.items ≤ 16777216) }
-{
-    let text = read_some(alloc, reader)?;
-    match at_most(text.as_slice().len(), MOST_BYTES) {
-        Ok(()) => Ok(text),
-        Err(fault) => Err(CommandError::Fault(fault)),
     }
 }

@@ -1,6 +1,6 @@
 //! Order lines, and the records that they tell.
 
-ghost use Rattle.std.specs.Prelude.{◌≡◌, IfOk, IfSome, Ok, ◌≤◌, length};
+ghost use Rattle.std.specs.Prelude.{◌≡◌, IfOk, Ok, ◌≤◌, length};
 ghost use Rattle.order_lines.specs.Told.{told_held, item_held};
 ghost use Rattle.term_commands.specs.declared.input.sizes.SizeLine.TheVariants.{Refused};
 ghost use Rattle.term_commands.specs.Fault.{Gives};
@@ -10,14 +10,13 @@ ghost use Rattle.term_commands.specs.Taking.{taken};
 ghost use Rattle.term_commands.specs.Held.{order_line_seen, drafts_seen};
 
 use crate::fault::{CommandError, Fault};
-use crate::input::bytes::{at_most, read_all};
+use crate::input::bytes::{at_most, within_limit};
 use crate::input::lines::{TakesLines, take_lines, text_of};
 use crate::input::records::MOST_RECORDS;
 use crate::input::sizes::{SizeLine, told_sizes, usual_geometry};
 use ds_codec::{Command, Geometry};
 use order_lines::{Draft, OwnedOrder, Told, read_line};
 use std::alloc::{AllocError, Global};
-use std::io::Read;
 
 /// What one line tells.
 #[derive(Debug, Drop)]
@@ -171,17 +170,16 @@ fn take_drafts(alloc: Global, text: &[u8], none: Drafts) -> Result<Drafts, Comma
     take_lines(alloc, text, none)
 }
 
-/// The sizes and the records of order lines, or the first fault of the lines.
-pub fn read_drafts<R: Read>(alloc: Global, reader: &mut R) -> Result<Drafts, CommandError>
-    ensures { IfSome (R.remaining reader.old) (λ input. Gives drafts_seen result
-        (drafts_in input)) }
+/// The sizes and the records of a text's order lines, or the first fault of the lines.
+pub fn drafts_in(alloc: Global, text: &[u8]) -> Result<Drafts, CommandError>
+    ensures { Gives drafts_seen result (drafts_in text.now) }
 {
-    let text = read_all(alloc, reader)?;
+    let lines = within_limit(text)?;
     let none = Drafts {
         size_line: SizeLine::Allowed,
         geometry: usual_geometry(),
         ended: Vec::new(alloc),
         current: None,
     };
-    end(take_drafts(alloc, text.as_slice(), none)?)
+    end(take_drafts(alloc, lines, none)?)
 }

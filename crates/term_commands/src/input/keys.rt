@@ -9,7 +9,7 @@ ghost use Rattle.term_commands.specs.Taking.{taken};
 ghost use Rattle.term_commands.specs.Held.{key_line_seen, keys_seen};
 
 use crate::fault::{CommandError, Fault};
-use crate::input::bytes::{at_most, read_all};
+use crate::input::bytes::{at_most, read_text, within_limit};
 use crate::input::lines::{TakesLines, is_ignored, take_lines, text_of};
 use ds_keys::{Key, key_of_line};
 use std::alloc::Global;
@@ -84,13 +84,21 @@ fn take_keys(alloc: Global, text: &[u8], none: Keys) -> Result<Keys, CommandErro
     take_lines(alloc, text, none)
 }
 
+/// The keys of a text, or the first fault of its lines.
+pub fn keys_in(alloc: Global, text: &[u8]) -> Result<Keys, CommandError>
+    ensures { Gives keys_seen result (keys_in text.now) }
+{
+    let lines = within_limit(text)?;
+    let none = Keys {
+        keys: Vec::new(alloc),
+    };
+    take_keys(alloc, lines, none)
+}
+
 /// The keys of an input, or the first fault of its lines.
 pub fn read_keys<R: Read>(alloc: Global, reader: &mut R) -> Result<Keys, CommandError>
     ensures { IfSome (R.remaining reader.old) (λ input. Gives keys_seen result (keys_in input)) }
 {
-    let text = read_all(alloc, reader)?;
-    let none = Keys {
-        keys: Vec::new(alloc),
-    };
-    take_keys(alloc, text.as_slice(), none)
+    let text = read_text(alloc, reader)?;
+    keys_in(alloc, text.as_slice())
 }

@@ -6,7 +6,7 @@ ghost use Rattle.term_commands.specs.Fault.{Gives};
 ghost use Rattle.term_commands.specs.LayoutText.{layout_said, layout_in};
 
 use crate::fault::CommandError;
-use crate::input::bytes::read_all;
+use crate::input::bytes::{read_text, within_limit};
 use crate::input::lines::text_of;
 use scr_layout::{Layout, LayoutError, LayoutFault, Why};
 use std::alloc::Global;
@@ -26,10 +26,18 @@ fn layout_of(alloc: Global, bytes: &[u8]) -> Result<Layout, LayoutError>
     }
 }
 
+/// The layout of a text, or its first fault.
+pub fn layout_in(alloc: Global, text: &[u8]) -> Result<Layout, CommandError>
+    ensures { Gives (λ l. l) result (layout_in text.now) }
+{
+    let said = within_limit(text)?;
+    Ok(layout_of(alloc, said)?)
+}
+
 /// The layout of an input, or its first fault.
 pub fn read_layout<R: Read>(alloc: Global, reader: &mut R) -> Result<Layout, CommandError>
     ensures { IfSome (R.remaining reader.old) (λ input. Gives (λ l. l) result (layout_in input)) }
 {
-    let text = read_all(alloc, reader)?;
-    Ok(layout_of(alloc, text.as_slice())?)
+    let text = read_text(alloc, reader)?;
+    layout_in(alloc, text.as_slice())
 }

@@ -10,7 +10,7 @@ ghost use Rattle.term_commands.specs.Taking.{taken};
 ghost use Rattle.term_commands.specs.Held.{line_seen, records_seen};
 
 use crate::fault::{CommandError, Fault};
-use crate::input::bytes::{at_most, read_all};
+use crate::input::bytes::{at_most, read_text, within_limit};
 use crate::input::lines::{TakesLines, is_ignored, take_lines, text_of};
 use crate::input::sizes::{SizeLine, told_sizes, usual_geometry};
 use ds_codec::{Geometry, bytes_of_digits};
@@ -158,6 +158,21 @@ fn take_records(alloc: Global, text: &[u8], none: Records) -> Result<Records, Co
     take_lines(alloc, text, none)
 }
 
+/// The sizes and the records of a text, or the first fault of its lines. Where a line of sizes is
+/// refused, they are told elsewhere.
+pub fn records_in(alloc: Global, text: &[u8], size_line: SizeLine) -> Result<Records, CommandError>
+    ensures { Gives records_seen result (records_in size_line text.now) }
+{
+    let lines = within_limit(text)?;
+    let none = Records {
+        size_line,
+        geometry: usual_geometry(),
+        records: Vec::new(alloc),
+        digits: Vec::new(alloc),
+    };
+    take_records(alloc, lines, none)
+}
+
 /// The sizes and the records of an input, or the first fault of its lines. Where a line of sizes is
 /// refused, they are told elsewhere.
 pub fn read_records<R: Read>(
@@ -168,12 +183,6 @@ pub fn read_records<R: Read>(
     ensures { IfSome (R.remaining reader.old) (λ input. Gives records_seen result
         (records_in size_line input)) }
 {
-    let text = read_all(alloc, reader)?;
-    let none = Records {
-        size_line,
-        geometry: usual_geometry(),
-        records: Vec::new(alloc),
-        digits: Vec::new(alloc),
-    };
-    take_records(alloc, text.as_slice(), none)
+    let text = read_text(alloc, reader)?;
+    records_in(alloc, text.as_slice(), size_line)
 }

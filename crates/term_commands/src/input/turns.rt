@@ -1,6 +1,6 @@
 //! Lines of records in hexadecimal, with a line `turn` between the turns of a dialogue.
 
-ghost use Rattle.std.specs.Prelude.{◌≡◌, IfSome, Ok, ◌≤◌, length};
+ghost use Rattle.std.specs.Prelude.{◌≡◌, Ok, ◌≤◌, length};
 ghost use Rattle.term_commands.specs.Fault.{Gives};
 ghost use Rattle.term_commands.specs.Held.{line_seen};
 ghost use Rattle.term_commands.specs.TurnsHeld.{turns_seen, records_of};
@@ -9,12 +9,11 @@ ghost use Rattle.term_commands.specs.Taking.{taken};
 ghost use Rattle.term_commands.specs.Turns.{one_more, after_record, next_turn, take_turn_line, turns_told, turns_in};
 
 use crate::fault::{CommandError, Fault};
-use crate::input::bytes::{at_most, read_all};
+use crate::input::bytes::{at_most, within_limit};
 use crate::input::lines::{TakesLines, take_lines};
 use crate::input::records::{Line, MOST_RECORD_BYTES, MOST_RECORDS, line_told};
 use crate::input::sizes::SizeLine;
 use std::alloc::Global;
-use std::io::Read;
 
 /// The records that lines tell, turn by turn.
 #[derive(Debug, Drop)]
@@ -97,16 +96,16 @@ fn all_turns(told: Turns) -> Result<Vec<Vec<Vec<u8>>>, CommandError>
     Ok(turns)
 }
 
-/// The records of each turn, or the first fault of the lines. A line `turn` stands between two turns.
-pub fn read_turns<R: Read>(alloc: Global, reader: &mut R) -> Result<Vec<Vec<Vec<u8>>>, CommandError>
-    ensures { IfSome (R.remaining reader.old) (λ input. Gives records_of result (turns_in input)) }
+/// The records of each turn of a text, or the first fault of its lines. A line `turn` stands between two turns.
+pub fn turns_in(alloc: Global, text: &[u8]) -> Result<Vec<Vec<Vec<u8>>>, CommandError>
+    ensures { Gives records_of result (turns_in text.now) }
 {
-    let text = read_all(alloc, reader)?;
+    let lines = within_limit(text)?;
     let none = Turns {
         ended: Vec::new(alloc),
         current: Vec::new(alloc),
         count: 0,
         digits: Vec::new(alloc),
     };
-    all_turns(take_turns(alloc, text.as_slice(), none)?)
+    all_turns(take_turns(alloc, lines, none)?)
 }

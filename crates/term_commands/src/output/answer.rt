@@ -1,11 +1,14 @@
 //! What a command answers, and how it is written.
 
-ghost use Rattle.std.specs.Prelude.{◌≡◌, IfOk, Err};
+ghost use Rattle.std.specs.Prelude.{◌≡◌, IfOk, Err, Result};
 ghost use Rattle.std.specs.Bool.{OnTrue};
 ghost use Rattle.std.specs.Io.KnownBytes.{Appends};
 ghost use Rattle.std.specs.String.{string_bytes};
-ghost use Rattle.term_commands.specs.Fault.{fault_line};
+ghost use Rattle.term_commands.specs.Fault.{fault_line, Gives};
 ghost use Rattle.term_commands.specs.Held.{answer_seen};
+ghost use Rattle.term_commands.specs.Printed.{Printed, printed, printed_or_fault};
+ghost use Rattle.term_commands.specs.declared.fault.Fault.{Fault as AFault};
+ghost use Rattle.term_commands.specs.declared.status.Status.TheVariants.{BadInput};
 ghost use Rattle.term_commands.specs.Streams.{AppendsFront, Finishes, IsWritten};
 ghost use Rattle.term_commands.specs.declared.fault.CommandError.TheVariants.{Fault as Told};
 
@@ -57,18 +60,38 @@ fn fault_line(alloc: Global, fault: Fault) -> Result<String, AllocError>
     format!(in alloc; "{fault}\n")
 }
 
+/// What is printed for a fault.
+fn fault_answer(alloc: Global, fault: Fault) -> Result<Answer, AllocError>
+    ensures { IfOk result (λ answer. answer_seen answer ≡ printed (fault_line fault) BadInput) }
+{
+    Ok(Answer {
+        text: fault_line(alloc, fault)?,
+        status: Status::BadInput,
+    })
+}
+
+/// What a command prints: its answer, or the line of the fault in its place.
+///
+/// # Errors
+///
+/// Where a read failed, or memory was refused.
+pub fn printed(alloc: Global, answer: Result<Answer, CommandError>) -> Result<Answer, CommandError>
+    ensures { (due : Result Printed AFault) → Gives answer_seen answer due
+        → IfOk result (λ told. answer_seen told ≡ printed_or_fault due) }
+{
+    match answer {
+        Ok(answer) => Ok(answer),
+        Err(CommandError::Fault(fault)) => Ok(fault_answer(alloc, fault)?),
+        Err(error) => Err(error),
+    }
+}
+
 /// Writes the line of a fault.
 fn write_fault<W: Write>(alloc: Global, writer: &mut W, fault: Fault) -> Status
     ensures { Finishes (W.contents writer.old) (W.contents writer.new) (Err (Told fault)) result }
 {
-    match fault_line(alloc, fault) {
-        Ok(text) => write_answer(
-            writer,
-            &Answer {
-                text,
-                status: Status::BadInput,
-            },
-        ),
+    match fault_answer(alloc, fault) {
+        Ok(answer) => write_answer(writer, &answer),
         Err(_) => Status::NoMemory,
     }
 }

@@ -1,17 +1,16 @@
 use Rattle.std.proofs.Common.{◌≡◌, Err, ◌∙◌, ap, subst}
-use Rattle.std.specs.Prelude.{IfSome}
 use Rattle.scr_layout.specs.Layout.{Declaration}
 use Rattle.term_commands.specs.declared.fault.Fault.TheVariants.{LayoutRefused}
 use Rattle.term_commands.specs.declared.fault.CommandError.{CommandError}
 use Rattle.term_commands.specs.declared.fault.CommandError.TheVariants.{Fault as Told}
 use Rattle.term_commands.specs.Fault.{Gives}
 use Rattle.term_commands.specs.LayoutText.{layout_in}
-use Rattle.term_commands.proofs.Turned.{turn_layout_is, if_some}
-use Rattle.term_commands.proofs.input.layouts.read_turn_layout.Goals as goal
+use Rattle.term_commands.proofs.Turned.{turn_layout_is}
+use Rattle.term_commands.proofs.input.layouts.turn_layout_in.Goals as goal
 
 pub returns-in-Err-Fault-LayoutRefused : goal.returns-in-Err-Fault-LayoutRefused
-returns-in-Err-Fault-LayoutRefused g c =
+returns-in-Err-Fault-LayoutRefused c =
     let whole : c.in-Err-Fault-LayoutRefused.field-0 ≡ Told (LayoutRefused c.in-Err-Fault-LayoutRefused.fault) =
     c.in-Err-Fault-LayoutRefused.field-0-is ∙ ap (λ f. Told f) c.in-Err-Fault-LayoutRefused.field-0-0-is in
-    let P : CommandError → Type 0 = λ e. IfSome (g.L.Read.remaining c.args.reader.now) (λ input. Gives {A = Declaration} {B = Declaration} (λ l. l) (Err e) (layout_in input)) in
-    if_some (g.L.Read.remaining c.args.reader.now) (λ input is. turn_layout_is c.args.turn input c.in-Err-Fault-LayoutRefused.fault is) (subst P whole c.in-Err-Fault-LayoutRefused.ensures)
+    let P : CommandError → Type 0 = λ e. Gives {A = Declaration} {B = Declaration} (λ l. l) (Err e) (layout_in c.args.text.now) in
+    turn_layout_is c.args.turn c.args.text.now c.in-Err-Fault-LayoutRefused.fault (subst P whole c.in-Err-Fault-LayoutRefused.ensures)

@@ -1,0 +1,35 @@
+-- What a call leaves to C: a buffer, a length and a status.
+use Rattle.std.specs.Prelude.{◌≡◌, ◌⊎◌, ℕ, ℤ, pos, Bool, true, false, List, ◌++◌, take, drop, length}
+use Rattle.term_binds.specs.declared.fields.Form.{Form}
+use Rattle.term_binds.specs.declared.fields.Form.TheVariants.{Hexadecimal, Text}
+use Rattle.term_commands.specs.declared.output.demo.Demos.{Demos}
+use Rattle.term_commands.specs.declared.output.demo.Demos.TheVariants.{Omitted, Printed as PrintedDemos}
+use Rattle.term_commands.specs.Printed.{Printed}
+use Rattle.term_commands.specs.Status.{code_of}
+
+-- what fits of a text is written from the buffer's first byte on, and the rest of the buffer stays
+abbrev pub laid_over : List ℕ → List ℕ → List ℕ
+laid_over old text = take (length old) text ++ drop (length text) old
+
+-- the buffer, the whole text's length, whatever fits, and the status are those of what is printed
+abbrev pub IsTold : Printed → List ℕ → List ℕ → ℕ → ℤ → Type 0
+IsTold due old new needed status = (new ≡ laid_over old due.text) × (needed ≡ length due.text) × (status ≡ pos (code_of due.status))
+
+-- memory was refused: status 4, the buffer as it was, and length 0
+abbrev pub IsRefused : List ℕ → List ℕ → ℕ → ℤ → Type 0
+IsRefused old new needed status = (new ≡ old) × (needed ≡ 0) × (status ≡ pos 4)
+
+abbrev pub Leaves : Printed → List ℕ → List ℕ → ℕ → ℤ → Type 0
+Leaves due old new needed status = IsTold due old new needed status ⊎ IsRefused old new needed status
+
+-- ---- flags
+
+-- demos are printed where they are asked for
+abbrev pub demos_of : Bool → Demos
+demos_of true = PrintedDemos
+demos_of false = Omitted
+
+-- fields as text where that is asked for, else in hexadecimal
+abbrev pub form_of : Bool → Form
+form_of true = Text
+form_of false = Hexadecimal

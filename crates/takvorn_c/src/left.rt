@@ -1,0 +1,52 @@
+//! What a call leaves to C: a buffer, a length and a status.
+
+ghost use Rattle.std.specs.Prelude.{◌≡◌, pos, Result};
+ghost use Rattle.term_commands.specs.declared.fault.Fault.{Fault};
+ghost use Rattle.term_commands.specs.Fault.{Gives};
+ghost use Rattle.term_commands.specs.Held.{answer_seen};
+ghost use Rattle.term_commands.specs.Printed.{Printed, printed_or_fault};
+ghost use Rattle.takvorn_c.specs.Left.{laid_over, IsTold, Leaves};
+
+use std::alloc::Global;
+use term_commands::{Answer, CommandError, Status, printed};
+
+/// Lays a text over a buffer, as far as it fits.
+fn lay(out: &mut [u8], text: &[u8])
+    ensures { out.new ≡ laid_over out.old text.now }
+{
+    let fitting = if text.len() < out.len() {
+        text.len()
+    } else {
+        out.len()
+    };
+    out[..fitting].copy_from_slice(&text[..fitting]);
+}
+
+/// Leaves the text of an answer and its length, and tells its status.
+fn tell(out: &mut [u8], needed: &mut usize, answer: &Answer) -> u8
+    ensures { IsTold (answer_seen answer.now) out.old out.new needed.new (pos result) }
+{
+    let text = answer.text.as_bytes();
+    lay(out, text);
+    *needed = text.len();
+    answer.status.code()
+}
+
+/// Leaves what a command prints, its answer or the line of its fault; or nothing, where memory was refused.
+pub fn leave(
+    alloc: Global,
+    answer: Result<Answer, CommandError>,
+    out: &mut [u8],
+    needed: &mut usize,
+) -> u8
+    ensures { (due : Result Printed Fault) → Gives answer_seen answer due
+        → Leaves (printed_or_fault due) out.old out.new needed.new (pos result) }
+{
+    match printed(alloc, answer) {
+        Ok(told) => tell(out, needed, &told),
+        Err(_) => {
+            *needed = 0;
+            Status::NoMemory.code()
+        }
+    }
+}

@@ -1,0 +1,155 @@
+//! The commands for C: each from texts to a text in the caller's buffer, the whole text's length, and the status.
+//! `include/takvorn.h` declares them. The caller passes nothing for `alloc`; a slice is a pointer and a length.
+#![tactic(auto)]
+
+ghost use Rattle.std.specs.Prelude.{◌≡◌, map};
+ghost use Rattle.term_binds.specs.Bind.{printed_bind};
+ghost use Rattle.term_commands.specs.Back.{printed_back};
+ghost use Rattle.term_commands.specs.Check.{printed_check};
+ghost use Rattle.term_commands.specs.Convert.{printed_convert};
+ghost use Rattle.term_commands.specs.Press.{printed_press};
+ghost use Rattle.term_commands.specs.Show.{printed_show};
+ghost use Rattle.term_commands.specs.Talk.{printed_talk};
+ghost use Rattle.term_drafts.specs.Draft.{printed_draft};
+ghost use Rattle.takvorn_c.specs.Left.{Leaves, demos_of, form_of};
+
+mod left;
+
+use left::leave;
+use std::alloc::Global;
+use term_binds::{Form, bind_texts};
+use term_commands::{
+    Demos, check_texts, convert_back_text, convert_text, press_texts, show_text, talk_texts,
+};
+use term_drafts::draft_text;
+
+fn demos_of(printed: bool) -> Demos
+    ensures { result ≡ demos_of printed }
+{
+    if printed {
+        Demos::Printed
+    } else {
+        Demos::Omitted
+    }
+}
+
+fn form_of(text: bool) -> Form
+    ensures { result ≡ form_of text }
+{
+    if text { Form::Text } else { Form::Hexadecimal }
+}
+
+/// `show`: the screen that records leave.
+#[unsafe(no_mangle)]
+pub extern "C" fn takvorn_show(
+    alloc: Global,
+    records: &[u8],
+    out: &mut [u8],
+    needed: &mut usize,
+) -> i32
+    ensures { Leaves (printed_show records.now) out.old out.new needed.new result }
+{
+    i32::from(leave(alloc, show_text(alloc, records), out, needed))
+}
+
+/// `check`: `yes`, or what stands against records and a layout, with demos where they are asked for.
+#[unsafe(no_mangle)]
+pub extern "C" fn takvorn_check(
+    alloc: Global,
+    layout: &[u8],
+    records: &[u8],
+    demos: bool,
+    out: &mut [u8],
+    needed: &mut usize,
+) -> i32
+    ensures { Leaves (printed_check (demos_of demos) layout.now records.now) out.old out.new
+        needed.new result }
+{
+    let answer = check_texts(alloc, layout, records, demos_of(demos));
+    i32::from(leave(alloc, answer, out, needed))
+}
+
+/// `talk`: `yes`, or what stands against the turns of a dialogue, each with its layout.
+#[unsafe(no_mangle)]
+pub extern "C" fn takvorn_talk(
+    alloc: Global,
+    layouts: &[&[u8]],
+    records: &[u8],
+    out: &mut [u8],
+    needed: &mut usize,
+) -> i32
+    ensures { Leaves (printed_talk (map (λ layout. layout.now) layouts.now) records.now) out.old
+        out.new needed.new result }
+{
+    i32::from(leave(alloc, talk_texts(alloc, layouts, records), out, needed))
+}
+
+/// `press`: what keys do on the screen that records leave, and the bytes that go out.
+#[unsafe(no_mangle)]
+pub extern "C" fn takvorn_press(
+    alloc: Global,
+    records: &[u8],
+    keys: &[u8],
+    out: &mut [u8],
+    needed: &mut usize,
+) -> i32
+    ensures { Leaves (printed_press records.now keys.now) out.old out.new needed.new result }
+{
+    i32::from(leave(alloc, press_texts(alloc, records, keys), out, needed))
+}
+
+/// `convert`: records as order lines.
+#[unsafe(no_mangle)]
+pub extern "C" fn takvorn_convert(
+    alloc: Global,
+    records: &[u8],
+    out: &mut [u8],
+    needed: &mut usize,
+) -> i32
+    ensures { Leaves (printed_convert records.now) out.old out.new needed.new result }
+{
+    i32::from(leave(alloc, convert_text(alloc, records), out, needed))
+}
+
+/// `convert --back`: order lines as records.
+#[unsafe(no_mangle)]
+pub extern "C" fn takvorn_convert_back(
+    alloc: Global,
+    lines: &[u8],
+    out: &mut [u8],
+    needed: &mut usize,
+) -> i32
+    ensures { Leaves (printed_back lines.now) out.old out.new needed.new result }
+{
+    i32::from(leave(alloc, convert_back_text(alloc, lines), out, needed))
+}
+
+/// `draft`: a layout for the screen that records leave.
+#[unsafe(no_mangle)]
+pub extern "C" fn takvorn_draft(
+    alloc: Global,
+    records: &[u8],
+    out: &mut [u8],
+    needed: &mut usize,
+) -> i32
+    ensures { Leaves (printed_draft records.now) out.old out.new needed.new result }
+{
+    i32::from(leave(alloc, draft_text(alloc, records), out, needed))
+}
+
+/// `bind`: the fields of answers by the names of a layout, as text where that is asked for.
+#[unsafe(no_mangle)]
+pub extern "C" fn takvorn_bind(
+    alloc: Global,
+    layout: &[u8],
+    answers: &[u8],
+    text: bool,
+    out: &mut [u8],
+    needed: &mut usize,
+) -> i32
+    ensures { Leaves (printed_bind (form_of text) layout.now answers.now) out.old out.new
+        needed.new result }
+{
+    let answer = bind_texts(alloc, layout, answers, form_of(text));
+    i32::from(leave(alloc, answer, out, needed))
+}

@@ -1,6 +1,0 @@
-use Rattle.term_commands.proofs.Prefixes.{up_to}
-use Rattle.term_commands.proofs.input.bytes.read_some.Goals as goal
-
-pub returns-in-Ok-clause-bytes : goal.returns-in-Ok-clause-bytes
-returns-in-Ok-clause-bytes g c =
-    up_to (g.R.Read.remaining c.args.reader.now) 16777217 c.read_to_end.new.buf.items (rw (c.take.ensures.inner, c.take.ensures.limit, c.new-text.ensures.items) at c.in-Ok.ensures.bytes)

@@ -1,0 +1,102 @@
+/*
+ * Takvorn's commands for programs in C (C99) and C++: 3270 screens shown, checked against layouts, drafted, typed
+ * into, converted to lines and back, and answers of terminals read back into fields. Each function does what the
+ * command of the same name of the program `term3270` does; its text and its status are the program's.
+ *
+ * Texts. An input or an output is a pointer to bytes and a number of bytes. No text ends with a 0, and a 0 is a byte
+ * like any other. Lines end at 0A or 0D 0A. Inputs are read and never written.
+ *
+ * Results. The text is written to `out` as far as `out_length` bytes hold it; the rest of `out` stays as it was.
+ * `*needed` is the number of bytes of the whole text, also where it doesn't fit. So a call with a buffer that is too
+ * small tells what a second call needs; a text that fits has `*needed <= out_length`. The value that is returned is
+ * one of TAKVORN_DONE, TAKVORN_FINDINGS, TAKVORN_BAD_INPUT and TAKVORN_NO_MEMORY. Under TAKVORN_NO_MEMORY a request
+ * for memory was refused: `out` is as it was and `*needed` is 0. Nothing stays allocated after a call.
+ *
+ * Pointers. None may be null, not even where the number of bytes beside it is 0. `out` and `needed` overlap no input
+ * and not each other.
+ *
+ * Threads. Calls share nothing, so they may run on several threads at once, each with a buffer and a `needed` of its
+ * own. A call comes neither from a signal handler nor from the forked child of a process with threads. Memory comes
+ * from the program's `malloc`, `realloc` and `free`, which belong together.
+ */
+#ifndef TAKVORN_H
+#define TAKVORN_H
+
+#include <stdbool.h>
+#include <stddef.h>
+#include <stdint.h>
+
+#ifdef __cplusplus
+extern "C" {
+#endif
+
+/* Statuses, as the program ends with them; 3, a read or a write that failed, is of the program alone. */
+enum {
+  /* The text is the command's answer; that of takvorn_check and takvorn_talk is `yes`. */
+  TAKVORN_DONE = 0,
+  /* The text is findings, of takvorn_check, takvorn_talk or takvorn_draft, a line each. */
+  TAKVORN_FINDINGS = 1,
+  /* The text is one line, the first fault of the inputs; or answers of takvorn_bind, not all of which are bound. */
+  TAKVORN_BAD_INPUT = 2,
+  /* A request for memory was refused; no text. */
+  TAKVORN_NO_MEMORY = 4
+};
+
+/* Limits. What is longer is TAKVORN_BAD_INPUT with the text `input too long`. */
+enum {
+  /* The most bytes of an input; of each layout. */
+  TAKVORN_MOST_BYTES = 16777216,
+  /* The most records of an input, of all turns together; or answers, or records of order lines. */
+  TAKVORN_MOST_RECORDS = 1000,
+  /* The most bytes of a record or an answer, which has two hexadecimal digits for each; not of order lines. */
+  TAKVORN_MOST_RECORD_BYTES = 32768,
+  /* The most keys of an input. */
+  TAKVORN_MOST_KEYS = 100000
+};
+
+/* A text: `length` bytes from `bytes` on, which is not null. */
+typedef struct takvorn_text {
+  const uint8_t *bytes;
+  size_t length;
+} takvorn_text;
+
+/* The screen that records leave. Records are in hexadecimal, one a line; the first line may tell sizes. */
+int32_t takvorn_show(const uint8_t *records, size_t records_length, uint8_t *out, size_t out_length, size_t *needed);
+
+/* `yes`, or a line for each finding that stands against the records and the layout, which is TOML. With `demos` a line
+ * `sends` and hexadecimal digits follows each finding that has keys: what the terminal sends once they are pressed. */
+int32_t takvorn_check(const uint8_t *layout, size_t layout_length, const uint8_t *records, size_t records_length,
+                      bool demos, uint8_t *out, size_t out_length, size_t *needed);
+
+/* `yes`, or the first turn of a dialogue that has findings, and these. Turn K, counted from 0, has the layout
+ * `layouts[K]`; a line `turn` stands between the records of two turns. `layouts` is not null, where its count is 0
+ * neither. */
+int32_t takvorn_talk(const takvorn_text *layouts, size_t layouts_count, const uint8_t *records, size_t records_length,
+                     uint8_t *out, size_t out_length, size_t *needed);
+
+/* A line for each key, one a line, that is pressed on the screen that the records leave: what it does, with the cursor
+ * as a place counted from 0, or the bytes that the terminal sends, in hexadecimal. */
+int32_t takvorn_press(const uint8_t *records, size_t records_length, const uint8_t *keys, size_t keys_length,
+                      uint8_t *out, size_t out_length, size_t *needed);
+
+/* Records as order lines: a command, an order a line, an empty line. */
+int32_t takvorn_convert(const uint8_t *records, size_t records_length, uint8_t *out, size_t out_length,
+                        size_t *needed);
+
+/* Order lines as records in hexadecimal, one a line. */
+int32_t takvorn_convert_back(const uint8_t *lines, size_t lines_length, uint8_t *out, size_t out_length,
+                             size_t *needed);
+
+/* A layout, in TOML, for the screen that the records leave; or the finding that no layout mends. */
+int32_t takvorn_draft(const uint8_t *records, size_t records_length, uint8_t *out, size_t out_length, size_t *needed);
+
+/* The fields of answers, which are in hexadecimal, one a line, by the names of the layout: their bytes in hexadecimal,
+ * or with `text` their characters. */
+int32_t takvorn_bind(const uint8_t *layout, size_t layout_length, const uint8_t *answers, size_t answers_length,
+                     bool text, uint8_t *out, size_t out_length, size_t *needed);
+
+#ifdef __cplusplus
+}
+#endif
+
+#endif

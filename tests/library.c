@@ -1,0 +1,180 @@
+/* Calls the C library for a command's words, as the program has them: answer WORDS.., with records on standard input.
+ * What is first: answer: with no room, with half of it and with all; the text and the status are the program's. threads:
+ * on four threads at once, again and again. With REFUSES also refused: each request for memory is refused in turn.
+ * It ends with 100 where a result is wrong, which standard error tells, and with 101 where the words are not of a command. */
+#include "takvorn.h"
+#include <pthread.h>
+#include <stdio.h>
+#include <stdlib.h>
+#include <string.h>
+
+enum { MOST_LAYOUTS = 64, ROUNDS = 20, THREADS = 4, GUARD = 16, FILL = 0xA5 };
+
+#ifdef REFUSES
+extern void *__libc_malloc(size_t), *__libc_realloc(void *, size_t);
+extern void __libc_free(void *);
+static long asked, refused, held;
+static bool refuses(void) { return ++asked == refused; }
+void *malloc(size_t size) {
+  void *block = refuses() ? NULL : __libc_malloc(size);
+  if (block) held++;
+  return block;
+}
+void *realloc(void *old, size_t size) {
+  void *block = refuses() ? NULL : __libc_realloc(old, size);
+  if (block && !old) held++;
+  return block;
+}
+void free(void *block) {
+  if (block) held--;
+  __libc_free(block);
+}
+#endif
+
+/* A command's inputs: its files in their order, and standard input. */
+static char *command;
+static bool flag;
+static takvorn_text files[MOST_LAYOUTS], input;
+static size_t file_count;
+
+static takvorn_text contents(FILE *file) {
+  size_t room = 1 << 16, length = 0, got;
+  uint8_t *bytes = malloc(room);
+  while (bytes && (got = fread(bytes + length, 1, room - length, file)) > 0) {
+    length += got;
+    if (length == room) bytes = realloc(bytes, room *= 2);
+  }
+  if (!bytes) exit(100);
+  takvorn_text text = {bytes, length};
+  return text;
+}
+
+/* Whether the words are a command's; a file that is missing is a matter of the program's. */
+static bool take_words(int count, char **words) {
+  command = count > 0 ? words[0] : "show";
+  bool is_flagged = false;
+  for (int i = 1; i < count; i++) {
+    const char *taken = !strcmp(command, "check") ? "--demo" : !strcmp(command, "convert") ? "--back" : !strcmp(command, "bind") ? "--text" : "";
+    if (words[i][0] == '-') {
+      if (is_flagged || strcmp(words[i], taken)) return false;
+      is_flagged = flag = true;
+    } else {
+      FILE *file = fopen(words[i], "rb");
+      if (!file || file_count == MOST_LAYOUTS) return false;
+      files[file_count++] = contents(file);
+      fclose(file);
+    }
+  }
+  size_t wanted = !strcmp(command, "check") || !strcmp(command, "bind") || !strcmp(command, "press") ? 1 : 0;
+  if (!strcmp(command, "talk")) return file_count > 0;
+  return file_count == wanted && (wanted || !strcmp(command, "show") || !strcmp(command, "convert") || !strcmp(command, "draft"));
+}
+
+static int call(uint8_t *out, size_t room, size_t *needed) {
+  const takvorn_text *f = files, *r = &input;
+  switch (command[0]) {
+  case 's': return takvorn_show(r->bytes, r->length, out, room, needed);
+  case 'd': return takvorn_draft(r->bytes, r->length, out, room, needed);
+  case 't': return takvorn_talk(files, file_count, r->bytes, r->length, out, room, needed);
+  case 'p': return takvorn_press(r->bytes, r->length, f->bytes, f->length, out, room, needed);
+  case 'b': return takvorn_bind(f->bytes, f->length, r->bytes, r->length, flag, out, room, needed);
+  }
+  if (!strcmp(command, "check")) return takvorn_check(f->bytes, f->length, r->bytes, r->length, flag, out, room, needed);
+  return (flag ? takvorn_convert_back : takvorn_convert)(r->bytes, r->length, out, room, needed);
+}
+
+static void fail(const char *why) {
+  fprintf(stderr, "%s: %s\n", command, why);
+  exit(100);
+}
+
+/* The whole text and the status, from a call without room and one with all of it. */
+static uint8_t *whole;
+static size_t whole_length;
+static int status;
+
+static uint8_t *filled(size_t room) {
+  uint8_t *out = malloc(room);
+  if (!out) exit(100);
+  return memset(out, FILL, room);
+}
+
+static bool is_filled(const uint8_t *from, size_t count) {
+  for (size_t i = 0; i < count; i++)
+    if (from[i] != FILL) return false;
+  return true;
+}
+
+static void take_whole(void) {
+  uint8_t none = FILL;
+  size_t needed = 99;
+  status = call(&none, 0, &whole_length);
+  if (none != FILL) fail("wrote where there is no room");
+  whole = filled(whole_length + GUARD);
+  if (call(whole, whole_length, &needed) != status || needed != whole_length) fail("another status or length with room");
+  if (!is_filled(whole + whole_length, GUARD)) fail("wrote past the room");
+}
+
+/* With this room: what fits, and nothing else. */
+static void try_room(size_t room) {
+  uint8_t *out = filled(room + GUARD);
+  size_t needed = 99, fits = room < whole_length ? room : whole_length;
+  if (call(out, room, &needed) != status || needed != whole_length) fail("another status or length");
+  if (memcmp(out, whole, fits)) fail("another text");
+  if (!is_filled(out + fits, room + GUARD - fits)) fail("the rest of the buffer didn't stay");
+  free(out);
+}
+
+static void *try_again(void *none) {
+  for (int i = 0; i < ROUNDS; i++) try_room(whole_length);
+  return none;
+}
+
+static void try_threads(void) {
+  pthread_t threads[THREADS];
+  for (int i = 0; i < THREADS; i++)
+    if (pthread_create(&threads[i], NULL, try_again, NULL)) fail("no thread");
+  for (int i = 0; i < THREADS; i++) pthread_join(threads[i], NULL);
+}
+
+#ifdef REFUSES
+static void try_refusals(void) {
+  uint8_t *out = filled(whole_length + GUARD);
+  long next = 1;
+  for (;; next++) {
+    size_t needed = 99;
+    long before = held;
+    asked = 0;
+    refused = next;
+    int told = call(out, whole_length, &needed);
+    bool met = asked >= next;
+    refused = 0;
+    if (held != before) fail("something stays allocated");
+    if (!met) break;
+    if (told != TAKVORN_NO_MEMORY) fail("a request was refused, and the status isn't 4");
+    if (needed != 0 || !is_filled(out, whole_length + GUARD)) fail("a request was refused, and something is told");
+  }
+  if (memcmp(out, whole, whole_length)) fail("another text after refusals");
+  printf("%ld requests refused\n", next - 1);
+}
+#endif
+
+int main(int count, char **words) {
+  if (count < 2 || !take_words(count - 2, words + 2)) return 101;
+  input = contents(stdin);
+  take_whole();
+  if (!strcmp(words[1], "threads")) try_threads();
+#ifdef REFUSES
+  if (!strcmp(words[1], "refused")) {
+    try_refusals();
+    return 0;
+  }
+#endif
+  try_room(whole_length / 2);
+  try_room(whole_length + 7);
+  fwrite(whole, 1, whole_length, stdout);
+  free(whole);
+  free((void *)input.bytes);
+  for (size_t i = 0; i < file_count; i++) free((void *)files[i].bytes);
+  return status;
+}

@@ -1,0 +1,160 @@
+#!/bin/sh
+# Tries the C library in out/, which scripts/library leaves there: that the header declares what the libraries export; each golden
+# case of its commands through the shared library, with no room, with half of it and with more than the text needs; each
+# request for memory refused in turn; four threads; under valgrind where it is installed; and the examples in C, C++, Python
+# and Rust, each where its compiler or interpreter is installed. What is left out is said. The last line is 'N passed, M failed'.
+root=$(cd "$(dirname "$0")/.." && pwd)
+CC=${CC:-cc}
+command -v "$CC" > /dev/null || { echo "the C library: left out, since there is no C compiler"; echo "0 passed, 0 failed"; exit 0; }
+work=$(mktemp -d) || exit 1
+trap 'rm -rf "$work"' EXIT
+trap 'exit 1' HUP INT TERM
+passed=0
+failed=0
+good() { passed=$((passed + 1)); }
+bad() { failed=$((failed + 1)); echo "$1"; }
+done_with() { echo "$passed passed, $failed failed"; [ "$failed" -eq 0 ]; exit; }
+has() { command -v "$1" > /dev/null || { echo "$1 is not installed: $2 left out"; return 1; }; }
+
+sh "$root/scripts/library" || { bad "the C library isn't built"; done_with; }
+LD_LIBRARY_PATH=$root/out
+export LD_LIBRARY_PATH
+warnings='-Wall -Wextra -pedantic -Werror'
+build() { # OUTPUT SOURCE, then flags
+  output=$1
+  source=$2
+  shift 2
+  # shellcheck disable=SC2086
+  "$CC" -std=c99 -D_GNU_SOURCE -O1 -g $warnings -I"$root/include" -o "$work/$output" "$root/$source" "$@" -L"$root/out" -ltakvorn -lpthread
+}
+build library tests/library.c && build refusing tests/library.c -DREFUSES -fno-builtin && build check examples/c/check.c || {
+  bad "a C program isn't built"
+  done_with
+}
+
+# ---- the header
+grep -o 'takvorn_[a-z_]*(' "$root/include/takvorn.h" | tr -d '(' | sort > "$work/declared"
+nm -D --defined-only "$root/out/libtakvorn.so" | awk '{ print $3 }' | sort > "$work/shown"
+nm -g --defined-only "$root/out/libtakvorn.a" | awk '$3 ~ /^takvorn_/ { print $3 }' | sort > "$work/exported"
+sed -n 's/.*extern "C" fn \(takvorn_[a-z_]*\).*/\1/p' "$root/crates/takvorn_c/src/lib.rt" | sort > "$work/written"
+for names in shown exported written; do
+  if cmp -s "$work/declared" "$work/$names"; then good; else
+    bad "the header declares other functions than are $names:"
+    diff "$work/declared" "$work/$names"
+  fi
+done
+if has c++ "the header in C++"; then
+  # shellcheck disable=SC2086
+  if echo '#include "takvorn.h"
+int main() { size_t needed; uint8_t none; return takvorn_show(&none, 0, &none, 0, &needed); }' |
+    c++ -x c++ $warnings -I"$root/include" -o "$work/plus" - "$root/out/libtakvorn.a" && "$work/plus"; then good; else bad "the header in C++"; fi
+fi
+
+# ---- the golden cases
+for folder in "$root"/tests/cases/show "$root"/tests/cases/check "$root"/tests/cases/talk "$root"/tests/cases/press \
+  "$root"/tests/cases/convert "$root"/tests/cases/convert_back "$root"/tests/cases/draft "$root"/tests/cases/bind; do
+  for case in "$folder"/*/; do
+    name=${case#"$root"/tests/cases/}
+    rm -rf "$work/in" && cp -r "$case" "$work/in"
+    if [ -f "$work/in/make-stdin" ]; then (cd "$work/in" && PROGRAM=$root/crates/term3270/out/term3270 sh ./make-stdin) > "$work/stdin"
+    elif [ -f "$work/in/stdin" ]; then cp "$work/in/stdin" "$work/stdin"
+    else : > "$work/stdin"; fi
+    set --
+    if [ -f "$work/in/args" ]; then
+      while IFS= read -r word || [ -n "$word" ]; do set -- "$@" "$word"; done < "$work/in/args"
+    fi
+    wanted=0
+    [ -f "$work/in/status" ] && wanted=$(cat "$work/in/status")
+    [ -f "$work/in/stdout" ] || : > "$work/in/stdout"
+    (cd "$work/in" && "$work/library" answer "$@" < "$work/stdin" > "$work/stdout" 2> "$work/stderr")
+    status=$?
+    # A fault of the command line is the program's alone: no text, and status 2 or 3.
+    if [ $status = 101 ] && [ ! -s "$work/in/stdout" ]; then continue; fi
+    if [ $status = "$wanted" ] && cmp -s "$work/in/stdout" "$work/stdout"; then good; else
+      bad "case ${name%/} through the library: status $status, wanted $wanted"
+      diff "$work/in/stdout" "$work/stdout" | head -n 10
+      cat "$work/stderr"
+    fi
+  done
+done
+
+# ---- as a system has it
+program=$root/crates/term3270/out/term3270
+if [ ! -x "$program" ]; then echo "the program isn't built: what is installed left out"
+elif DESTDIR=$work/system PREFIX=/usr sh "$root/scripts/install" "$program"; then
+  (cd "$work/system/usr" && find . -type f | sort) > "$work/installed"
+  if cmp -s "$root/tests/library/installed" "$work/installed"; then good; else
+    bad "other files are installed:"
+    diff "$root/tests/library/installed" "$work/installed"
+  fi
+  if has pkg-config "what takvorn.pc says"; then
+    flags=$(PKG_CONFIG_PATH=$work/system/usr/lib/pkgconfig PKG_CONFIG_SYSROOT_DIR=$work/system PKG_CONFIG_ALLOW_SYSTEM_CFLAGS=1 \
+      PKG_CONFIG_ALLOW_SYSTEM_LIBS=1 pkg-config --cflags --libs takvorn)
+    # shellcheck disable=SC2086
+    if "$CC" -o "$work/packaged" "$root/examples/c/check.c" $flags; then good; else bad "a program with the flags of takvorn.pc: $flags"; fi
+  fi
+else bad "the program and the library aren't installed"; fi
+
+# ---- memory, threads
+cd "$root/examples" || exit 1
+"$work/library" answer convert < first.hex > "$work/lines"
+sed 's/1DF0E2C9/1DF1E2C9/' signon.hex > "$work/flawed"
+printf 'type C1\ntab\ntype E2\nenter\n' > "$work/keys"
+printf '7DC5D411C4C3E4E2F111C5D3E7\n7D40\n' > "$work/answers"
+echo XY > "$work/bad"
+each() { # MODE PROGRAM.., with a row for each command: its input and its words
+  mode=$1
+  shift
+  while read -r from words; do
+    # shellcheck disable=SC2086
+    if "$@" $mode $words < "$from" > "$work/printed" 2> "$work/stderr"; [ $? -lt 100 ]; then
+      good
+      [ "$mode" != refused ] || echo "$words: $(cat "$work/printed")"
+    else
+      bad "$mode $words: $(tail -n 5 "$work/stderr")"
+    fi
+  done << END
+signon.hex show
+$work/bad show
+signon.hex check signon.toml
+$work/flawed check signon.toml --demo
+signon_menu.hex talk signon.toml menu.toml
+signon.hex press $work/keys
+first.hex convert
+$work/lines convert --back
+signon.hex draft
+$work/answers bind signon.toml
+$work/answers bind signon.toml --text
+END
+}
+each refused "$work/refusing"
+each threads "$work/library"
+if has valgrind "what reads or leaks memory"; then
+  each answer valgrind -q --leak-check=full --error-exitcode=120 "$work/library"
+fi
+
+# ---- the examples
+example() { # NAME, then a program with its words: prints what examples/NAME.stdout has, and ends with status 1
+  name=$1
+  shift
+  "$@" > "$work/printed" 2> "$work/stderr"
+  status=$?
+  if cmp -s "$root/tests/library/$name" "$work/printed" && { [ $status = 1 ] || [ "$name" = python ]; }; then good; else
+    bad "the example in $name: status $status"
+    diff "$root/tests/library/$name" "$work/printed"
+    cat "$work/stderr"
+  fi
+}
+example c "$work/check" signon.toml "$work/flawed"
+if has python3 "the example in Python"; then
+  PYTHONDONTWRITEBYTECODE=1 TAKVORN_LIBRARY=$root/out/libtakvorn.so example python python3 python/check.py signon.toml "$work/flawed"
+fi
+if has rustc "the example in Rust"; then
+  if rustc --edition 2024 -o "$work/check_rs" rust/check.rs -L "$root/out" 2> "$work/stderr" ||
+    rustc --edition 2021 -o "$work/check_rs" rust/check.rs -L "$root/out" 2> "$work/stderr"; then
+    example rust "$work/check_rs" signon.toml "$work/flawed"
+  else
+    bad "the example in Rust isn't built: $(head -n 3 "$work/stderr")"
+  fi
+fi
+done_with
