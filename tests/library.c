@@ -1,7 +1,8 @@
 /* Calls the C library for a command's words, as the program has them: answer WORDS.., with records on standard input.
  * What is first: answer: with no room, with half of it and with all; the text and the status are the program's. threads:
  * on four threads at once, again and again. With REFUSES also refused: each request for memory is refused in turn.
- * It ends with 100 where a result is wrong, which standard error tells, and with 101 where the words are not of a command. */
+ * It ends with 100 where a result is wrong, which standard error tells, with 101 where the words are not of a command, and with
+ * 102 where a file is missing. */
 #include "takvorn.h"
 #include <pthread.h>
 #include <stdio.h>
@@ -49,7 +50,7 @@ static takvorn_text contents(FILE *file) {
   return text;
 }
 
-/* Whether the words are a command's; a file that is missing is a matter of the program's. */
+/* Whether the words are a command's. */
 static bool take_words(int count, char **words) {
   command = count > 0 ? words[0] : "show";
   bool is_flagged = false;
@@ -60,7 +61,8 @@ static bool take_words(int count, char **words) {
       is_flagged = flag = true;
     } else {
       FILE *file = fopen(words[i], "rb");
-      if (!file || file_count == MOST_LAYOUTS) return false;
+      if (!file) exit(102);
+      if (file_count == MOST_LAYOUTS) return false;
       files[file_count++] = contents(file);
       fclose(file);
     }

@@ -1,9 +1,10 @@
 #!/bin/sh
-# Tries the C library in out/, which scripts/library leaves there: that the header declares what the libraries export; each golden
-# case of its commands through the shared library, with no room, with half of it and with more than the text needs; each
-# request for memory refused in turn; four threads; under valgrind where it is installed; and the examples in C, C++, Python
-# and Rust, each where its compiler or interpreter is installed. What is left out is said. The last line is 'N passed, M failed'.
+# Tries the C library in out/, which scripts/library leaves there, beside a built program: library.sh PROGRAM. That the header
+# declares what the libraries export; each golden case of its commands through the shared library, with no room, with half of it
+# and with more than the text needs; each request for memory refused in turn; four threads; valgrind; what is installed; and the
+# examples in C, Python and Rust. What isn't there to try it with is said. The last line is 'N passed, M failed'.
 root=$(cd "$(dirname "$0")/.." && pwd)
+program=$(cd "$(dirname "$1")" && pwd)/$(basename "$1")
 CC=${CC:-cc}
 command -v "$CC" > /dev/null || { echo "the C library: left out, since there is no C compiler"; echo "0 passed, 0 failed"; exit 0; }
 work=$(mktemp -d) || exit 1
@@ -45,18 +46,18 @@ for names in shown exported written; do
 done
 if has c++ "the header in C++"; then
   # shellcheck disable=SC2086
-  if echo '#include "takvorn.h"
-int main() { size_t needed; uint8_t none; return takvorn_show(&none, 0, &none, 0, &needed); }' |
-    c++ -x c++ $warnings -I"$root/include" -o "$work/plus" - "$root/out/libtakvorn.a" && "$work/plus"; then good; else bad "the header in C++"; fi
+  printf '#include "takvorn.h"\nint main() { size_t needed; uint8_t none = 0, out = 0; return takvorn_show(&none, 0, &out, 0, &needed); }\n' > "$work/plus.cc"
+  if c++ $warnings -I"$root/include" -o "$work/plus" "$work/plus.cc" "$root/out/libtakvorn.a" && "$work/plus"; then good; else bad "the header in C++"; fi
 fi
 
 # ---- the golden cases
+left_out=0
 for folder in "$root"/tests/cases/show "$root"/tests/cases/check "$root"/tests/cases/talk "$root"/tests/cases/press \
   "$root"/tests/cases/convert "$root"/tests/cases/convert_back "$root"/tests/cases/draft "$root"/tests/cases/bind; do
   for case in "$folder"/*/; do
     name=${case#"$root"/tests/cases/}
     rm -rf "$work/in" && cp -r "$case" "$work/in"
-    if [ -f "$work/in/make-stdin" ]; then (cd "$work/in" && PROGRAM=$root/crates/term3270/out/term3270 sh ./make-stdin) > "$work/stdin"
+    if [ -f "$work/in/make-stdin" ]; then (cd "$work/in" && PROGRAM=$program sh ./make-stdin) > "$work/stdin"
     elif [ -f "$work/in/stdin" ]; then cp "$work/in/stdin" "$work/stdin"
     else : > "$work/stdin"; fi
     set --
@@ -68,8 +69,11 @@ for folder in "$root"/tests/cases/show "$root"/tests/cases/check "$root"/tests/c
     [ -f "$work/in/stdout" ] || : > "$work/in/stdout"
     (cd "$work/in" && "$work/library" answer "$@" < "$work/stdin" > "$work/stdout" 2> "$work/stderr")
     status=$?
-    # A fault of the command line is the program's alone: no text, and status 2 or 3.
-    if [ $status = 101 ] && [ ! -s "$work/in/stdout" ]; then continue; fi
+    # A fault of the command line, or a file that is missing, is the program's alone.
+    if { [ $status = 101 ] && [ ! -s "$work/in/stdout" ]; } || [ $status = 102 ]; then
+      left_out=$((left_out + 1))
+      continue
+    fi
     if [ $status = "$wanted" ] && cmp -s "$work/in/stdout" "$work/stdout"; then good; else
       bad "case ${name%/} through the library: status $status, wanted $wanted"
       diff "$work/in/stdout" "$work/stdout" | head -n 10
@@ -78,8 +82,9 @@ for folder in "$root"/tests/cases/show "$root"/tests/cases/check "$root"/tests/c
   done
 done
 
+[ $left_out = 0 ] || echo "$left_out golden cases left out, which are about the command line or a missing file"
+
 # ---- as a system has it
-program=$root/crates/term3270/out/term3270
 if [ ! -x "$program" ]; then echo "the program isn't built: what is installed left out"
 elif DESTDIR=$work/system PREFIX=/usr sh "$root/scripts/install" "$program"; then
   (cd "$work/system/usr" && find . -type f | sort) > "$work/installed"
