@@ -7,8 +7,8 @@ _term3270() {
     return
   fi
   case $command in
-    show) COMPREPLY=($(compgen -W '--help' -- "$word")) ;;
-    check) COMPREPLY=($(compgen -W '--demo --help' -- "$word") $(compgen -f -- "$word")) ;;
+    show) COMPREPLY=($(compgen -W '--format --help' -- "$word")) ;;
+    check) COMPREPLY=($(compgen -W '--demo --format --help' -- "$word") $(compgen -f -- "$word")) ;;
     talk) COMPREPLY=($(compgen -W '--help' -- "$word") $(compgen -f -- "$word")) ;;
     press) COMPREPLY=($(compgen -W '--help' -- "$word") $(compgen -f -- "$word")) ;;
     convert) COMPREPLY=($(compgen -W '--back --help' -- "$word")) ;;

@@ -8,7 +8,9 @@ use Rattle.term_binds.specs.declared.fields.Form.TheVariants as forms
 use Rattle.term_commands.specs.declared.output.demo.Demos.{Demos}
 use Rattle.term_commands.specs.declared.output.demo.Demos.TheVariants.{Printed, Omitted}
 use Rattle.term3270.specs.declared.asked.Asked.{Asked}
-use Rattle.term3270.specs.declared.asked.Asked.TheVariants.{Show, Check, Talk, Press, Convert, ConvertBack, Draft, Bind, Records, Serve, Attach}
+use Rattle.term3270.specs.declared.asked.Asked.TheVariants.{Show, Draw, Check, Report, Talk, Press, Convert, ConvertBack, Draft, Bind, Records, Serve, Attach}
+use Rattle.term_findings.specs.declared.report.Report.TheVariants.{Json}
+use Rattle.term_pictures.specs.declared.drawing.Drawing.TheVariants.{Svg, Html}
 use Rattle.term_traces.specs.declared.asked.Source.{Source}
 use Rattle.term_traces.specs.declared.asked.Source.TheVariants.{Trace, Stream}
 use Rattle.tn_traces.specs.declared.line.Side.{Side}
@@ -32,9 +34,24 @@ abbrev pub AreDemos : List Row → Demos → Type 0
 AreDemos rows Printed = IsOption (codes "demo") rows true
 AreDemos rows Omitted = IsOption (codes "demo") rows false
 
+-- the screen, in the form that is named
+abbrev pub IsShow : List Row → Asked → Type 0
+IsShow rows asked = (first_of (codes "format") rows ≡ Some (codes "text") → asked ≡ Show)
+    × (first_of (codes "format") rows ≡ Some (codes "svg") → asked ≡ Draw Svg)
+    × (first_of (codes "format") rows ≡ Some (codes "html") → asked ≡ Draw Html)
+
+abbrev pub IsPlainCheck : List Row → Asked → Type 0
+IsPlainCheck rows (Check layout demos) = IsText (codes "LAYOUT") rows layout × AreDemos rows demos
+IsPlainCheck rows _ = ⊥
+
+abbrev pub IsReport : List Row → Asked → Type 0
+IsReport rows (Report layout report) = IsText (codes "LAYOUT") rows layout × (report ≡ Json)
+IsReport rows _ = ⊥
+
+-- the verdict, in the form that is named
 abbrev pub IsCheck : List Row → Asked → Type 0
-IsCheck rows (Check layout demos) = IsText (codes "LAYOUT") rows layout × AreDemos rows demos
-IsCheck rows _ = ⊥
+IsCheck rows asked = (first_of (codes "format") rows ≡ Some (codes "text") → IsPlainCheck rows asked)
+    × (first_of (codes "format") rows ≡ Some (codes "json") → IsReport rows asked)
 
 abbrev pub IsPress : List Row → Asked → Type 0
 IsPress rows (Press keys) = IsText (codes "KEYS") rows keys
@@ -78,7 +95,7 @@ IsAttach rows _ = ⊥
 
 -- the command that is named, with its paths, places and options; the default command is show
 pub record AsksFor (name : Text) (rows : List Row) (asked : Asked) : Type 0 where
-  pub show : name ≡ codes "show" → asked ≡ Show
+  pub show : name ≡ codes "show" → IsShow rows asked
   pub check : name ≡ codes "check" → IsCheck rows asked
   pub talk : name ≡ codes "talk" → asked ≡ Talk
   pub press : name ≡ codes "press" → IsPress rows asked

@@ -2,11 +2,13 @@
 
 ghost use Rattle.std.specs.Prelude.{◌≡◌, option_map};
 ghost use Rattle.clap.specs.Words.{found_of, rows_of, subcommand_rows_of};
-ghost use Rattle.term3270.specs.Asked.{AreDemos, AsksFor, IsForm, IsConvert, IsNumber, IsOption, IsSide, IsSource, IsText};
+ghost use Rattle.term3270.specs.Asked.{AreDemos, AsksFor, IsCheck, IsForm, IsConvert, IsNumber, IsOption, IsShow, IsSide, IsSource, IsText};
 
 use clap::ArgMatches;
 use term_binds::Form;
 use term_commands::Demos;
+use term_findings::Report;
+use term_pictures::Drawing;
 use term_traces::Source;
 use tn_traces::Side;
 
@@ -14,9 +16,16 @@ use tn_traces::Side;
 #[derive(Clone, Copy, Debug, PartialEq, Eq)]
 pub(crate) enum Asked<'a> {
     Show,
+    Draw {
+        drawing: Drawing,
+    },
     Check {
         layout: &'a str,
         demos: Demos,
+    },
+    Report {
+        layout: &'a str,
+        report: Report,
     },
     Talk,
     Press {
@@ -74,10 +83,8 @@ fn command_of<'a>(name: &str, words: &ArgMatches<'a>) -> Asked<'a>
     ensures { AsksFor name.now (rows_of (found_of words.now)) result }
 {
     match name {
-        "check" => Asked::Check {
-            layout: text_in(words, "LAYOUT"),
-            demos: demos_in(words),
-        },
+        "show" => show_of(words),
+        "check" => check_of(words),
         "talk" => Asked::Talk,
         "press" => Asked::Press {
             keys: text_in(words, "KEYS"),
@@ -105,6 +112,38 @@ fn command_of<'a>(name: &str, words: &ArgMatches<'a>) -> Asked<'a>
             device: text_in(words, "device"),
         },
         _ => Asked::Show,
+    }
+}
+
+/// `show`, in the form that is named.
+fn show_of<'a>(words: &ArgMatches<'a>) -> Asked<'a>
+    ensures { IsShow (rows_of (found_of words.now)) result }
+{
+    match text_in(words, "format") {
+        "svg" => Asked::Draw {
+            drawing: Drawing::Svg,
+        },
+        "html" => Asked::Draw {
+            drawing: Drawing::Html,
+        },
+        _ => Asked::Show,
+    }
+}
+
+/// `check`, in the form that is named.
+fn check_of<'a>(words: &ArgMatches<'a>) -> Asked<'a>
+    ensures { IsCheck (rows_of (found_of words.now)) result }
+{
+    let layout = text_in(words, "LAYOUT");
+    match text_in(words, "format") {
+        "json" => Asked::Report {
+            layout,
+            report: Report::Json,
+        },
+        _ => Asked::Check {
+            layout,
+            demos: demos_in(words),
+        },
     }
 }
 

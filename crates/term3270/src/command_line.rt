@@ -26,6 +26,9 @@ Example:
   |@A@...@...|
   |..........|
 
+Forms:
+  svg and html are a picture of the screen as a terminal shows it (docs/PICTURES.md).
+
 Statuses:
   0 done, 2 bad input, 3 a read or a write failed, 4 out of memory";
 
@@ -36,6 +39,9 @@ const CHECK: &str = "Input:
 Example:
   $ term3270 check examples/signon.toml < examples/signon.hex
   yes
+
+Forms:
+  json is an object a line for each finding, with what its keys send, and one with the verdict (docs/FINDINGS.md).
 
 Statuses:
   0 yes, 1 findings, 2 bad input, 3 the layout can't be read, or a read or a write failed, 4 out of memory";
@@ -116,6 +122,10 @@ Statuses:
   0 done, 2 bad input, or an answer is refused or unbound, 3 the layout can't be read, or a read or a write
   failed, 4 out of memory";
 
+const SCREEN_FORMS: &[&str] = &["text", "svg", "html"];
+
+const FINDING_FORMS: &[&str] = &["text", "json"];
+
 const SOURCES: &[&str] = &["trace", "stream"];
 
 const RECORDS: &str = "Input:
@@ -162,10 +172,25 @@ Statuses:
   0 done, 2 bad input, 3 the keys can't be read, the host can't be reached, or the session, a read or a write
   failed, 4 out of memory";
 
-fn show<'a>(alloc: Global) -> Command<'a> {
+/// In which of some forms it is printed.
+fn format<'a>(alloc: Global, forms: &'a [&'a str], help: &'a str) -> Arg<'a> {
+    Arg::new(alloc, "format")
+        .long("format")
+        .value_name("FORM")
+        .value_parser(forms)
+        .default_value("text")
+        .help(help)
+}
+
+fn show<'a>(alloc: Global) -> Result<Command<'a>, AllocError> {
     Command::new(alloc, "show")
         .about("Print the screen that the records leave (the default command)")
         .after_help(SHOW)
+        .arg(format(
+            alloc,
+            SCREEN_FORMS,
+            "How the screen is printed: text, svg or html",
+        ))
 }
 
 fn check<'a>(alloc: Global) -> Result<Command<'a>, AllocError> {
@@ -180,7 +205,12 @@ fn check<'a>(alloc: Global) -> Result<Command<'a>, AllocError> {
         .about("Print yes, or the findings of records and a layout")
         .after_help(CHECK)
         .arg(layout)?
-        .arg(demo)
+        .arg(demo)?
+        .arg(format(
+            alloc,
+            FINDING_FORMS,
+            "How the findings are printed: text or json",
+        ))
 }
 
 fn talk<'a>(alloc: Global) -> Result<Command<'a>, AllocError> {
@@ -319,7 +349,7 @@ pub(crate) fn parsed<'a>(alloc: Global, words: &'a [String]) -> Result<ArgMatche
             "Shows, checks, converts and serves 3270 screens: records in hexadecimal, one a line, from standard input",
         )
         .after_help(STATUSES)
-        .subcommand(show(alloc))?
+        .subcommand(show(alloc)?)?
         .subcommand(check(alloc)?)?
         .subcommand(talk(alloc)?)?
         .subcommand(press(alloc)?)?

@@ -27,6 +27,8 @@ use term_commands::{
     Status, failure, run_check, run_convert, run_convert_back, run_press, run_show, run_talk,
 };
 use term_drafts::run_draft;
+use term_findings::run_report;
+use term_pictures::run_picture;
 use term_traces::{Asked as Wanted, run_records};
 
 /// Runs a command on the standard streams, and on the file that it was given.
@@ -36,9 +38,14 @@ fn run(rt: &HostRuntime, asked: Asked<'_>, matches: &ArgMatches<'_>) -> Status {
     let mut output = named(rt, "standard output", rt.stdout());
     match asked {
         Asked::Show => run_show(alloc, &mut records, &mut output),
+        Asked::Draw { drawing } => run_picture(alloc, drawing, &mut records, &mut output),
         Asked::Check { layout, demos } => {
             let mut layout = file_at(rt, layout);
             run_check(alloc, &mut layout, &mut records, &mut output, demos)
+        }
+        Asked::Report { layout, report } => {
+            let mut layout = file_at(rt, layout);
+            run_report(alloc, report, &mut layout, &mut records, &mut output)
         }
         Asked::Talk => talk_of(rt, matches),
         Asked::Press { keys } => {
