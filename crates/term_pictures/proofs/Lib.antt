@@ -1,0 +1,5 @@
+mod RowLaws
+mod SearchLaws
+mod TagLaws
+mod ElementLaws
+mod CountLaws

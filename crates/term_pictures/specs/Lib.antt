@@ -1,0 +1,5 @@
+pub mod Seen
+pub mod Svg
+pub mod Html
+pub mod Picture
+pub mod Laws

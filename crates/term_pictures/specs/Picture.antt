@@ -1,0 +1,29 @@
+-- What `show` prints of a screen in another form, as a function of its input, and its status.
+use Rattle.std.specs.Prelude.{ℕ, List, Result, Ok}
+use Rattle.ds_codec.specs.Reading.{◌>>=◌}
+use Rattle.ds_screen.specs.Picture.{Picture}
+use Rattle.term_commands.specs.declared.fault.Fault.{Fault}
+use Rattle.term_commands.specs.declared.input.sizes.SizeLine.TheVariants.{Allowed}
+use Rattle.term_commands.specs.declared.status.Status.TheVariants.{Done}
+use Rattle.term_commands.specs.Printed.{Printed, printed, printed_or_fault}
+use Rattle.term_commands.specs.Records.{records_in}
+use Rattle.term_commands.specs.Shown.{shown_on}
+use Rattle.term_pictures.specs.declared.drawing.Drawing.{Drawing}
+use Rattle.term_pictures.specs.declared.drawing.Drawing.TheVariants.{Svg, Html}
+use Rattle.term_pictures.specs.Svg.{svg_element}
+use Rattle.term_pictures.specs.Html.{html_page}
+
+-- the text of a screen in each form
+abbrev pub drawn : Drawing → Picture → List ℕ
+drawn Svg v = svg_element v
+drawn Html v = html_page v
+
+abbrev pub pictured : Drawing → List ℕ → Result Printed Fault
+pictured drawing input = do
+  told ← records_in Allowed input
+  v ← shown_on told.geometry told.records
+  Ok (printed (drawn drawing v) Done)
+
+-- what is printed for an input, and its status
+abbrev pub printed_picture : Drawing → List ℕ → Printed
+printed_picture drawing input = printed_or_fault (pictured drawing input)

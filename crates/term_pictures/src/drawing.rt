@@ -1,0 +1,10 @@
+//! The forms of a picture.
+
+/// In which form a screen is drawn.
+#[derive(Clone, Copy, Debug, PartialEq, Eq)]
+pub enum Drawing {
+    /// A drawing, SVG 1.1.
+    Svg,
+    /// A page with that drawing.
+    Html,
+}

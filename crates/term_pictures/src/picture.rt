@@ -1,0 +1,77 @@
+//! The command `show` in the further forms.
+
+ghost use Rattle.std.specs.Prelude.{◌≡◌, IfOk, IfSome, string_bytes};
+ghost use Rattle.term_commands.specs.Fault.{Gives};
+ghost use Rattle.term_commands.specs.Held.{answer_seen};
+ghost use Rattle.term_commands.specs.Streams.{Prints};
+ghost use Rattle.term_pictures.specs.Picture.{drawn, pictured, printed_picture};
+
+use crate::drawing::Drawing;
+use crate::html::push_page;
+use crate::svg::push_svg;
+use ds_screen::{PlaneCells, Screen};
+use ds_terminal::Terminal;
+use std::alloc::{AllocError, Global};
+use std::io::{Read, Write};
+use term_commands::{
+    Answer, CommandError, SizeLine, Status, finish, read_text, records_in, show_all,
+};
+
+/// The text of a screen in a form.
+fn drawn(alloc: Global, drawing: Drawing, screen: &Screen<PlaneCells>) -> Result<String, AllocError>
+    ensures { IfOk result (λ text. string_bytes text ≡ drawn drawing screen.now) }
+{
+    let mut out = String::new(alloc);
+    match drawing {
+        Drawing::Svg => push_svg(&mut out, screen)?,
+        Drawing::Html => push_page(&mut out, screen)?,
+    }
+    Ok(out)
+}
+
+/// What is printed, in a form, of the screen that a text of records leaves, or its first fault.
+///
+/// # Errors
+///
+/// The first fault of the lines, then the first record that is refused; out of memory.
+pub fn picture_text(alloc: Global, drawing: Drawing, records: &[u8]) -> Result<Answer, CommandError>
+    ensures { Gives answer_seen result (pictured drawing records.now) }
+{
+    let told = records_in(alloc, records, SizeLine::Allowed)?;
+    let mut terminal = Terminal::<PlaneCells>::new(alloc, told.geometry)?;
+    show_all(&mut terminal, told.records.as_slice())?;
+    Ok(Answer {
+        text: drawn(alloc, drawing, terminal.screen())?,
+        status: Status::Done,
+    })
+}
+
+fn picture_records<R: Read>(
+    alloc: Global,
+    drawing: Drawing,
+    reader: &mut R,
+) -> Result<Answer, CommandError>
+    ensures { IfSome (R.remaining reader.old) (λ input.
+        Gives answer_seen result (pictured drawing input)) }
+{
+    let records = read_text(alloc, reader)?;
+    picture_text(alloc, drawing, records.as_slice())
+}
+
+/// Reads records in hexadecimal, one a line, applies them to a new screen, and prints the screen in a form; or the first
+/// fault of the lines, or the first record that is refused. At most 16,777,216 bytes, 1,000 records of 32,768 bytes. After
+/// a read or a write that failed the status is `Failed`, where memory was refused `NoMemory`, and a front of the text was
+/// written.
+pub fn run_picture<R: Read, W: Write>(
+    alloc: Global,
+    drawing: Drawing,
+    reader: &mut R,
+    writer: &mut W,
+) -> Status
+    ensures { IfSome (R.remaining reader.old) (λ input.
+        Prints (W.contents writer.old) (W.contents writer.new) result
+        (printed_picture drawing input)) }
+{
+    let answer = picture_records(alloc, drawing, reader);
+    finish(alloc, writer, answer)
+}
