@@ -1,9 +1,11 @@
 //! A screen as people look at it: the further forms in which the command `show` of the program `term3270` prints.
 #![tactic(auto)]
 
+mod colored;
 mod drawing;
 mod html;
 mod law;
+mod look;
 mod picture;
 mod seen;
 mod svg;

@@ -3,7 +3,7 @@
 use crate::{Drawing, drawing_law, picture_text, run_picture};
 use std::alloc::{AllocError, Global};
 use std::test::Fail;
-use term_commands::Status;
+use term_commands::{Status, show_text};
 
 /// What stands above the elements of a screen of 2 rows and 10 columns, around its title.
 const ROOT: &str =
@@ -110,7 +110,7 @@ fn pages_hold_the_drawing(rt: HostRuntime) -> Result<(), Fail> {
 
 #[test]
 fn faults_are_told_as_by_show(rt: HostRuntime) -> Result<(), Fail> {
-    for drawing in [Drawing::Svg, Drawing::Html] {
+    for drawing in [Drawing::Svg, Drawing::Html, Drawing::Colored] {
         for (input, wanted) in [
             ("F5C2\nXY\n", "line 2 refused\n"),
             ("F5C211\n", "record 0 refused at 2: O6 Truncated\n"),
@@ -124,6 +124,52 @@ fn faults_are_told_as_by_show(rt: HostRuntime) -> Result<(), Fail> {
             assert_eq!(&rt; text.as_slice(), wanted.as_bytes(), "{input}");
             assert_eq!(&rt; status, Status::BadInput, "{input}");
         }
+    }
+    Ok(())
+}
+
+/// A text without its sequences, each from ESC to `m`.
+fn without_sequences(alloc: Global, text: &str) -> Result<String, AllocError> {
+    let mut bare = String::new(alloc);
+    let mut inside = false;
+    for character in text.chars() {
+        if character == '\x1B' {
+            inside = true;
+        }
+        if !inside {
+            bare.push(character)?;
+        }
+        if character == 'm' {
+            inside = false;
+        }
+    }
+    Ok(bare)
+}
+
+#[test]
+fn looks_are_wrapped(rt: HostRuntime) -> Result<(), Fail> {
+    let wanted =
+        "screen 2x10 cursor 6 keyboard free aid 60\nfield 0 attr 20 place 1 length 1\nfield 2 attr 28 place 3 length 1\nfield 4 attr 00 place 5 length 2\nfield 7 attr 0C place 8 length 3\nfield 11 attr 20 place 12 length 8\n|@A@\x1B[0;1m<\x1B[0m@\x1B[0;4mb\x1B[0m\x1B[0;4;7m.\x1B[0m@\x1B[0;4m*.\x1B[0m|\n|\x1B[0;4m.\x1B[0m@........|\n";
+    let answer = picture_text(rt.alloc(), Drawing::Colored, FIELDS.as_bytes())?;
+    assert_eq!(&rt; answer.text.as_bytes(), wanted.as_bytes());
+    assert_eq!(&rt; answer.status, Status::Done);
+    Ok(())
+}
+
+#[test]
+fn without_sequences_it_is_shows_text(rt: HostRuntime) -> Result<(), Fail> {
+    for input in [
+        FIELDS,
+        "",
+        "size 2x10\nF5C2 504C6E7F7D\n",
+        "size 2x10\nF5C2 08C140C1009481\n",
+        "size 2x10\nF5C2 11404A1D40C1\n",
+        "size 2x10 3x12\n7EC2 1DC8C1C2 1D4CC3 11405B131DE8C4\n",
+    ] {
+        let colored = picture_text(rt.alloc(), Drawing::Colored, input.as_bytes())?;
+        let bare = without_sequences(rt.alloc(), colored.text.as_str())?;
+        let shown = show_text(rt.alloc(), input.as_bytes())?;
+        assert_eq!(&rt; bare.as_bytes(), shown.text.as_bytes(), "{input}");
     }
     Ok(())
 }
