@@ -3,3 +3,4 @@ mod SearchLaws
 mod TagLaws
 mod ElementLaws
 mod CountLaws
+mod JsonLaws

@@ -9,4 +9,6 @@ pub enum Drawing {
     Html,
     /// The text of `show` with the looks of its cells, by sequences that begin with ESC.
     Colored,
+    /// One line of JSON.
+    Json,
 }

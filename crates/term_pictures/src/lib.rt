@@ -4,6 +4,7 @@
 mod colored;
 mod drawing;
 mod html;
+mod json;
 mod law;
 mod look;
 mod picture;

@@ -110,7 +110,7 @@ fn pages_hold_the_drawing(rt: HostRuntime) -> Result<(), Fail> {
 
 #[test]
 fn faults_are_told_as_by_show(rt: HostRuntime) -> Result<(), Fail> {
-    for drawing in [Drawing::Svg, Drawing::Html, Drawing::Colored] {
+    for drawing in [Drawing::Svg, Drawing::Html, Drawing::Colored, Drawing::Json] {
         for (input, wanted) in [
             ("F5C2\nXY\n", "line 2 refused\n"),
             ("F5C211\n", "record 0 refused at 2: O6 Truncated\n"),
@@ -171,5 +171,20 @@ fn without_sequences_it_is_shows_text(rt: HostRuntime) -> Result<(), Fail> {
         let shown = show_text(rt.alloc(), input.as_bytes())?;
         assert_eq!(&rt; bare.as_bytes(), shown.text.as_bytes(), "{input}");
     }
+    Ok(())
+}
+
+#[test]
+fn screens_are_told_as_json(rt: HostRuntime) -> Result<(), Fail> {
+    let wanted = "{\"aid\":\"60\",\"columns\":10,\"cursor\":6,\"fields\":[\
+        {\"at\":0,\"attribute\":\"20\",\"hidden\":false,\"intensified\":false,\"length\":1,\"modified\":false,\"numeric\":false,\"place\":1,\"protected\":true},\
+        {\"at\":2,\"attribute\":\"28\",\"hidden\":false,\"intensified\":true,\"length\":1,\"modified\":false,\"numeric\":false,\"place\":3,\"protected\":true},\
+        {\"at\":4,\"attribute\":\"00\",\"hidden\":false,\"intensified\":false,\"length\":2,\"modified\":false,\"numeric\":false,\"place\":5,\"protected\":false},\
+        {\"at\":7,\"attribute\":\"0C\",\"hidden\":true,\"intensified\":false,\"length\":3,\"modified\":false,\"numeric\":false,\"place\":8,\"protected\":false},\
+        {\"at\":11,\"attribute\":\"20\",\"hidden\":false,\"intensified\":false,\"length\":8,\"modified\":false,\"numeric\":false,\"place\":12,\"protected\":true}\
+        ],\"keyboard\":\"free\",\"rows\":2,\"text\":[\"@A@<@b.@*.\",\".@........\"]}\n";
+    let answer = picture_text(rt.alloc(), Drawing::Json, FIELDS.as_bytes())?;
+    assert_eq!(&rt; answer.text.as_bytes(), wanted.as_bytes());
+    assert_eq!(&rt; answer.status, Status::Done);
     Ok(())
 }
