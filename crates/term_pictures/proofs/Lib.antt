@@ -4,3 +4,4 @@ mod TagLaws
 mod ElementLaws
 mod CountLaws
 mod JsonLaws
+mod LookLaws

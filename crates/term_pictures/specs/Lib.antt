@@ -5,3 +5,4 @@ pub mod Colored
 pub mod Json
 pub mod Picture
 pub mod Laws
+pub mod Unwrapped

@@ -15,5 +15,5 @@ mod tests;
 mod words;
 
 pub use drawing::Drawing;
-pub use law::drawing_law;
+pub use law::{drawing_law, looks_law};
 pub use picture::{picture_text, run_picture};

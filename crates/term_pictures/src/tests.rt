@@ -1,6 +1,6 @@
 //! Pictures of small screens, worked out by hand.
 
-use crate::{Drawing, drawing_law, picture_text, run_picture};
+use crate::{Drawing, drawing_law, looks_law, picture_text, run_picture};
 use std::alloc::{AllocError, Global};
 use std::test::Fail;
 use term_commands::{Status, show_text};
@@ -158,6 +158,7 @@ fn looks_are_wrapped(rt: HostRuntime) -> Result<(), Fail> {
 
 #[test]
 fn without_sequences_it_is_shows_text(rt: HostRuntime) -> Result<(), Fail> {
+    looks_law();
     for input in [
         FIELDS,
         "",
