@@ -3,3 +3,5 @@ mod SearchLaws
 mod TagLaws
 mod ElementLaws
 mod CountLaws
+mod JsonLaws
+mod LookLaws

@@ -1,5 +1,8 @@
 pub mod Seen
 pub mod Svg
 pub mod Html
+pub mod Colored
+pub mod Json
 pub mod Picture
 pub mod Laws
+pub mod Unwrapped

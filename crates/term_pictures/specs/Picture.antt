@@ -9,14 +9,18 @@ use Rattle.term_commands.specs.Printed.{Printed, printed, printed_or_fault}
 use Rattle.term_commands.specs.Records.{records_in}
 use Rattle.term_commands.specs.Shown.{shown_on}
 use Rattle.term_pictures.specs.declared.drawing.Drawing.{Drawing}
-use Rattle.term_pictures.specs.declared.drawing.Drawing.TheVariants.{Svg, Html}
+use Rattle.term_pictures.specs.declared.drawing.Drawing.TheVariants.{Svg, Html, Colored, Json}
 use Rattle.term_pictures.specs.Svg.{svg_element}
 use Rattle.term_pictures.specs.Html.{html_page}
+use Rattle.term_pictures.specs.Colored.{colored_text}
+use Rattle.term_pictures.specs.Json.{json_line}
 
 -- the text of a screen in each form
 abbrev pub drawn : Drawing → Picture → List ℕ
 drawn Svg v = svg_element v
 drawn Html v = html_page v
+drawn Colored v = colored_text v
+drawn Json v = json_line v
 
 abbrev pub pictured : Drawing → List ℕ → Result Printed Fault
 pictured drawing input = do

@@ -12,6 +12,10 @@ use Rattle.ds_screen.specs.Shown.{text_of}
 abbrev pub is_intensified : ℕ → Bool
 is_intensified bits = bits / 4 % 4 == 2
 
+-- bit 10: digits alone are to be typed
+abbrev pub is_numeric : ℕ → Bool
+is_numeric bits = bits / 16 % 2 == 1
+
 -- what is seen of a character: nothing of a space
 abbrev pub inked : ℕ → Option ℕ
 inked character = if character == 32 then None else Some character

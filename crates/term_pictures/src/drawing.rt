@@ -7,4 +7,8 @@ pub enum Drawing {
     Svg,
     /// A page with that drawing.
     Html,
+    /// The text of `show` with the looks of its cells, by sequences that begin with ESC.
+    Colored,
+    /// One line of JSON.
+    Json,
 }

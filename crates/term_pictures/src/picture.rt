@@ -6,8 +6,10 @@ ghost use Rattle.term_commands.specs.Held.{answer_seen};
 ghost use Rattle.term_commands.specs.Streams.{Prints};
 ghost use Rattle.term_pictures.specs.Picture.{drawn, pictured, printed_picture};
 
+use crate::colored::push_colored;
 use crate::drawing::Drawing;
 use crate::html::push_page;
+use crate::json::push_json;
 use crate::svg::push_svg;
 use ds_screen::{PlaneCells, Screen};
 use ds_terminal::Terminal;
@@ -25,6 +27,8 @@ fn drawn(alloc: Global, drawing: Drawing, screen: &Screen<PlaneCells>) -> Result
     match drawing {
         Drawing::Svg => push_svg(&mut out, screen)?,
         Drawing::Html => push_page(&mut out, screen)?,
+        Drawing::Colored => push_colored(&mut out, screen)?,
+        Drawing::Json => push_json(alloc, &mut out, screen)?,
     }
     Ok(out)
 }

@@ -1,9 +1,9 @@
 //! Pictures of small screens, worked out by hand.
 
-use crate::{Drawing, drawing_law, picture_text, run_picture};
+use crate::{Drawing, drawing_law, looks_law, picture_text, run_picture};
 use std::alloc::{AllocError, Global};
 use std::test::Fail;
-use term_commands::Status;
+use term_commands::{Status, show_text};
 
 /// What stands above the elements of a screen of 2 rows and 10 columns, around its title.
 const ROOT: &str =
@@ -110,7 +110,7 @@ fn pages_hold_the_drawing(rt: HostRuntime) -> Result<(), Fail> {
 
 #[test]
 fn faults_are_told_as_by_show(rt: HostRuntime) -> Result<(), Fail> {
-    for drawing in [Drawing::Svg, Drawing::Html] {
+    for drawing in [Drawing::Svg, Drawing::Html, Drawing::Colored, Drawing::Json] {
         for (input, wanted) in [
             ("F5C2\nXY\n", "line 2 refused\n"),
             ("F5C211\n", "record 0 refused at 2: O6 Truncated\n"),
@@ -125,5 +125,67 @@ fn faults_are_told_as_by_show(rt: HostRuntime) -> Result<(), Fail> {
             assert_eq!(&rt; status, Status::BadInput, "{input}");
         }
     }
+    Ok(())
+}
+
+/// A text without its sequences, each from ESC to `m`.
+fn without_sequences(alloc: Global, text: &str) -> Result<String, AllocError> {
+    let mut bare = String::new(alloc);
+    let mut inside = false;
+    for character in text.chars() {
+        if character == '\x1B' {
+            inside = true;
+        }
+        if !inside {
+            bare.push(character)?;
+        }
+        if character == 'm' {
+            inside = false;
+        }
+    }
+    Ok(bare)
+}
+
+#[test]
+fn looks_are_wrapped(rt: HostRuntime) -> Result<(), Fail> {
+    let wanted =
+        "screen 2x10 cursor 6 keyboard free aid 60\nfield 0 attr 20 place 1 length 1\nfield 2 attr 28 place 3 length 1\nfield 4 attr 00 place 5 length 2\nfield 7 attr 0C place 8 length 3\nfield 11 attr 20 place 12 length 8\n|@A@\x1B[0;1m<\x1B[0m@\x1B[0;4mb\x1B[0m\x1B[0;4;7m.\x1B[0m@\x1B[0;4m*.\x1B[0m|\n|\x1B[0;4m.\x1B[0m@........|\n";
+    let answer = picture_text(rt.alloc(), Drawing::Colored, FIELDS.as_bytes())?;
+    assert_eq!(&rt; answer.text.as_bytes(), wanted.as_bytes());
+    assert_eq!(&rt; answer.status, Status::Done);
+    Ok(())
+}
+
+#[test]
+fn without_sequences_it_is_shows_text(rt: HostRuntime) -> Result<(), Fail> {
+    looks_law();
+    for input in [
+        FIELDS,
+        "",
+        "size 2x10\nF5C2 504C6E7F7D\n",
+        "size 2x10\nF5C2 08C140C1009481\n",
+        "size 2x10\nF5C2 11404A1D40C1\n",
+        "size 2x10 3x12\n7EC2 1DC8C1C2 1D4CC3 11405B131DE8C4\n",
+    ] {
+        let colored = picture_text(rt.alloc(), Drawing::Colored, input.as_bytes())?;
+        let bare = without_sequences(rt.alloc(), colored.text.as_str())?;
+        let shown = show_text(rt.alloc(), input.as_bytes())?;
+        assert_eq!(&rt; bare.as_bytes(), shown.text.as_bytes(), "{input}");
+    }
+    Ok(())
+}
+
+#[test]
+fn screens_are_told_as_json(rt: HostRuntime) -> Result<(), Fail> {
+    let wanted = "{\"aid\":\"60\",\"columns\":10,\"cursor\":6,\"fields\":[\
+        {\"at\":0,\"attribute\":\"20\",\"hidden\":false,\"intensified\":false,\"length\":1,\"modified\":false,\"numeric\":false,\"place\":1,\"protected\":true},\
+        {\"at\":2,\"attribute\":\"28\",\"hidden\":false,\"intensified\":true,\"length\":1,\"modified\":false,\"numeric\":false,\"place\":3,\"protected\":true},\
+        {\"at\":4,\"attribute\":\"00\",\"hidden\":false,\"intensified\":false,\"length\":2,\"modified\":false,\"numeric\":false,\"place\":5,\"protected\":false},\
+        {\"at\":7,\"attribute\":\"0C\",\"hidden\":true,\"intensified\":false,\"length\":3,\"modified\":false,\"numeric\":false,\"place\":8,\"protected\":false},\
+        {\"at\":11,\"attribute\":\"20\",\"hidden\":false,\"intensified\":false,\"length\":8,\"modified\":false,\"numeric\":false,\"place\":12,\"protected\":true}\
+        ],\"keyboard\":\"free\",\"rows\":2,\"text\":[\"@A@<@b.@*.\",\".@........\"]}\n";
+    let answer = picture_text(rt.alloc(), Drawing::Json, FIELDS.as_bytes())?;
+    assert_eq!(&rt; answer.text.as_bytes(), wanted.as_bytes());
+    assert_eq!(&rt; answer.status, Status::Done);
     Ok(())
 }
