@@ -7,10 +7,12 @@ use Rattle.term_binds.specs.declared.fields.Form.{Form}
 use Rattle.term_binds.specs.declared.fields.Form.TheVariants as forms
 use Rattle.term_commands.specs.declared.output.demo.Demos.{Demos}
 use Rattle.term_commands.specs.declared.output.demo.Demos.TheVariants.{Printed, Omitted}
+use Rattle.term3270.specs.declared.asked.When.{When}
+use Rattle.term3270.specs.declared.asked.When.TheVariants.{Auto, Always, Never}
 use Rattle.term3270.specs.declared.asked.Asked.{Asked}
 use Rattle.term3270.specs.declared.asked.Asked.TheVariants.{Show, Draw, Check, Report, Talk, Press, Convert, ConvertBack, Draft, Bind, Records, Serve, Attach}
 use Rattle.term_findings.specs.declared.report.Report.TheVariants.{Json}
-use Rattle.term_pictures.specs.declared.drawing.Drawing.TheVariants.{Svg, Html}
+use Rattle.term_pictures.specs.declared.drawing.Drawing.TheVariants as drawings
 use Rattle.term_traces.specs.declared.asked.Source.{Source}
 use Rattle.term_traces.specs.declared.asked.Source.TheVariants.{Trace, Stream}
 use Rattle.tn_traces.specs.declared.line.Side.{Side}
@@ -34,11 +36,21 @@ abbrev pub AreDemos : List Row → Demos → Type 0
 AreDemos rows Printed = IsOption (codes "demo") rows true
 AreDemos rows Omitted = IsOption (codes "demo") rows false
 
+abbrev pub IsWhen : List Row → When → Type 0
+IsWhen rows color = (first_of (codes "color") rows ≡ Some (codes "auto") → color ≡ Auto)
+    × (first_of (codes "color") rows ≡ Some (codes "always") → color ≡ Always)
+    × (first_of (codes "color") rows ≡ Some (codes "never") → color ≡ Never)
+
+abbrev pub IsPlainShow : List Row → Asked → Type 0
+IsPlainShow rows (Show color) = IsWhen rows color
+IsPlainShow rows _ = ⊥
+
 -- the screen, in the form that is named
 abbrev pub IsShow : List Row → Asked → Type 0
-IsShow rows asked = (first_of (codes "format") rows ≡ Some (codes "text") → asked ≡ Show)
-    × (first_of (codes "format") rows ≡ Some (codes "svg") → asked ≡ Draw Svg)
-    × (first_of (codes "format") rows ≡ Some (codes "html") → asked ≡ Draw Html)
+IsShow rows asked = (first_of (codes "format") rows ≡ Some (codes "text") → IsPlainShow rows asked)
+    × (first_of (codes "format") rows ≡ Some (codes "svg") → asked ≡ Draw drawings.Svg)
+    × (first_of (codes "format") rows ≡ Some (codes "html") → asked ≡ Draw drawings.Html)
+    × (first_of (codes "format") rows ≡ Some (codes "json") → asked ≡ Draw drawings.Json)
 
 abbrev pub IsPlainCheck : List Row → Asked → Type 0
 IsPlainCheck rows (Check layout demos) = IsText (codes "LAYOUT") rows layout × AreDemos rows demos
@@ -107,5 +119,5 @@ pub record AsksFor (name : Text) (rows : List Row) (asked : Asked) : Type 0 wher
   pub attach : name ≡ codes "attach" → IsAttach rows asked
 
 abbrev pub Asks : Option (Text × List Row) → Asked → Type 0
-Asks None asked = asked ≡ Show
+Asks None asked = asked ≡ Show Auto
 Asks (Some command) asked = AsksFor command.0 command.1 asked

@@ -2,7 +2,7 @@
 
 ghost use Rattle.std.specs.Prelude.{◌≡◌, option_map};
 ghost use Rattle.clap.specs.Words.{found_of, rows_of, subcommand_rows_of};
-ghost use Rattle.term3270.specs.Asked.{AreDemos, AsksFor, IsCheck, IsForm, IsConvert, IsNumber, IsOption, IsShow, IsSide, IsSource, IsText};
+ghost use Rattle.term3270.specs.Asked.{AreDemos, AsksFor, IsCheck, IsForm, IsConvert, IsNumber, IsOption, IsShow, IsSide, IsSource, IsText, IsWhen};
 
 use clap::ArgMatches;
 use term_binds::Form;
@@ -12,10 +12,21 @@ use term_pictures::Drawing;
 use term_traces::Source;
 use tn_traces::Side;
 
+/// When the looks of a screen's cells are printed.
+#[derive(Clone, Copy, Debug, PartialEq, Eq)]
+pub(crate) enum When {
+    /// Where standard output is a terminal, and the environment doesn't say `NO_COLOR`.
+    Auto,
+    Always,
+    Never,
+}
+
 /// A command, with the files, the options and the place on the net that it was given.
 #[derive(Clone, Copy, Debug, PartialEq, Eq)]
 pub(crate) enum Asked<'a> {
-    Show,
+    Show {
+        color: When,
+    },
     Draw {
         drawing: Drawing,
     },
@@ -66,7 +77,7 @@ impl<'a> Asked<'a> {
     {
         match named_in(matches) {
             Some((name, words)) => command_of(name, words),
-            None => Asked::Show,
+            None => Asked::Show { color: When::Auto },
         }
     }
 }
@@ -111,7 +122,7 @@ fn command_of<'a>(name: &str, words: &ArgMatches<'a>) -> Asked<'a>
             port: number_in(words, "port"),
             device: text_in(words, "device"),
         },
-        _ => Asked::Show,
+        _ => Asked::Show { color: When::Auto },
     }
 }
 
@@ -126,7 +137,22 @@ fn show_of<'a>(words: &ArgMatches<'a>) -> Asked<'a>
         "html" => Asked::Draw {
             drawing: Drawing::Html,
         },
-        _ => Asked::Show,
+        "json" => Asked::Draw {
+            drawing: Drawing::Json,
+        },
+        _ => Asked::Show {
+            color: when_in(words),
+        },
+    }
+}
+
+fn when_in(words: &ArgMatches<'_>) -> When
+    ensures { IsWhen (rows_of (found_of words.now)) result }
+{
+    match text_in(words, "color") {
+        "always" => When::Always,
+        "never" => When::Never,
+        _ => When::Auto,
     }
 }
 

@@ -27,7 +27,8 @@ Example:
   |..........|
 
 Forms:
-  svg and html are a picture of the screen as a terminal shows it (docs/PICTURES.md).
+  svg and html are a picture of the screen as a terminal shows it, json is one object (docs/PICTURES.md). Text
+  has the looks of its cells where standard output is a terminal and the environment doesn't say NO_COLOR.
 
 Statuses:
   0 done, 2 bad input, 3 a read or a write failed, 4 out of memory";
@@ -122,7 +123,9 @@ Statuses:
   0 done, 2 bad input, or an answer is refused or unbound, 3 the layout can't be read, or a read or a write
   failed, 4 out of memory";
 
-const SCREEN_FORMS: &[&str] = &["text", "svg", "html"];
+const SCREEN_FORMS: &[&str] = &["text", "svg", "html", "json"];
+
+const WHEN: &[&str] = &["auto", "always", "never"];
 
 const FINDING_FORMS: &[&str] = &["text", "json"];
 
@@ -183,14 +186,17 @@ fn format<'a>(alloc: Global, forms: &'a [&'a str], help: &'a str) -> Arg<'a> {
 }
 
 fn show<'a>(alloc: Global) -> Result<Command<'a>, AllocError> {
+    let color = Arg::new(alloc, "color")
+        .long("color")
+        .value_name("WHEN")
+        .value_parser(WHEN)
+        .default_value("auto")
+        .help("When the text has the looks of its cells");
     Command::new(alloc, "show")
         .about("Print the screen that the records leave (the default command)")
         .after_help(SHOW)
-        .arg(format(
-            alloc,
-            SCREEN_FORMS,
-            "How the screen is printed: text, svg or html",
-        ))
+        .arg(format(alloc, SCREEN_FORMS, "How the screen is printed"))?
+        .arg(color)
 }
 
 fn check<'a>(alloc: Global) -> Result<Command<'a>, AllocError> {
@@ -209,7 +215,7 @@ fn check<'a>(alloc: Global) -> Result<Command<'a>, AllocError> {
         .arg(format(
             alloc,
             FINDING_FORMS,
-            "How the findings are printed: text or json",
+            "How the findings are printed",
         ))
 }
 

@@ -10,7 +10,7 @@ mod tcp;
 #[cfg(test)]
 mod tests;
 
-use crate::asked::Asked;
+use crate::asked::{Asked, When};
 use crate::command_line::parsed;
 use crate::file::FileAt;
 use crate::sessions::{run_attach, run_serve};
@@ -19,7 +19,8 @@ use crate::tcp::Place;
 use clap::ArgMatches;
 use clap::error::ErrorKind;
 use std::alloc::AllocError;
-use std::io::BufReader;
+use std::env::VarError;
+use std::io::{BufReader, IsTerminal};
 use std::process::ExitCode;
 use std::{env, io};
 use term_binds::run_bind;
@@ -28,7 +29,7 @@ use term_commands::{
 };
 use term_drafts::run_draft;
 use term_findings::run_report;
-use term_pictures::run_picture;
+use term_pictures::{Drawing, run_picture};
 use term_traces::{Asked as Wanted, run_records};
 
 /// Runs a command on the standard streams, and on the file that it was given.
@@ -37,7 +38,13 @@ fn run(rt: &HostRuntime, asked: Asked<'_>, matches: &ArgMatches<'_>) -> Status {
     let mut records = named(rt, "standard input", rt.stdin());
     let mut output = named(rt, "standard output", rt.stdout());
     match asked {
-        Asked::Show => run_show(alloc, &mut records, &mut output),
+        Asked::Show { color } => {
+            if is_colored(rt, color) {
+                run_picture(alloc, Drawing::Colored, &mut records, &mut output)
+            } else {
+                run_show(alloc, &mut records, &mut output)
+            }
+        }
         Asked::Draw { drawing } => run_picture(alloc, drawing, &mut records, &mut output),
         Asked::Check { layout, demos } => {
             let mut layout = file_at(rt, layout);
@@ -87,6 +94,24 @@ fn run(rt: &HostRuntime, asked: Asked<'_>, matches: &ArgMatches<'_>) -> Status {
             let mut keys = file_at(rt, keys);
             run_attach(rt, Place { host, port }, &mut keys, device, &mut output)
         }
+    }
+}
+
+/// Whether the looks of cells are printed.
+fn is_colored(rt: &HostRuntime, color: When) -> bool {
+    match color {
+        When::Auto => rt.stdout().is_terminal() && !refuses_color(rt),
+        When::Always => true,
+        When::Never => false,
+    }
+}
+
+/// Whether the environment says `NO_COLOR`, which counts where it isn't empty.
+fn refuses_color(rt: &HostRuntime) -> bool {
+    match env::var(rt, "NO_COLOR") {
+        Ok(text) => !text.is_empty(),
+        Err(VarError::NotPresent) => false,
+        Err(_) => true,
     }
 }
 
