@@ -8,7 +8,7 @@ mod show;
 mod talk;
 
 pub use back::{convert_back_text, run_convert_back};
-pub use check::{check_answer, check_texts, run_check};
+pub use check::{check_answer, check_texts, lent, run_check};
 pub use convert::{convert_text, run_convert};
 pub use press::{press_texts, run_press};
 pub use show::{run_show, show_text};

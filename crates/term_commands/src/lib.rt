@@ -11,18 +11,18 @@ mod shown;
 mod status;
 
 pub use commands::{
-    check_answer, check_texts, convert_back_text, convert_text, press_texts, run_check,
+    check_answer, check_texts, convert_back_text, convert_text, lent, press_texts, run_check,
     run_convert, run_convert_back, run_press, run_show, run_talk, show_text, talk_texts,
 };
 pub use fault::{CommandError, Fault, failure};
-pub use input::bytes::read_text;
+pub use input::bytes::{read_text, within_limit};
 pub use input::keys::{Keys, read_keys};
 pub use input::layout::{layout_in, read_layout};
 pub use input::records::{Records, read_records, records_in};
 pub use input::sizes::SizeLine;
 pub use law::{convert_law, lines_law};
 pub use output::answer::{Answer, finish, printed};
-pub use output::demo::Demos;
+pub use output::demo::{Demos, demo_sends, demo_terminal};
 pub use output::screen::screen_text;
 pub use shown::show_all;
 pub use status::Status;

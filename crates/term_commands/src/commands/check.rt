@@ -28,7 +28,11 @@ use std::alloc::{AllocError, Global};
 use std::io::{Read, Write};
 
 /// The records as slices.
-pub(crate) fn lent<'a>(alloc: Global, records: &'a [Vec<u8>]) -> Result<Vec<&'a [u8]>, AllocError>
+///
+/// # Errors
+///
+/// Where a request for memory was refused.
+pub fn lent<'a>(alloc: Global, records: &'a [Vec<u8>]) -> Result<Vec<&'a [u8]>, AllocError>
     ensures { IfOk result (λ v. map (λ bytes. bytes.now) v.items ≡ records_held records.now) }
 {
     let mut slices = Vec::new(alloc);

@@ -24,6 +24,10 @@ pub fn at_most(count: usize, most: usize) -> Result<(), Fault>
 }
 
 /// A text of at most 16,777,216 bytes.
+///
+/// # Errors
+///
+/// Where it has more.
 pub fn within_limit(text: &[u8]) -> Result<&[u8], CommandError>
     ensures bytes { Gives (λ t. t.now) result (within_limit text.now) }
     ensures short { IfOk result (λ t. length t.now ≤ 16777216) }

@@ -64,20 +64,29 @@ fn press_demo(
     Ok(())
 }
 
-/// What the terminal sends once the keys of a demo are pressed.
-fn replay(
+/// What a copy of the terminal sends once the keys of a demo are pressed on it.
+///
+/// # Errors
+///
+/// Where a request for memory was refused.
+pub fn demo_sends(
     alloc: Global,
-    terminal: &mut Terminal<PlaneCells>,
+    terminal: &Terminal<PlaneCells>,
     demo: Demo,
 ) -> Result<Vec<u8>, AllocError>
-    ensures { IfOk result (λ bytes. bytes.items ≡ bytes_replayed terminal.old demo) }
+    ensures { IfOk result (λ bytes. bytes.items ≡ bytes_replayed terminal.now demo) }
 {
-    press_demo(alloc, terminal, demo)?;
+    let mut terminal = terminal.copied(alloc)?;
+    press_demo(alloc, &mut terminal, demo)?;
     write_inbound(alloc, terminal.screen(), false)
 }
 
 /// The terminal that demos go from, where they are printed: a new one that showed the records, unless one of
 /// them is refused.
+///
+/// # Errors
+///
+/// Where a request for memory was refused.
 pub fn demo_terminal(
     alloc: Global,
     layout: &Layout,
@@ -109,7 +118,7 @@ pub fn push_sends(
 {
     match (terminal, finding.demo()) {
         (Some(terminal), Some(demo)) => {
-            let bytes = replay(alloc, &mut terminal.copied(alloc)?, demo)?;
+            let bytes = demo_sends(alloc, terminal, demo)?;
             push_sent(out, "sends ", bytes.as_slice())
         }
         (None, _) | (_, None) => Ok(()),

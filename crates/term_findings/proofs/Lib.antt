@@ -1,0 +1,3 @@
+mod Plain
+mod RecordLines
+mod Known

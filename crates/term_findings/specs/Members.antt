@@ -1,0 +1,74 @@
+-- A finding as a JSON object. Its members are in the order of their keys, and a key that doesn't apply is left out.
+use Rattle.std.specs.Prelude.{ℕ, List, codes, Option, Some, None, option_map, option_and_then}
+use Rattle.serde_json.specs.Data.{Data, number, unsigned, string, object, Members, no_members, member, put}
+use Rattle.hex.specs.Hex.{encode_upper}
+use Rattle.ds_codec.specs.declared.size.Size.{Size}
+use Rattle.ds_screen.specs.Picture.{Picture}
+use Rattle.scr_layout.specs.Entry.{Declared}
+use Rattle.scr_layout.specs.Layout.{Declaration}
+use Rattle.scr_check.specs.declared.finding.Demo.{Demo}
+use Rattle.scr_check.specs.declared.finding.Finding.{Finding}
+use Rattle.scr_check.specs.FindingText.{demo_of, finding_number, finding_text}
+use Rattle.term_findings.specs.Facts.{record_of, byte_of, entry_of, place_of, row_at, column_at, length_of, sizes_of, size_text, sent_from}
+use Rattle.term_findings.specs.Name.{name_of}
+use Rattle.term_findings.specs.RecordLine.{record_line}
+
+-- ---- one member
+
+-- the members, with a value at a key where there is one
+abbrev pub with_some : List ℕ → Option Data → Members → Members
+with_some key None members = members
+with_some key (Some value) members = put key value members
+
+abbrev pub with_count : List ℕ → Option ℕ → Members → Members
+with_count key count members = with_some key (option_map (λ n. number (unsigned n)) count) members
+
+abbrev pub with_text : List ℕ → Option (List ℕ) → Members → Members
+with_text key text members = with_some key (option_map string text) members
+
+-- ---- what they tell
+
+abbrev pub with_words : List Declared → Finding → Members → Members
+with_words entries finding members =
+    with_text (codes "words") (Some (finding_text entries finding))
+    (with_text (codes "name") (Some (name_of finding)) (with_count (codes "number") (Some (finding_number finding)) members))
+
+-- the record, its line in the input, and the byte
+abbrev pub with_record : List ℕ → Finding → Members → Members
+with_record input finding members =
+    with_count (codes "byte") (byte_of finding)
+    (with_count (codes "line") (option_and_then (record_line input) (record_of finding)) (with_count (codes "record") (record_of finding) members))
+
+-- where the field begins
+abbrev pub with_place : Size → Option ℕ → Members → Members
+with_place size place members =
+    with_count (codes "column") (option_map (column_at size) place)
+    (with_count (codes "row") (option_map (row_at size) place) (with_count (codes "place") place members))
+
+-- the cells of the field, and the entry
+abbrev pub with_entry : List Declared → Finding → Members → Members
+with_entry entries finding members =
+    with_text (codes "entry") (option_map (λ entry. entry.name) (entry_of entries finding))
+    (with_count (codes "declared") (option_map (λ entry. entry.length) (entry_of entries finding)) (with_count (codes "length") (length_of finding) members))
+
+-- the size of the screen, and the layout's
+abbrev pub with_sizes : Option (Size × Size) → Members → Members
+with_sizes sizes members =
+    with_text (codes "layout") (option_map (λ both. size_text both.1) sizes) (with_text (codes "size") (option_map (λ both. size_text both.0) sizes) members)
+
+abbrev pub keys_data : Demo → Data
+keys_data demo = object (member (codes "right") (number (unsigned demo.rights)) (member (codes "type") (number (unsigned demo.types)) no_members))
+
+-- the keys that show it, and what they send
+abbrev pub with_keys : Option Picture → Option Demo → Members → Members
+with_keys opened demo members =
+    with_text (codes "sends") (option_map encode_upper (sent_from opened demo)) (with_some (codes "keys") (option_map keys_data demo) members)
+
+-- ---- the object
+
+-- a finding of records that leave this picture, in this text
+abbrev pub finding_data : Declaration → List ℕ → Option Picture → Finding → Data
+finding_data layout input opened finding =
+    object (with_keys opened (demo_of finding)
+    (with_sizes (sizes_of finding)
+    (with_entry layout.entries finding (with_place layout.size (place_of layout.entries finding) (with_record input finding (with_words layout.entries finding no_members))))))

@@ -1,0 +1,81 @@
+-- What `check` reports for tools, as a function of its two inputs, and its status.
+use Rattle.std.specs.Prelude.{ℕ, List, [], ◌∷◌, ◌++◌, length, codes, Option, Result, Ok, Err}
+use Rattle.std.specs.List.{flat_map}
+use Rattle.serde_json.specs.Data.{Data, number, unsigned, string, object, member, no_members}
+use Rattle.serde_json.specs.Written.{compact_text}
+use Rattle.ds_codec.specs.Reading.{◌>>=◌}
+use Rattle.ds_screen.specs.Picture.{Picture}
+use Rattle.scr_layout.specs.Layout.{Declaration}
+use Rattle.scr_check.specs.declared.finding.Finding.{Finding}
+use Rattle.scr_check.specs.Findings.{answer_of}
+use Rattle.term_commands.specs.declared.fault.Fault.{Fault}
+use Rattle.term_commands.specs.declared.input.sizes.SizeLine.TheVariants.{Refused}
+use Rattle.term_commands.specs.declared.output.demo.Demos.TheVariants.{Printed as Pressed}
+use Rattle.term_commands.specs.declared.status.Status.{Status}
+use Rattle.term_commands.specs.declared.status.Status.TheVariants.{Done, Findings, BadInput}
+use Rattle.term_commands.specs.DemoLines.{asked, shown_on}
+use Rattle.term_commands.specs.Fault.{fault_text}
+use Rattle.term_commands.specs.LayoutText.{layout_in}
+use Rattle.term_commands.specs.Lines.{within_limit}
+use Rattle.term_commands.specs.Printed.{Printed, printed}
+use Rattle.term_commands.specs.Records.{records_in}
+use Rattle.term_findings.specs.Members.{finding_data}
+use Rattle.term_findings.specs.declared.report.Report.{Report}
+
+-- ---- lines
+
+-- a JSON value on a line of its own
+abbrev pub data_line : Data → List ℕ
+data_line value = compact_text value ++ codes "\n"
+
+-- the line of a finding, of records that leave this picture
+abbrev pub finding_line : Declaration → List ℕ → Option Picture → Finding → List ℕ
+finding_line layout input opened finding = data_line (finding_data layout input opened finding)
+
+abbrev pub verdict_word : List Finding → List ℕ
+verdict_word [] = codes "yes"
+verdict_word (finding ∷ findings) = codes "no"
+
+-- how many findings, records and fields there are, and the verdict; the fields are the layout's entries
+abbrev pub verdict_data : ℕ → ℕ → List Finding → Data
+verdict_data fields records findings =
+    object (member (codes "fields") (number (unsigned fields))
+    (member (codes "findings") (number (unsigned (length findings)))
+    (member (codes "records") (number (unsigned records)) (member (codes "verdict") (string (verdict_word findings)) no_members))))
+
+-- the words of what is wrong with an input
+abbrev pub refusal_data : Fault → Data
+refusal_data fault = object (member (codes "verdict") (string (codes "refused")) (member (codes "words") (string (fault_text fault)) no_members))
+
+-- ---- the report
+
+abbrev pub status_of : List Finding → Status
+status_of [] = Done
+status_of (finding ∷ findings) = Findings
+
+-- a line for each finding, and one for the verdict; keys are pressed on the picture that the records leave
+abbrev pub report_findings : Declaration → List ℕ → List (List ℕ) → List Finding → Printed
+report_findings layout input records findings =
+    printed (flat_map (finding_line layout input (asked Pressed (shown_on layout records))) findings
+    ++ data_line (verdict_data (length layout.entries) (length records) findings))
+    (status_of findings)
+
+abbrev pub report_within : Declaration → List ℕ → Result Printed Fault
+report_within layout text = records_in Refused text >>= λ told. Ok (report_findings layout text told.records (answer_of layout told.records))
+
+-- a longer input is not looked at
+abbrev pub report_records : Declaration → List ℕ → Result Printed Fault
+report_records layout input = within_limit input >>= λ text. report_within layout text
+
+-- the report of a layout's text and of records, or what is wrong with one of them
+abbrev pub report : List ℕ → List ℕ → Result Printed Fault
+report text input = layout_in text >>= λ layout. report_records layout input
+
+-- an input that is refused is reported too
+abbrev pub or_refusal : Result Printed Fault → Printed
+or_refusal (Ok answer) = answer
+or_refusal (Err fault) = printed (data_line (refusal_data fault)) BadInput
+
+-- what is reported for a layout's text and records, and the status; there is one form
+abbrev pub printed_report : Report → List ℕ → List ℕ → Printed
+printed_report form text input = or_refusal (report text input)

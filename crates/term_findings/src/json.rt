@@ -1,0 +1,163 @@
+//! The report as lines of JSON.
+
+ghost use Rattle.std.specs.Prelude.{◌≡◌, ◌++◌, false, length, map, option_map, IfOk, OnOk, Some};
+ghost use Rattle.std.specs.List.{flat_map};
+ghost use Rattle.std.specs.String.{string_bytes};
+ghost use Rattle.serde_json.specs.View.{view};
+ghost use Rattle.serde_json.specs.Written.{has_float};
+ghost use Rattle.scr_check.specs.Seen.{findings_in};
+ghost use Rattle.scr_check.specs.Findings.{answer_of};
+ghost use Rattle.term_commands.specs.Held.{answer_seen, records_held};
+ghost use Rattle.term_commands.specs.Printed.{printed};
+ghost use Rattle.term_commands.specs.declared.status.Status.TheVariants.{BadInput};
+ghost use Rattle.term_findings.specs.Report.{data_line, finding_line, verdict_data, verdict_word, refusal_data, status_of, report_findings};
+
+use crate::members::finding_value;
+use ds_screen::PlaneCells;
+use ds_terminal::Terminal;
+use scr_check::Finding;
+use scr_layout::Layout;
+use serde_json::{Value, json};
+use std::alloc::{AllocError, Global};
+use term_commands::{Answer, Demos, Fault, Status, demo_terminal};
+
+/// A value on a line of its own.
+fn push_line(alloc: Global, out: &mut String, value: &Value) -> Result<(), AllocError>
+    requires { has_float (view value.now) ≡ false }
+    ensures { OnOk result (string_bytes out.new ≡ string_bytes out.old ++ data_line (view value.now)) }
+{
+    let text = value.to_string(alloc)?;
+    out.push_str(text.as_str())?;
+    out.push_str("\n")
+}
+
+/// The line of a finding.
+#[tactic(auto, using(crate::proofs::Plain::finding_plain))]
+fn push_finding(
+    alloc: Global,
+    out: &mut String,
+    layout: &Layout,
+    input: &[u8],
+    terminal: Option<&Terminal<PlaneCells>>,
+    finding: &Finding,
+) -> Result<(), AllocError>
+    ensures { OnOk result (string_bytes out.new ≡ string_bytes out.old
+        ++ finding_line layout.now input.now (option_map (λ t. t.now) terminal.entry) finding.now) }
+{
+    let value = finding_value(alloc, layout, input, terminal, finding)?;
+    push_line(alloc, out, &value)
+}
+
+/// The lines of findings, in their order.
+fn push_findings(
+    alloc: Global,
+    out: &mut String,
+    layout: &Layout,
+    input: &[u8],
+    terminal: Option<&Terminal<PlaneCells>>,
+    findings: &[Finding],
+) -> Result<(), AllocError>
+    ensures { OnOk result (string_bytes out.new ≡ string_bytes out.old
+        ++ flat_map (finding_line layout.now input.now (option_map (λ t. t.now) terminal.entry)) findings.now) }
+{
+    for finding in findings {
+        push_finding(alloc, out, layout, input, terminal, finding)?;
+    }
+    Ok(())
+}
+
+fn verdict_word(findings: &[Finding]) -> &'static str
+    ensures { result.now ≡ verdict_word findings.now }
+{
+    match findings {
+        [] => "yes",
+        [_, ..] => "no",
+    }
+}
+
+fn status_of(findings: &[Finding]) -> Status
+    ensures { result ≡ status_of findings.now }
+{
+    match findings {
+        [] => Status::Done,
+        [_, ..] => Status::Findings,
+    }
+}
+
+/// How many findings, records and fields there are, and the verdict.
+fn verdict_value(
+    alloc: Global,
+    fields: usize,
+    records: usize,
+    findings: &[Finding],
+) -> Result<Value, AllocError>
+    ensures { IfOk result (λ value. view value ≡ verdict_data fields records findings.now) }
+{
+    let found = findings.len();
+    let word = verdict_word(findings);
+    json!(in alloc; {"findings": found, "records": records, "fields": fields, "verdict": word})
+}
+
+/// The line of the verdict.
+fn push_verdict(
+    alloc: Global,
+    out: &mut String,
+    fields: usize,
+    records: usize,
+    findings: &[Finding],
+) -> Result<(), AllocError>
+    ensures { OnOk result (string_bytes out.new ≡ string_bytes out.old
+        ++ data_line (verdict_data fields records findings.now)) }
+{
+    let value = verdict_value(alloc, fields, records, findings)?;
+    push_line(alloc, out, &value)
+}
+
+/// What is wrong with an input.
+fn refusal_value(alloc: Global, fault: Fault) -> Result<Value, AllocError>
+    ensures { IfOk result (λ value. view value ≡ refusal_data fault) }
+{
+    let words = format!(in alloc; "{fault}")?;
+    json!(in alloc; {"verdict": "refused", "words": words})
+}
+
+/// The report of an input that is refused.
+pub(crate) fn refusal_answer(alloc: Global, fault: Fault) -> Result<Answer, AllocError>
+    ensures { IfOk result (λ answer. answer_seen answer
+        ≡ printed (data_line (refusal_data fault)) BadInput) }
+{
+    let mut text = String::new(alloc);
+    let value = refusal_value(alloc, fault)?;
+    push_line(alloc, &mut text, &value)?;
+    Ok(Answer {
+        text,
+        status: Status::BadInput,
+    })
+}
+
+/// The report of findings: a line for each, and one for the verdict.
+pub(crate) fn findings_answer(
+    alloc: Global,
+    layout: &Layout,
+    input: &[u8],
+    records: &[Vec<u8>],
+    findings: &[Finding],
+) -> Result<Answer, AllocError>
+    ensures { IfOk result (λ answer. answer_seen answer
+        ≡ report_findings layout.now input.now (records_held records.now) findings.now) }
+{
+    let mut text = String::new(alloc);
+    let terminal = demo_terminal(alloc, layout, records, Demos::Printed)?;
+    push_findings(alloc, &mut text, layout, input, terminal.as_ref(), findings)?;
+    push_verdict(
+        alloc,
+        &mut text,
+        layout.entries().len(),
+        records.len(),
+        findings,
+    )?;
+    Ok(Answer {
+        text,
+        status: status_of(findings),
+    })
+}

@@ -1,0 +1,228 @@
+//! A finding as a JSON object.
+
+ghost use Rattle.std.specs.Prelude.{◌≡◌, ◌≤◌, option_map, option_and_then, IfOk, OnOk, Some};
+ghost use Rattle.std.specs.String.{string_bytes};
+ghost use Rattle.hex.specs.Hex.{encode_upper};
+ghost use Rattle.serde_json.specs.Data.{number, unsigned};
+ghost use Rattle.serde_json.specs.View.{view, members_view};
+ghost use Rattle.scr_check.specs.FindingText.{demo_of};
+ghost use Rattle.term_findings.specs.Facts.{sent_from};
+ghost use Rattle.term_findings.specs.RecordLine.{record_line};
+ghost use Rattle.term_findings.specs.Members.{with_some, with_count, with_text, with_words, with_record, with_place, with_entry, with_sizes, with_keys, keys_data, finding_data};
+
+use crate::facts::{
+    byte_of, column_at, entry_of, length_of, place_of, record_of, row_at, size_text, sizes_of,
+};
+use crate::names::name_of;
+use crate::record_line::line_of_record;
+use ds_codec::Size;
+use ds_screen::PlaneCells;
+use ds_terminal::Terminal;
+use order_lines::push_bytes;
+use scr_check::{Demo, Finding};
+use scr_layout::{Entry, Layout};
+use serde_json::{Map, Value, json, put};
+use std::alloc::{AllocError, Global};
+use term_commands::demo_sends;
+
+/// The members of an object.
+type Members = Map<String, Value>;
+
+/// A number at a key, where there is one.
+fn put_count(
+    alloc: Global,
+    members: &mut Members,
+    key: &str,
+    count: Option<usize>,
+) -> Result<(), AllocError>
+    ensures { OnOk result (members_view members.new.entries
+        ≡ with_count key.now count (members_view members.old.entries)) }
+{
+    match count {
+        Some(count) => put(members, alloc, key, Value::from(count)),
+        None => Ok(()),
+    }
+}
+
+/// The same of a number of 64 bits.
+fn put_number(
+    alloc: Global,
+    members: &mut Members,
+    key: &str,
+    number: Option<u64>,
+) -> Result<(), AllocError>
+    ensures { OnOk result (members_view members.new.entries
+        ≡ with_count key.now number (members_view members.old.entries)) }
+{
+    match number {
+        Some(number) => put(members, alloc, key, Value::from(number)),
+        None => Ok(()),
+    }
+}
+
+/// A text at a key.
+fn put_text(alloc: Global, members: &mut Members, key: &str, text: String) -> Result<(), AllocError>
+    ensures { OnOk result (members_view members.new.entries
+        ≡ with_text key.now (Some (string_bytes text)) (members_view members.old.entries)) }
+{
+    put(members, alloc, key, Value::String(text))
+}
+
+fn put_words(
+    alloc: Global,
+    members: &mut Members,
+    entries: &[Entry],
+    finding: &Finding,
+) -> Result<(), AllocError>
+    ensures { OnOk result (members_view members.new.entries
+        ≡ with_words entries.now finding.now (members_view members.old.entries)) }
+{
+    let mut words = String::new(alloc);
+    finding.push_text(&mut words, entries)?;
+    let name = String::from_str(alloc, name_of(finding))?;
+    put_number(alloc, members, "number", Some(u64::from(finding.number())))?;
+    put_text(alloc, members, "name", name)?;
+    put_text(alloc, members, "words", words)
+}
+
+/// The line of a record, where there is one.
+fn line_of(input: &[u8], index: Option<usize>) -> Option<usize>
+    ensures { result ≡ option_and_then (record_line input.now) index }
+{
+    line_of_record(input, index?)
+}
+
+fn put_record(
+    alloc: Global,
+    members: &mut Members,
+    input: &[u8],
+    finding: &Finding,
+) -> Result<(), AllocError>
+    ensures { OnOk result (members_view members.new.entries
+        ≡ with_record input.now finding.now (members_view members.old.entries)) }
+{
+    let index = record_of(finding);
+    put_count(alloc, members, "record", index)?;
+    put_count(alloc, members, "line", line_of(input, index))?;
+    put_count(alloc, members, "byte", byte_of(finding))
+}
+
+fn put_place(
+    alloc: Global,
+    members: &mut Members,
+    size: Size,
+    place: Option<u32>,
+) -> Result<(), AllocError>
+    requires { 1 ≤ size.cols }
+    ensures { OnOk result (members_view members.new.entries
+        ≡ with_place size place (members_view members.old.entries)) }
+{
+    let Some(place) = place else {
+        return Ok(());
+    };
+    put_number(alloc, members, "place", Some(u64::from(place)))?;
+    put_number(alloc, members, "row", Some(row_at(size, place)))?;
+    put_number(alloc, members, "column", Some(column_at(size, place)))
+}
+
+fn put_entry(
+    alloc: Global,
+    members: &mut Members,
+    entries: &[Entry],
+    finding: &Finding,
+) -> Result<(), AllocError>
+    ensures { OnOk result (members_view members.new.entries
+        ≡ with_entry entries.now finding.now (members_view members.old.entries)) }
+{
+    put_number(alloc, members, "length", length_of(finding))?;
+    let Some(entry) = entry_of(entries, finding) else {
+        return Ok(());
+    };
+    put_number(alloc, members, "declared", Some(u64::from(entry.length)))?;
+    put_text(alloc, members, "entry", entry.name.clone()?)
+}
+
+fn put_sizes(
+    alloc: Global,
+    members: &mut Members,
+    sizes: Option<(Size, Size)>,
+) -> Result<(), AllocError>
+    ensures { OnOk result (members_view members.new.entries
+        ≡ with_sizes sizes (members_view members.old.entries)) }
+{
+    let Some((shown, declared)) = sizes else {
+        return Ok(());
+    };
+    put_text(alloc, members, "size", size_text(alloc, shown)?)?;
+    put_text(alloc, members, "layout", size_text(alloc, declared)?)
+}
+
+/// How often each key of a demo is pressed.
+fn keys_value(alloc: Global, demo: Demo) -> Result<Value, AllocError>
+    ensures { IfOk result (λ value. view value ≡ keys_data demo) }
+{
+    let Demo { rights, types } = demo;
+    json!(in alloc; {"right": rights, "type": types})
+}
+
+/// What the keys of a demo send, in hexadecimal.
+fn sends_text(
+    alloc: Global,
+    terminal: &Terminal<PlaneCells>,
+    demo: Demo,
+) -> Result<String, AllocError>
+    ensures { IfOk result (λ text. Some (string_bytes text)
+        ≡ option_map encode_upper (sent_from (Some terminal.now) (Some demo))) }
+{
+    let bytes = demo_sends(alloc, terminal, demo)?;
+    let mut text = String::new(alloc);
+    push_bytes(&mut text, bytes.as_slice())?;
+    Ok(text)
+}
+
+fn put_keys(
+    alloc: Global,
+    members: &mut Members,
+    terminal: Option<&Terminal<PlaneCells>>,
+    demo: Option<Demo>,
+) -> Result<(), AllocError>
+    ensures { OnOk result (members_view members.new.entries
+        ≡ with_keys (option_map (λ t. t.now) terminal.entry) demo (members_view members.old.entries)) }
+{
+    let Some(demo) = demo else {
+        return Ok(());
+    };
+    put(members, alloc, "keys", keys_value(alloc, demo)?)?;
+    match terminal {
+        Some(terminal) => put_text(alloc, members, "sends", sends_text(alloc, terminal, demo)?),
+        None => Ok(()),
+    }
+}
+
+/// A finding as a JSON object: its number, its name and its words, and each of the others that it has: `record` and
+/// `line`, `byte`, `place`, `row` and `column`, `length`, `declared` and `entry`, `size` and `layout`, `keys` and `sends`.
+pub(crate) fn finding_value(
+    alloc: Global,
+    layout: &Layout,
+    input: &[u8],
+    terminal: Option<&Terminal<PlaneCells>>,
+    finding: &Finding,
+) -> Result<Value, AllocError>
+    ensures { IfOk result (λ value. view value
+        ≡ finding_data layout.now input.now (option_map (λ t. t.now) terminal.entry) finding.now) }
+{
+    let entries = layout.entries();
+    let mut members = Map::new(alloc);
+    put_words(alloc, &mut members, entries, finding)?;
+    put_record(alloc, &mut members, input, finding)?;
+    put_place(
+        alloc,
+        &mut members,
+        layout.size(),
+        place_of(entries, finding),
+    )?;
+    put_entry(alloc, &mut members, entries, finding)?;
+    put_sizes(alloc, &mut members, sizes_of(finding))?;
+    put_keys(alloc, &mut members, terminal, finding.demo())?;
+    Ok(Value::Object(members))
+}

@@ -1,0 +1,58 @@
+//! The line on which a record stands.
+
+ghost use Rattle.std.specs.Prelude.{◌≡◌};
+ghost use Rattle.term_commands.specs.Lines.{is_ignored};
+ghost use Rattle.term_commands.specs.Records.{without_spaces};
+ghost use Rattle.term_commands.specs.Says.{is_silent};
+ghost use Rattle.std.specs.Str.{is_utf8};
+ghost use Rattle.term_findings.specs.RecordLine.{record_line};
+
+use bstr::ByteSlice;
+
+/// Whether a line is empty but for spaces, or a comment.
+fn is_ignored(line: &[u8]) -> bool
+    ensures { result ≡ is_ignored (without_spaces line.now) }
+{
+    for byte in line {
+        if *byte != b' ' {
+            return *byte == b'#';
+        }
+    }
+    true
+}
+
+fn is_text(line: &[u8]) -> bool
+    ensures { result ≡ is_utf8 line.now }
+{
+    match str::from_utf8(line) {
+        Ok(_) => true,
+        Err(_) => false,
+    }
+}
+
+/// Whether a line tells no record.
+fn is_silent(line: &[u8]) -> bool
+    ensures { result ≡ is_silent line.now }
+{
+    is_text(line) && is_ignored(line)
+}
+
+/// The line on which the record of an index stands, counted from 1: the lines that are not ignored are records. None
+/// where there are fewer.
+#[tactic(auto, using(crate::proofs::RecordLines::over_silent, crate::proofs::RecordLines::here, crate::proofs::RecordLines::beyond))]
+pub fn line_of_record(text: &[u8], index: usize) -> Option<usize>
+    ensures { result ≡ record_line text.now index }
+{
+    let mut left = index;
+    let mut number = 1;
+    for line in text.lines() {
+        if !is_silent(line) {
+            if left == 0 {
+                return Some(number);
+            }
+            left -= 1;
+        }
+        number += 1;
+    }
+    None
+}

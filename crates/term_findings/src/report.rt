@@ -1,0 +1,156 @@
+//! The command `check`, reported for tools.
+
+ghost use Rattle.std.specs.Prelude.{◌≡◌, Ok, Result, IfErr, IfOk, IfSome};
+ghost use Rattle.term_commands.specs.Fault.{Gives};
+ghost use Rattle.term_commands.specs.Held.{answer_seen, records_held};
+ghost use Rattle.term_commands.specs.LayoutText.{layout_in};
+ghost use Rattle.term_commands.specs.Printed.{Printed};
+ghost use Rattle.term_commands.specs.Streams.{Prints};
+ghost use Rattle.term_commands.specs.declared.fault.Fault.{Fault as AFault};
+ghost use Rattle.scr_check.specs.Findings.{answer_of};
+ghost use Rattle.term_findings.specs.Report.{report_findings, report_within, report_records, report, or_refusal, printed_report};
+
+use crate::json::{findings_answer, refusal_answer};
+use scr_check::{Verdict, check};
+use scr_layout::Layout;
+use std::alloc::{AllocError, Global};
+use std::io::{Read, Write};
+use term_commands::{
+    Answer, CommandError, SizeLine, Status, finish, layout_in, lent, read_layout, read_text,
+    records_in, within_limit,
+};
+
+/// The form of a report.
+#[derive(Clone, Copy, Debug, PartialEq, Eq)]
+pub enum Report {
+    /// A JSON object on each line.
+    Json,
+}
+
+/// What is reported of a layout and records that were told.
+fn report_told(
+    alloc: Global,
+    layout: &Layout,
+    input: &[u8],
+    records: &[Vec<u8>],
+) -> Result<Answer, AllocError>
+    ensures { IfOk result (λ answer. answer_seen answer
+        ≡ report_findings layout.now input.now (records_held records.now) (answer_of layout.now (records_held records.now))) }
+{
+    let slices = lent(alloc, records)?;
+    let verdict = check(alloc, slices.as_slice(), layout)?;
+    match verdict {
+        Verdict::Yes => findings_answer(alloc, layout, input, records, &[]),
+        Verdict::No(findings) => {
+            findings_answer(alloc, layout, input, records, findings.as_slice())
+        }
+    }
+}
+
+fn report_within(alloc: Global, layout: &Layout, text: &[u8]) -> Result<Answer, CommandError>
+    ensures { Gives answer_seen result (report_within layout.now text.now) }
+{
+    let told = records_in(alloc, text, SizeLine::Refused)?;
+    Ok(report_told(alloc, layout, text, told.records.as_slice())?)
+}
+
+fn report_records(alloc: Global, layout: &Layout, input: &[u8]) -> Result<Answer, CommandError>
+    ensures { Gives answer_seen result (report_records layout.now input.now) }
+{
+    let text = within_limit(input)?;
+    report_within(alloc, layout, text)
+}
+
+fn report_both(alloc: Global, layout: &[u8], records: &[u8]) -> Result<Answer, CommandError>
+    ensures { Gives answer_seen result (report layout.now records.now) }
+{
+    let layout = layout_in(alloc, layout)?;
+    report_records(alloc, &layout, records)
+}
+
+/// What is reported: the answer, or in its place what is wrong with an input.
+fn or_refusal(alloc: Global, answer: Result<Answer, CommandError>) -> Result<Answer, CommandError>
+    ensures { (due : Result Printed AFault) → Gives answer_seen answer due
+        → Gives answer_seen result (Ok (or_refusal due)) }
+{
+    match answer {
+        Ok(answer) => Ok(answer),
+        Err(CommandError::Fault(fault)) => Ok(refusal_answer(alloc, fault)?),
+        Err(CommandError::ReadFailed) => Err(CommandError::ReadFailed),
+        Err(CommandError::OutOfMemory) => Err(CommandError::OutOfMemory),
+    }
+}
+
+/// What `check` reports of the texts of a layout and of records. An input that is refused is reported too, with the
+/// status `BadInput`.
+///
+/// # Errors
+///
+/// Where a request for memory was refused.
+pub fn report_texts(
+    alloc: Global,
+    report: Report,
+    layout: &[u8],
+    records: &[u8],
+) -> Result<Answer, CommandError>
+    ensures { Gives answer_seen result (Ok (printed_report report layout.now records.now)) }
+{
+    let answer = report_both(alloc, layout, records);
+    match report {
+        Report::Json => or_refusal(alloc, answer),
+    }
+}
+
+fn report_read<L: Read, R: Read>(
+    alloc: Global,
+    layout: &mut L,
+    reader: &mut R,
+) -> Result<Answer, CommandError>
+    ensures answer { IfSome (L.remaining layout.old) (λ text. IfSome (R.remaining
+        reader.old) (λ input. Gives answer_seen result (report text input))) }
+    ensures unread { IfSome (L.remaining layout.old) (λ text. IfErr (layout_in text) (λ fault.
+        reader.new ≡ reader.old)) }
+{
+    let layout = read_layout(alloc, layout)?;
+    let records = read_text(alloc, reader)?;
+    report_records(alloc, &layout, records.as_slice())
+}
+
+/// What is reported of a layout and records that are read.
+fn report_streams<L: Read, R: Read>(
+    alloc: Global,
+    report: Report,
+    layout: &mut L,
+    reader: &mut R,
+) -> Result<Answer, CommandError>
+    ensures answer { IfSome (L.remaining layout.old) (λ text. IfSome (R.remaining
+        reader.old) (λ input. Gives answer_seen result (Ok (printed_report report text input)))) }
+    ensures unread { IfSome (L.remaining layout.old) (λ text. IfErr (layout_in text) (λ fault.
+        reader.new ≡ reader.old)) }
+{
+    let answer = report_read(alloc, layout, reader);
+    match report {
+        Report::Json => or_refusal(alloc, answer),
+    }
+}
+
+/// Reads a layout and then records in hexadecimal, one a line, and reports what stands against them, with what the keys
+/// of a finding send; or what is wrong with an input. Records aren't read where the layout has a fault. The sizes are the
+/// layout's, so a line of sizes is bad. At most 16,777,216 bytes of either, 1,000 records of 32,768 bytes. After a read or a
+/// write that failed the status is `Failed`, where memory was refused `NoMemory`, and a front of the text was written.
+pub fn run_report<L: Read, R: Read, W: Write>(
+    alloc: Global,
+    report: Report,
+    layout: &mut L,
+    reader: &mut R,
+    writer: &mut W,
+) -> Status
+    ensures prints { IfSome (L.remaining layout.old) (λ text. IfSome (R.remaining
+        reader.old) (λ input.
+        Prints (W.contents writer.old) (W.contents writer.new) result (printed_report report text input))) }
+    ensures unread { IfSome (L.remaining layout.old) (λ text. IfErr (layout_in text) (λ fault.
+        reader.new ≡ reader.old)) }
+{
+    let answer = report_streams(alloc, report, layout, reader);
+    finish(alloc, writer, answer)
+}
