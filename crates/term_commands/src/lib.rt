@@ -23,6 +23,5 @@ pub use input::sizes::SizeLine;
 pub use law::{convert_law, lines_law};
 pub use output::answer::{Answer, finish, printed};
 pub use output::demo::{Demos, demo_sends, demo_terminal};
-pub use output::screen::screen_text;
 pub use shown::show_all;
 pub use status::Status;
