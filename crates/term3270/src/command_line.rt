@@ -212,11 +212,7 @@ fn check<'a>(alloc: Global) -> Result<Command<'a>, AllocError> {
         .after_help(CHECK)
         .arg(layout)?
         .arg(demo)?
-        .arg(format(
-            alloc,
-            FINDING_FORMS,
-            "How the findings are printed",
-        ))
+        .arg(format(alloc, FINDING_FORMS, "How the findings are printed"))
 }
 
 fn talk<'a>(alloc: Global) -> Result<Command<'a>, AllocError> {

@@ -24,7 +24,8 @@ use term_commands::{Answer, Demos, Fault, Status, demo_terminal};
 /// A value on a line of its own.
 fn push_line(alloc: Global, out: &mut String, value: &Value) -> Result<(), AllocError>
     requires { has_float (view value.now) ≡ false }
-    ensures { OnOk result (string_bytes out.new ≡ string_bytes out.old ++ data_line (view value.now)) }
+    ensures { OnOk result (string_bytes out.new
+        ≡ string_bytes out.old ++ data_line (view value.now)) }
 {
     let text = value.to_string(alloc)?;
     out.push_str(text.as_str())?;
