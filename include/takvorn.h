@@ -32,9 +32,9 @@ extern "C" {
 
 /* Statuses, as the program ends with them; 3, a read or a write that failed, is of the program alone. */
 enum {
-  /* The text is the command's answer; that of takvorn_check and takvorn_talk is `yes`. */
+  /* The text is the command's answer; that of takvorn_check and takvorn_talk is `yes`, of takvorn_check_json the verdict. */
   TAKVORN_DONE = 0,
-  /* The text is findings, of takvorn_check, takvorn_talk or takvorn_draft, a line each. */
+  /* The text is findings, of takvorn_check, takvorn_check_json, takvorn_talk or takvorn_draft, a line each. */
   TAKVORN_FINDINGS = 1,
   /* The text is one line, the first fault of the inputs; or answers of takvorn_bind, not all of which are bound. */
   TAKVORN_BAD_INPUT = 2,
@@ -63,10 +63,26 @@ typedef struct takvorn_text {
 /* The screen that records leave. Records are in hexadecimal, one a line; the first line may tell sizes. */
 int32_t takvorn_show(const uint8_t *records, size_t records_length, uint8_t *out, size_t out_length, size_t *needed);
 
+/* The same screen in another form: a drawing (SVG 1.1), a page with that drawing (HTML), the text with the looks of its
+ * cells between sequences that begin with ESC, and a line of JSON. */
+int32_t takvorn_show_svg(const uint8_t *records, size_t records_length, uint8_t *out, size_t out_length,
+                         size_t *needed);
+int32_t takvorn_show_html(const uint8_t *records, size_t records_length, uint8_t *out, size_t out_length,
+                          size_t *needed);
+int32_t takvorn_show_colored(const uint8_t *records, size_t records_length, uint8_t *out, size_t out_length,
+                             size_t *needed);
+int32_t takvorn_show_json(const uint8_t *records, size_t records_length, uint8_t *out, size_t out_length,
+                          size_t *needed);
+
 /* `yes`, or a line for each finding that stands against the records and the layout, which is TOML. With `demos` a line
  * `sends` and hexadecimal digits follows each finding that has keys: what the terminal sends once they are pressed. */
 int32_t takvorn_check(const uint8_t *layout, size_t layout_length, const uint8_t *records, size_t records_length,
                       bool demos, uint8_t *out, size_t out_length, size_t *needed);
+
+/* The same as JSON: an object a line for each finding, with what its keys send, and one for the verdict; or one object for
+ * the first fault of the inputs, with TAKVORN_BAD_INPUT. */
+int32_t takvorn_check_json(const uint8_t *layout, size_t layout_length, const uint8_t *records, size_t records_length,
+                           uint8_t *out, size_t out_length, size_t *needed);
 
 /* `yes`, or the first turn of a dialogue that has findings, and these. Turn K, counted from 0, has the layout
  * `layouts[K]`; a line `turn` stands between the records of two turns. `layouts` is not null, where its count is 0

@@ -35,6 +35,7 @@ void free(void *block) {
 /* A command's inputs: its files in their order, and standard input. */
 static char *command;
 static bool flag;
+static const char *form = "text";
 static takvorn_text files[MOST_LAYOUTS], input;
 static size_t file_count;
 
@@ -50,11 +51,24 @@ static takvorn_text contents(FILE *file) {
   return text;
 }
 
+/* Whether an option and its value name the form of what `show` or `check` prints. */
+static bool is_form(const char *option, const char *value) {
+  bool is_show = !strcmp(command, "show");
+  if (is_show && !strcmp(option, "--color") && !strcmp(value, "always")) return form = "color", true;
+  if (strcmp(option, "--format")) return false;
+  if (!strcmp(value, "text") || (!strcmp(value, "json") && (is_show || !strcmp(command, "check")))) return form = value, true;
+  return is_show && (!strcmp(value, "svg") || !strcmp(value, "html")) ? (form = value, true) : false;
+}
+
 /* Whether the words are a command's. */
 static bool take_words(int count, char **words) {
   command = count > 0 ? words[0] : "show";
   bool is_flagged = false;
   for (int i = 1; i < count; i++) {
+    if (i + 1 < count && is_form(words[i], words[i + 1])) {
+      i++;
+      continue;
+    }
     const char *taken = !strcmp(command, "check") ? "--demo" : !strcmp(command, "convert") ? "--back" : !strcmp(command, "bind") ? "--text" : "";
     if (words[i][0] == '-') {
       if (is_flagged || strcmp(words[i], taken)) return false;
@@ -75,12 +89,15 @@ static bool take_words(int count, char **words) {
 static int call(uint8_t *out, size_t room, size_t *needed) {
   const takvorn_text *f = files, *r = &input;
   switch (command[0]) {
-  case 's': return takvorn_show(r->bytes, r->length, out, room, needed);
+  case 's':
+    return (*form == 's' ? takvorn_show_svg : *form == 'h' ? takvorn_show_html : *form == 'c' ? takvorn_show_colored
+            : *form == 'j' ? takvorn_show_json : takvorn_show)(r->bytes, r->length, out, room, needed);
   case 'd': return takvorn_draft(r->bytes, r->length, out, room, needed);
   case 't': return takvorn_talk(files, file_count, r->bytes, r->length, out, room, needed);
   case 'p': return takvorn_press(r->bytes, r->length, f->bytes, f->length, out, room, needed);
   case 'b': return takvorn_bind(f->bytes, f->length, r->bytes, r->length, flag, out, room, needed);
   }
+  if (!strcmp(command, "check") && *form == 'j') return takvorn_check_json(f->bytes, f->length, r->bytes, r->length, out, room, needed);
   if (!strcmp(command, "check")) return takvorn_check(f->bytes, f->length, r->bytes, r->length, flag, out, room, needed);
   return (flag ? takvorn_convert_back : takvorn_convert)(r->bytes, r->length, out, room, needed);
 }

@@ -120,9 +120,15 @@ each() { # MODE PROGRAM.., with a row for each command: its input and its words
     fi
   done << END
 signon.hex show
+signon.hex show --format svg
+signon.hex show --format html
+signon.hex show --format json
+signon.hex show --color always
 $work/bad show
 signon.hex check signon.toml
 $work/flawed check signon.toml --demo
+$work/flawed check signon.toml --format json
+$work/bad check signon.toml --format json
 signon_menu.hex talk signon.toml menu.toml
 signon.hex press $work/keys
 first.hex convert

@@ -4,9 +4,10 @@ The library is the file that the environment names as TAKVORN_LIBRARY, or libtak
 Texts are bytes. A command returns an Answer (status, text); check returns a list of findings.
 """
 import ctypes
+import json
 import os
-import re
-from typing import NamedTuple, Optional, Sequence
+from types import SimpleNamespace
+from typing import NamedTuple, Sequence
 
 DONE, FINDINGS, BAD_INPUT, NO_MEMORY = 0, 1, 2, 4
 
@@ -26,15 +27,10 @@ class Answer(NamedTuple):
     text: bytes
 
 
-class Finding(NamedTuple):
-    """What stands against records: F1 to F14, and what was found. `rights` and `types` are the keys that show it, so
-    often the cursor to the right and then a character typed; `sends` is what the terminal sends then. They are None
-    where there are no keys."""
-    number: int
-    text: str
-    rights: Optional[int]
-    types: Optional[int]
-    sends: Optional[bytes]
+class Finding(SimpleNamespace):
+    """What stands against records: number, name and words, and where it applies its record, its place, its entry, and the
+    keys that show it with what the terminal sends then (bytes): docs/FINDINGS.md has them. What doesn't apply is None."""
+    record = line = byte = place = row = column = entry = declared = length = size = layout = keys = sends = None
 
 
 def _call(name, *inputs):
@@ -61,8 +57,9 @@ def _call(name, *inputs):
         room = needed.value
 
 
-def show(records: bytes) -> Answer:
-    return _call("show", records)
+def show(records: bytes, form: str = "text") -> Answer:
+    """The screen: as text, svg, html, colored (text for a terminal) or json."""
+    return _call("show" if form == "text" else "show_" + form, records)
 
 
 def press(records: bytes, keys: bytes) -> Answer:
@@ -91,21 +88,11 @@ def talk(layouts: Sequence[bytes], records: bytes) -> Answer:
 
 def check(layout: bytes, records: bytes) -> list[Finding]:
     """The findings, with what their keys send; none where the checker says yes. A fault raises BadInput."""
-    answer = _call("check", layout, records, True)
-    text = answer.text.decode()
+    answer = _call("check_json", layout, records)
+    *findings, verdict = map(json.loads, answer.text.splitlines())
     if answer.status == BAD_INPUT:
-        raise BadInput(text.rstrip("\n"))
-    if answer.status == DONE:
-        return []
-    return _findings(text)
-
-
-def _findings(text):
-    found = []
-    for line in text.splitlines():
-        if line.startswith("sends "):
-            found[-1] = found[-1]._replace(sends=bytes.fromhex(line[len("sends "):]))
-            continue
-        number, words, rights, types = re.fullmatch(r"F(\d+) (.*?)(?:, keys: right (\d+), type (\d+))?", line).groups()
-        found.append(Finding(int(number), words, rights and int(rights), types and int(types), None))
-    return found
+        raise BadInput(verdict["words"])
+    for finding in findings:
+        if "sends" in finding:
+            finding["sends"] = bytes.fromhex(finding["sends"])
+    return [Finding(**finding) for finding in findings]

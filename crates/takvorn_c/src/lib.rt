@@ -11,6 +11,8 @@ ghost use Rattle.term_commands.specs.Press.{printed_press};
 ghost use Rattle.term_commands.specs.Show.{printed_show};
 ghost use Rattle.term_commands.specs.Talk.{printed_talk};
 ghost use Rattle.term_drafts.specs.Draft.{printed_draft};
+ghost use Rattle.term_findings.specs.Report.{printed_report};
+ghost use Rattle.term_pictures.specs.Picture.{printed_picture};
 ghost use Rattle.takvorn_c.specs.Left.{Leaves, demos_of, form_of};
 
 mod left;
@@ -22,6 +24,8 @@ use term_commands::{
     Demos, check_texts, convert_back_text, convert_text, press_texts, show_text, talk_texts,
 };
 use term_drafts::draft_text;
+use term_findings::{Report, report_texts};
+use term_pictures::{Drawing, picture_text};
 
 fn demos_of(printed: bool) -> Demos
     ensures { result ≡ demos_of printed }
@@ -52,6 +56,62 @@ pub extern "C" fn takvorn_show(
     i32::from(leave(alloc, show_text(alloc, records), out, needed))
 }
 
+/// `show` as a drawing in SVG.
+#[unsafe(no_mangle)]
+pub extern "C" fn takvorn_show_svg(
+    alloc: Global,
+    records: &[u8],
+    out: &mut [u8],
+    needed: &mut usize,
+) -> i32
+    ensures { Leaves (printed_picture Drawing.Svg records.now) out.old out.new needed.new result }
+{
+    let answer = picture_text(alloc, Drawing::Svg, records);
+    i32::from(leave(alloc, answer, out, needed))
+}
+
+/// `show` as a page.
+#[unsafe(no_mangle)]
+pub extern "C" fn takvorn_show_html(
+    alloc: Global,
+    records: &[u8],
+    out: &mut [u8],
+    needed: &mut usize,
+) -> i32
+    ensures { Leaves (printed_picture Drawing.Html records.now) out.old out.new needed.new result }
+{
+    let answer = picture_text(alloc, Drawing::Html, records);
+    i32::from(leave(alloc, answer, out, needed))
+}
+
+/// `show` with the looks of its cells, for a terminal.
+#[unsafe(no_mangle)]
+pub extern "C" fn takvorn_show_colored(
+    alloc: Global,
+    records: &[u8],
+    out: &mut [u8],
+    needed: &mut usize,
+) -> i32
+    ensures { Leaves (printed_picture Drawing.Colored records.now) out.old out.new needed.new result }
+{
+    let answer = picture_text(alloc, Drawing::Colored, records);
+    i32::from(leave(alloc, answer, out, needed))
+}
+
+/// `show` as a line of JSON.
+#[unsafe(no_mangle)]
+pub extern "C" fn takvorn_show_json(
+    alloc: Global,
+    records: &[u8],
+    out: &mut [u8],
+    needed: &mut usize,
+) -> i32
+    ensures { Leaves (printed_picture Drawing.Json records.now) out.old out.new needed.new result }
+{
+    let answer = picture_text(alloc, Drawing::Json, records);
+    i32::from(leave(alloc, answer, out, needed))
+}
+
 /// `check`: `yes`, or what stands against records and a layout, with demos where they are asked for.
 #[unsafe(no_mangle)]
 pub extern "C" fn takvorn_check(
@@ -66,6 +126,22 @@ pub extern "C" fn takvorn_check(
         needed.new result }
 {
     let answer = check_texts(alloc, layout, records, demos_of(demos));
+    i32::from(leave(alloc, answer, out, needed))
+}
+
+/// `check` as lines of JSON, with what the keys of findings send.
+#[unsafe(no_mangle)]
+pub extern "C" fn takvorn_check_json(
+    alloc: Global,
+    layout: &[u8],
+    records: &[u8],
+    out: &mut [u8],
+    needed: &mut usize,
+) -> i32
+    ensures { Leaves (printed_report Report.Json layout.now records.now) out.old out.new needed.new
+        result }
+{
+    let answer = report_texts(alloc, Report::Json, layout, records);
     i32::from(leave(alloc, answer, out, needed))
 }
 
