@@ -64,7 +64,8 @@ pub extern "C" fn takvorn_show_svg(
     out: &mut [u8],
     needed: &mut usize,
 ) -> i32
-    ensures { Leaves (printed_picture Drawing.Svg records.now) out.old out.new needed.new result }
+    ensures { Leaves (printed_picture Drawing.Svg records.now) out.old out.new needed.new
+        result }
 {
     let answer = picture_text(alloc, Drawing::Svg, records);
     i32::from(leave(alloc, answer, out, needed))
@@ -78,7 +79,8 @@ pub extern "C" fn takvorn_show_html(
     out: &mut [u8],
     needed: &mut usize,
 ) -> i32
-    ensures { Leaves (printed_picture Drawing.Html records.now) out.old out.new needed.new result }
+    ensures { Leaves (printed_picture Drawing.Html records.now) out.old out.new needed.new
+        result }
 {
     let answer = picture_text(alloc, Drawing::Html, records);
     i32::from(leave(alloc, answer, out, needed))
@@ -92,7 +94,8 @@ pub extern "C" fn takvorn_show_colored(
     out: &mut [u8],
     needed: &mut usize,
 ) -> i32
-    ensures { Leaves (printed_picture Drawing.Colored records.now) out.old out.new needed.new result }
+    ensures { Leaves (printed_picture Drawing.Colored records.now) out.old out.new needed.new
+        result }
 {
     let answer = picture_text(alloc, Drawing::Colored, records);
     i32::from(leave(alloc, answer, out, needed))
@@ -106,7 +109,8 @@ pub extern "C" fn takvorn_show_json(
     out: &mut [u8],
     needed: &mut usize,
 ) -> i32
-    ensures { Leaves (printed_picture Drawing.Json records.now) out.old out.new needed.new result }
+    ensures { Leaves (printed_picture Drawing.Json records.now) out.old out.new needed.new
+        result }
 {
     let answer = picture_text(alloc, Drawing::Json, records);
     i32::from(leave(alloc, answer, out, needed))
