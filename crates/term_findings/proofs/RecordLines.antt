@@ -1,5 +1,5 @@
 -- The lines of records, one after the other.
-use Rattle.std.proofs.Common.{◌≡◌, ◌≢◌, ℕ, zero, suc, ◌+◌, ◌-◌, ◌<◌, Bool, true, false, not, List, [], ◌∷◌, Option, Some, None, refl, ap, sym, ◌∙◌, arith}
+use Rattle.std.proofs.Common.{◌≡◌, ◌≢◌, ℕ, zero, suc, ◌+◌, ◌-◌, true, false, List, ◌∷◌, Some, refl, arith}
 use Rattle.std.specs.Prelude.{slice_get}
 use Rattle.term_commands.specs.Says.{is_silent}
 use Rattle.term_findings.specs.RecordLine.{telling_from}

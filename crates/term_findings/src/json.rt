@@ -1,15 +1,15 @@
 //! The report as lines of JSON.
 
-ghost use Rattle.std.specs.Prelude.{◌≡◌, ◌++◌, false, length, map, option_map, IfOk, OnOk, Some};
+ghost use Rattle.std.specs.Prelude.{◌≡◌, ◌++◌, false, option_map, IfOk, OnOk, Some};
 ghost use Rattle.std.specs.List.{flat_map};
 ghost use Rattle.std.specs.String.{string_bytes};
 ghost use Rattle.serde_json.specs.View.{view};
-ghost use Rattle.serde_json.specs.Written.{has_float};
-ghost use Rattle.scr_check.specs.Seen.{findings_in};
-ghost use Rattle.scr_check.specs.Findings.{answer_of};
+ghost use Rattle.serde_json.specs.Read.{read};
+ghost use Rattle.serde_json.specs.Written.{compact_text, has_float};
 ghost use Rattle.term_commands.specs.Held.{answer_seen, records_held};
 ghost use Rattle.term_commands.specs.Printed.{printed};
 ghost use Rattle.term_commands.specs.declared.status.Status.TheVariants.{BadInput};
+ghost use Rattle.term_findings.specs.Members.{finding_data};
 ghost use Rattle.term_findings.specs.Report.{data_line, finding_line, verdict_data, verdict_word, refusal_data, status_of, report_findings};
 
 use crate::members::finding_value;
@@ -32,8 +32,30 @@ fn push_line(alloc: Global, out: &mut String, value: &Value) -> Result<(), Alloc
     out.push_str("\n")
 }
 
+/// A finding of records, in their text, as JSON: the keys that it has. Keys of its demo are pressed on the terminal that
+/// the records leave. A parser reads the same value again.
+///
+/// # Errors
+///
+/// Where a request for memory was refused.
+#[tactic(auto, using(crate::proofs::Plain::finding_plain, crate::proofs::Plain::finding_nests))]
+pub fn finding_json(
+    alloc: Global,
+    layout: &Layout,
+    input: &[u8],
+    terminal: Option<&Terminal<PlaneCells>>,
+    finding: &Finding,
+) -> Result<String, AllocError>
+    ensures text { IfOk result (λ text. string_bytes text
+        ≡ compact_text (finding_data layout.now input.now (option_map (λ t. t.now) terminal.entry) finding.now)) }
+    ensures again { IfOk result (λ text. read (string_bytes text)
+        ≡ Some (finding_data layout.now input.now (option_map (λ t. t.now) terminal.entry) finding.now)) }
+{
+    let value = finding_value(alloc, layout, input, terminal, finding)?;
+    value.to_string(alloc)
+}
+
 /// The line of a finding.
-#[tactic(auto, using(crate::proofs::Plain::finding_plain))]
 fn push_finding(
     alloc: Global,
     out: &mut String,
@@ -45,8 +67,9 @@ fn push_finding(
     ensures { OnOk result (string_bytes out.new ≡ string_bytes out.old
         ++ finding_line layout.now input.now (option_map (λ t. t.now) terminal.entry) finding.now) }
 {
-    let value = finding_value(alloc, layout, input, terminal, finding)?;
-    push_line(alloc, out, &value)
+    let text = finding_json(alloc, layout, input, terminal, finding)?;
+    out.push_str(text.as_str())?;
+    out.push_str("\n")
 }
 
 /// The lines of findings, in their order.

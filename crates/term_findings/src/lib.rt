@@ -10,6 +10,7 @@ mod report;
 #[cfg(test)]
 mod tests;
 
+pub use json::finding_json;
 pub use names::name_of;
 pub use record_line::line_of_record;
 pub use report::{Report, report_texts, run_report};

@@ -3,12 +3,10 @@
 ghost use Rattle.std.specs.Prelude.{◌≡◌, ◌≤◌, option_map, option_and_then, IfOk, OnOk, Some};
 ghost use Rattle.std.specs.String.{string_bytes};
 ghost use Rattle.hex.specs.Hex.{encode_upper};
-ghost use Rattle.serde_json.specs.Data.{number, unsigned};
 ghost use Rattle.serde_json.specs.View.{view, members_view};
-ghost use Rattle.scr_check.specs.FindingText.{demo_of};
 ghost use Rattle.term_findings.specs.Facts.{sent_from};
 ghost use Rattle.term_findings.specs.RecordLine.{record_line};
-ghost use Rattle.term_findings.specs.Members.{with_some, with_count, with_text, with_words, with_record, with_place, with_entry, with_sizes, with_keys, keys_data, finding_data};
+ghost use Rattle.term_findings.specs.Members.{with_count, with_text, with_words, with_record, with_place, with_entry, with_sizes, with_keys, keys_data, finding_data};
 
 use crate::facts::{
     byte_of, column_at, entry_of, length_of, place_of, record_of, row_at, size_text, sizes_of,

@@ -1,7 +1,6 @@
 //! Reports of small screens, worked out by hand.
 
-use crate::members::finding_value;
-use crate::{Report, line_of_record, name_of, report_texts, run_report};
+use crate::{Report, finding_json, line_of_record, name_of, report_texts, run_report};
 use scr_check::{Demo, Finding, Overlong};
 use scr_layout::Layout;
 use serde_json::Value;
@@ -213,9 +212,11 @@ fn each_finding_has_its_name_and_its_number(rt: HostRuntime) -> Result<(), Fail>
     let mut number = 1;
     for (finding, name) in named {
         assert_eq!(&rt; name_of(&finding), name);
-        let value = finding_value(rt.alloc(), &layout, b"", None, &finding)?;
+        let text = finding_json(rt.alloc(), &layout, b"", None, &finding)?;
+        let value = Value::from_str(rt.alloc(), text.as_str())?;
         let told = value.get("number").and_then(Value::as_u64);
         assert_eq!(&rt; told, Some(number), "{name}");
+        assert_eq!(&rt; value.to_string(rt.alloc())?.as_str(), text.as_str());
         number += 1;
     }
     Ok(())
@@ -223,7 +224,7 @@ fn each_finding_has_its_name_and_its_number(rt: HostRuntime) -> Result<(), Fail>
 
 #[test]
 fn a_write_at_the_cursor_is_told_by_its_record(rt: HostRuntime) -> Result<(), Fail> {
-    let value = finding_value(
+    let text = finding_json(
         rt.alloc(),
         &code_layout(rt.alloc()),
         b"F5C2\n#\nF1C2C1\n",
@@ -231,7 +232,7 @@ fn a_write_at_the_cursor_is_told_by_its_record(rt: HostRuntime) -> Result<(), Fa
         &Finding::CursorDependent(1),
     )?;
     assert_eq!(&rt;
-        value.to_string(rt.alloc())?.as_str(),
+        text.as_str(),
         "{\"line\":3,\"name\":\"cursor-dependent\",\"number\":14,\"record\":1,\"words\":\"F14 record 1 depends on the cursor\"}"
     );
     Ok(())
