@@ -6,3 +6,4 @@ pub mod ToldAgain
 pub mod Spelled
 pub mod Inside
 pub mod Said
+pub mod Frequent

@@ -19,7 +19,7 @@ pub struct Draft {
 fn lent(alloc: Global, orders: &[OwnedOrder]) -> Result<Vec<Order<'_>>, AllocError>
     ensures { IfOk result (λ lent. items_of lent.items ≡ map item_held orders.now) }
 {
-    let mut lent = Vec::new(alloc);
+    let mut lent = Vec::with_capacity(alloc, orders.len())?;
     for order in orders {
         match lent.push(order.lend()) {
             Ok(()) => {}

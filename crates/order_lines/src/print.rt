@@ -2,6 +2,7 @@
 
 ghost use Rattle.std.specs.Prelude.{◌≡◌, ◌++◌, ◌≤◌, ◌<◌, ◌*◌, true, length, OnOk, codes};
 ghost use Rattle.std.specs.String.{string_bytes};
+ghost use Rattle.std.specs.Str.{IsAscii};
 ghost use Rattle.std.specs.List.{flat_map};
 ghost use Rattle.std.specs.Fmt.{decimal, digit_glyph};
 ghost use Rattle.hex.specs.Hex.{encode_upper};
@@ -11,27 +12,30 @@ ghost use Rattle.order_lines.specs.Print.{hex_byte, pair_word, pair_words, chara
 use ds_codec::{Char, Command, Order, Placed, Record};
 use std::alloc::AllocError;
 
-/// The digits, in upper case.
-const DIGITS: &[u8; 16] = b"0123456789ABCDEF";
-
 /// So many bytes are spelled at once.
 const PART: usize = 64;
 
-/// The digit of a value.
-fn digit(value: u8) -> char
+/// The digit of a value, in upper case. It is worked out, so that many digits can be worked out together.
+fn digit(value: u8) -> u8
     requires { value < 16 }
-    ensures glyph { result ≡ digit_glyph true value }
-    ensures ascii { result < 128 }
+    ensures { result ≡ digit_glyph true value }
 {
-    char::from(DIGITS[usize::from(value)])
+    if value < 10 { value + b'0' } else { value + 55 }
+}
+
+fn push_digits(out: &mut String, digits: &[u8]) -> Result<(), AllocError>
+    requires { IsAscii digits.now }
+    ensures { OnOk result (string_bytes out.new ≡ string_bytes out.old ++ digits.now) }
+{
+    // SAFETY: digits are ASCII.
+    out.push_str(unsafe { str::from_utf8_unchecked(digits) })
 }
 
 /// A byte as two upper-case hexadecimal digits.
 pub fn push_hex(out: &mut String, byte: u8) -> Result<(), AllocError>
     ensures { OnOk result (string_bytes out.new ≡ string_bytes out.old ++ hex_byte byte) }
 {
-    out.push(digit(byte / 16))?;
-    out.push(digit(byte % 16))
+    push_digits(out, &[digit(byte / 16), digit(byte % 16)])
 }
 
 /// Stores the digits of bytes, two for each.
@@ -41,8 +45,8 @@ fn store_digits(digits: &mut [u8], bytes: &[u8])
 {
     'bytes: for i in 0..bytes.len() {
         let byte = bytes[i];
-        digits[2 * i] = DIGITS[usize::from(byte / 16)];
-        digits[2 * i + 1] = DIGITS[usize::from(byte % 16)];
+        digits[2 * i] = digit(byte / 16);
+        digits[2 * i + 1] = digit(byte % 16);
     }
 }
 
@@ -53,8 +57,7 @@ fn push_part(out: &mut String, bytes: &[u8]) -> Result<(), AllocError>
     let mut room = [0; 2 * PART];
     let digits = &mut room[..2 * bytes.len()];
     store_digits(digits, bytes);
-    // SAFETY: digits are ASCII.
-    out.push_str(unsafe { str::from_utf8_unchecked(digits) })
+    push_digits(out, digits)
 }
 
 /// Bytes in upper-case hexadecimal.

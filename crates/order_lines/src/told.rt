@@ -5,7 +5,7 @@ ghost use Rattle.std.specs.Option.{option_map};
 ghost use Rattle.hex.specs.Hex.{decode_of};
 ghost use Rattle.ds_codec.specs.Order.{start_field_extended, modify_field, graphic_escape};
 ghost use Rattle.order_lines.specs.Words.{byte_told, pair_told, pairs_told};
-ghost use Rattle.order_lines.specs.Told.{write_told, alone_told, command_told, attribute_from, character_from, set_from, character_told, repeat_told, text_from, address_told, short_told, order_told, told_of, item_held, told_held};
+ghost use Rattle.order_lines.specs.Told.{write_told, alone_told, command_told, attribute_from, character_from, set_from, character_told, repeat_told, text_from, address_told, short_told, order_told, order as as_order, told_of, item_held, told_held};
 
 use crate::owned_order::OwnedOrder;
 use crate::words::{byte, cut, number, pair, pairs};
@@ -202,9 +202,18 @@ fn order_line(alloc: Global, line: &[u8]) -> Result<Option<OwnedOrder>, AllocErr
     Ok(short_line(line))
 }
 
-/// The command or the order that a line says, `None` where it says neither: where a word is missing,
-/// superfluous or of another form, or where words are parted by anything but one space.
-pub fn read_line(alloc: Global, line: &[u8]) -> Result<Option<Told>, AllocError>
+/// What a line says that begins with the name of an order.
+fn order_said(order: Option<OwnedOrder>) -> Option<Told>
+    ensures { option_map told_held result ≡ option_map as_order (option_map item_held order) }
+{
+    match order {
+        Some(order) => Some(Told::Order(order)),
+        None => None,
+    }
+}
+
+/// A command or an order whose name isn't looked for at first.
+fn other_line(alloc: Global, line: &[u8]) -> Result<Option<Told>, AllocError>
     ensures { IfOk result (λ told. option_map told_held told ≡ told_of line.now) }
 {
     if let Some(command) = command_line(line) {
@@ -214,4 +223,19 @@ pub fn read_line(alloc: Global, line: &[u8]) -> Result<Option<Told>, AllocError>
         Some(order) => Ok(Some(Told::Order(order))),
         None => Ok(None),
     }
+}
+
+/// The command or the order that a line says, `None` where it says neither: where a word is missing,
+/// superfluous or of another form, or where words are parted by anything but one space. Texts and
+/// attributes, the most frequent, are looked for first.
+pub fn read_line(alloc: Global, line: &[u8]) -> Result<Option<Told>, AllocError>
+    ensures { IfOk result (λ told. option_map told_held told ≡ told_of line.now) }
+{
+    if let Some(rest) = line.strip_prefix(b"TEXT ".as_slice()) {
+        return Ok(order_said(text_line(alloc, rest)?));
+    }
+    if let Some(rest) = line.strip_prefix(b"SF ".as_slice()) {
+        return Ok(order_said(attribute_line(rest)));
+    }
+    other_line(alloc, line)
 }

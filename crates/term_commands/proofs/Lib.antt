@@ -2,7 +2,7 @@ pub mod Rows
 pub mod Prefixes
 pub mod Taking
 pub mod Joined
-pub mod Written
+pub mod Backward
 pub mod Answered
 pub mod Checked
 pub mod PlainLines

@@ -1,8 +1,10 @@
 -- Inputs and answers as the program holds them.
-use Rattle.std.specs.Prelude.{◌≡◌, ℕ, List, map, Result, Ok, Err}
+use Rattle.std.specs.Prelude.{◌≡◌, ℕ, List, map, Option, Some, None, Result, Ok, Err}
 use Rattle.std.specs.Option.{option_map}
 use Rattle.std.specs.Global.{Vec}
 use Rattle.std.specs.String.{string_bytes}
+use Rattle.ds_codec.specs.declared.size.Size.{Size}
+use Rattle.ds_codec.specs.Geometry.{Sizes}
 use Rattle.ds_keys.specs.declared.key.Key.{Key}
 use Rattle.ds_screen.specs.Picture.{Picture}
 use Rattle.ds_terminal.specs.Runs.{RefusedRecord, all_shown}
@@ -18,8 +20,11 @@ use Rattle.term_commands.specs.declared.input.keys.KeyLine.TheVariants as key_li
 use Rattle.term_commands.specs.declared.input.keys.Keys as held_keys
 use Rattle.term_commands.specs.declared.input.drafts.OrderLine as held_order_line
 use Rattle.term_commands.specs.declared.input.drafts.OrderLine.TheVariants as order_line
-use Rattle.term_commands.specs.declared.input.drafts.Drafts as held_drafts
+use Rattle.term_commands.specs.declared.commands.backward.Backward as held_backward
+use Rattle.term_commands.specs.declared.commands.backward.SizeInUse.{SizeInUse}
+use Rattle.term_commands.specs.declared.commands.backward.SizeInUse.TheVariants.{Default, Alternate}
 use Rattle.term_commands.specs.declared.output.answer.Answer.{Answer}
+use Rattle.term_commands.specs.Backward as backward
 use Rattle.term_commands.specs.Drafts as drafts
 use Rattle.term_commands.specs.Keys as keys
 use Rattle.term_commands.specs.Printed.{Printed}
@@ -54,9 +59,25 @@ order_line_seen (order_line.Sizes geometry) = drafts.sizes geometry
 order_line_seen (order_line.Words told) = drafts.words (told_held told)
 order_line_seen order_line.Bad = drafts.bad
 
-abbrev pub drafts_seen : held_drafts.Drafts → drafts.Drafts
-drafts_seen told =
-    record { size_line = told.size_line; geometry = told.geometry; ended = map draft_held told.ended.items; current = option_map draft_held told.current }
+abbrev pub size_in_use : Sizes → SizeInUse → Size
+size_in_use geometry Default = geometry.default
+size_in_use geometry Alternate = geometry.alternate
+
+-- a text, unless there is a flaw
+abbrev pub text_unless : Option Fault → List ℕ → Result (List ℕ) Fault
+text_unless None text = Ok text
+text_unless (Some flaw) text = Err flaw
+
+abbrev pub backward_seen : held_backward.Backward → backward.Backward
+backward_seen told =
+    record {
+      size_line = told.size_line;
+      geometry = told.geometry;
+      size = size_in_use told.geometry told.size;
+      count = told.count;
+      current = option_map draft_held told.current;
+      text = text_unless told.flaw (string_bytes told.text);
+    }
 
 -- ---- answers
 

@@ -16,6 +16,7 @@ pub mod Check
 pub mod Press
 pub mod Convert
 pub mod Back
+pub mod Backward
 pub mod Held
 pub mod Streams
 pub mod Says

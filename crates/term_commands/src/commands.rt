@@ -1,6 +1,7 @@
 //! The commands, each a function of its inputs.
 
 mod back;
+pub mod backward;
 mod check;
 mod convert;
 mod press;
