@@ -3,6 +3,7 @@ pub mod Prefixes
 pub mod Taking
 pub mod Joined
 pub mod Backward
+pub mod Forward
 pub mod Answered
 pub mod Checked
 pub mod PlainLines

@@ -15,6 +15,7 @@ pub mod DemoLines
 pub mod Check
 pub mod Press
 pub mod Convert
+pub mod Forward
 pub mod Back
 pub mod Backward
 pub mod Held
@@ -24,4 +25,5 @@ pub mod SaysDrafts
 pub mod Law
 pub mod Turns
 pub mod TurnsHeld
+pub mod ForwardHeld
 pub mod Talk

@@ -4,6 +4,7 @@ mod back;
 pub mod backward;
 mod check;
 mod convert;
+pub mod forward;
 mod press;
 mod show;
 mod talk;
