@@ -17,7 +17,7 @@ use Rattle.term_commands.specs.Printed.{printed, joined}
 use Rattle.term_commands.specs.Records as records
 use Rattle.term_commands.specs.Records.{Line, ignored, sizes, outbound, bad, record_told, digits_told, without_spaces, line_told, Records, no_records, take_record, records_in}
 use Rattle.term_commands.specs.Convert.{lines_or_refusal, lines_printed, convert}
-use Rattle.term_commands.specs.Forward.{Forward, nothing, one_more, after_line, take_line, text_of, answer_to}
+use Rattle.term_commands.specs.Forward.{Forward, nothing, one_more, after_line, take_line, answer_to}
 use Rattle.term_commands.proofs.Joined.{joined_nothing, joined_assoc}
 
 -- ---- one record more

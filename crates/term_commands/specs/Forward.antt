@@ -1,5 +1,5 @@
 -- Records whose lines are printed as they come. This is for the code's own proofs.
-use Rattle.std.specs.Prelude.{ℕ, ◌+◌, List, [], ◌∷◌, length, Result, Ok, Err}
+use Rattle.std.specs.Prelude.{ℕ, ◌+◌, List, [], length, Result, Ok, Err}
 use Rattle.ds_codec.specs.Geometry.{Sizes}
 use Rattle.ds_codec.specs.Reading.{read_of, ◌>>=◌}
 use Rattle.term_commands.specs.declared.fault.Fault.{Fault}
