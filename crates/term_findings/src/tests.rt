@@ -129,14 +129,16 @@ const REPORTS: [(&str, &str, &str, Status); 18] = [
 #[test]
 fn texts_are_reported(rt: HostRuntime) -> Result<(), Fail> {
     for (layout, records, wanted, status) in REPORTS {
-        let answer = report_texts(
+        let reported = report_texts(
             rt.alloc(),
             Report::Json,
             layout.as_bytes(),
             records.as_bytes(),
-        )
-        .unwrap();
-        assert_eq!(&rt; answer.text.as_str(), wanted, "{records}");
+        );
+        let Ok(answer) = reported else {
+            return Err(Fail::from("nothing is reported"));
+        };
+        assert_eq!(&rt; answer.text.as_bytes(), wanted.as_bytes(), "{records}");
         assert_eq!(&rt; answer.status, status, "{records}");
     }
     Ok(())
@@ -171,13 +173,16 @@ fn lines_are_read_again(rt: HostRuntime) -> Result<(), Fail> {
 }
 
 /// The layout of one entry.
-fn code_layout(alloc: Global) -> Layout {
-    Layout::from_text(alloc, CODE).unwrap()
+fn code_layout(alloc: Global) -> Result<Layout, Fail> {
+    match Layout::from_text(alloc, CODE) {
+        Ok(layout) => Ok(layout),
+        Err(_) => Err(Fail::from("the layout is refused")),
+    }
 }
 
 #[test]
 fn each_finding_has_its_name_and_its_number(rt: HostRuntime) -> Result<(), Fail> {
-    let layout = code_layout(rt.alloc());
+    let layout = code_layout(rt.alloc())?;
     let size = layout.size();
     let refused = ds_terminal::Refused::Read(ds_codec::Refused {
         at: 2,
@@ -211,12 +216,13 @@ fn each_finding_has_its_name_and_its_number(rt: HostRuntime) -> Result<(), Fail>
     ];
     let mut number = 1;
     for (finding, name) in named {
-        assert_eq!(&rt; name_of(&finding), name);
+        assert_eq!(&rt; name_of(&finding).as_bytes(), name.as_bytes());
         let text = finding_json(rt.alloc(), &layout, b"", None, &finding)?;
         let value = Value::from_str(rt.alloc(), text.as_str())?;
         let told = value.get("number").and_then(Value::as_u64);
-        assert_eq!(&rt; told, Some(number), "{name}");
-        assert_eq!(&rt; value.to_string(rt.alloc())?.as_str(), text.as_str());
+        assert_eq!(&rt; told, Some(number));
+        let again = value.to_string(rt.alloc())?;
+        assert_eq!(&rt; again.as_bytes(), text.as_bytes());
         number += 1;
     }
     Ok(())
@@ -226,7 +232,7 @@ fn each_finding_has_its_name_and_its_number(rt: HostRuntime) -> Result<(), Fail>
 fn a_write_at_the_cursor_is_told_by_its_record(rt: HostRuntime) -> Result<(), Fail> {
     let text = finding_json(
         rt.alloc(),
-        &code_layout(rt.alloc()),
+        &code_layout(rt.alloc())?,
         b"F5C2\n#\nF1C2C1\n",
         None,
         &Finding::CursorDependent(1),
