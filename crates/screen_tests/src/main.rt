@@ -1,4 +1,4 @@
-//! Runs the crates of the data stream over lines of a script, and prints each line with what they answer.
+//! Runs the screen, its keys and its answers over lines of a script, and prints each line with what they answer.
 //!
 //! The script is `stdin`, and what must come out `stdout`, whose answers were worked out by hand from the rules of
 //! docs/PROFILE.md. Data in place of test functions: neither is proved.
@@ -10,8 +10,7 @@
 #![tactic(auto)]
 
 mod both;
-mod codec;
-mod codes;
+mod characters;
 mod generated;
 mod inbound;
 mod keys;
@@ -113,26 +112,12 @@ fn push_either_answer(
     Ok(is_verb)
 }
 
-/// Adds what any other verb answers; whether it is one.
-fn push_plain_answer(
-    alloc: Global,
-    mode: Mode,
-    out: &mut String,
-    verb: &str,
-    words: &str,
-) -> Result<bool> {
-    Ok(
-        codec::push_answer(alloc, mode, out, verb, words)?
-            || codes::push_answer(alloc, out, verb, words)?
-            || ring::push_answer(out, verb, words)?
-            || words::push_answer(out, verb)?,
-    )
-}
-
 /// Adds what a row answers.
 fn push_answer(alloc: Global, setup: &Setup, out: &mut String, line: &str) -> Result<()> {
     let (verb, words) = line.split_once(' ').unwrap_or((line, ""));
-    if push_plain_answer(alloc, setup.mode, out, verb, words)?
+    if ring::push_answer(out, verb, words)?
+        || characters::push_answer(out, verb, words)?
+        || words::push_answer(out, verb)?
         || both::push_answer(alloc, setup, out, verb, words)?
         || outlines::push_answer(alloc, setup, out, verb, words)?
         || push_either_answer(alloc, setup, out, verb, words)?

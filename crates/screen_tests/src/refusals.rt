@@ -1,6 +1,5 @@
 //! Refusals in their own words, one function for each.
 
-use ds_codec::{BadSize, Unwritable};
 use std::alloc::AllocError;
 
 pub(crate) fn push_read_refused(
@@ -29,18 +28,6 @@ pub(crate) fn push_terminal_refused(
     refused: ds_terminal::Refused,
 ) -> Result<(), AllocError> {
     write!(out, "{refused}")
-}
-
-pub(crate) fn push_flaw(out: &mut String, flaw: Unwritable) -> Result<(), AllocError> {
-    write!(out, "{flaw}")
-}
-
-pub(crate) fn push_bad_size(out: &mut String, fault: BadSize) -> Result<(), AllocError> {
-    write!(out, "{fault}")
-}
-
-pub(crate) fn push_read_why(out: &mut String, why: ds_codec::Why) -> Result<(), AllocError> {
-    write!(out, "{why}")
 }
 
 pub(crate) fn push_apply_why(out: &mut String, why: ds_screen::Why) -> Result<(), AllocError> {

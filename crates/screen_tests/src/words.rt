@@ -1,11 +1,9 @@
 //! The words of every refusal, and the laws.
 
 use crate::refusals::{
-    push_answer_refused, push_answer_why, push_apply_refused, push_apply_why, push_bad_size,
-    push_flaw, push_read_refused, push_read_why, push_terminal_refused,
+    push_answer_refused, push_answer_why, push_apply_refused, push_apply_why, push_terminal_refused,
 };
 use anyhow::Result;
-use ds_codec::{BadSize, Unwritable};
 use std::alloc::AllocError;
 
 /// A comma, words and a semicolon.
@@ -13,41 +11,6 @@ fn push_last(out: &mut String, words: &str) -> Result<(), AllocError> {
     out.push_str(", ")?;
     out.push_str(words)?;
     out.push_str("; ")
-}
-
-fn push_read(out: &mut String, why: ds_codec::Why) -> Result<(), AllocError> {
-    push_read_why(out, why)?;
-    out.push_str(", ")?;
-    push_read_refused(out, ds_codec::Refused { at: 7, why })?;
-    push_last(out, why.words())
-}
-
-fn push_reading(out: &mut String) -> Result<(), AllocError> {
-    push_read(out, ds_codec::Why::Empty)?;
-    push_read(out, ds_codec::Why::UnknownCommand)?;
-    push_read(out, ds_codec::Why::StructuredField)?;
-    push_read(out, ds_codec::Why::NoWcc)?;
-    push_read(out, ds_codec::Why::UnknownOrder)?;
-    push_read(out, ds_codec::Why::Truncated)?;
-    push_read(out, ds_codec::Why::ReservedAddress)?;
-    push_read(out, ds_codec::Why::BadType)?;
-    push_read(out, ds_codec::Why::BadCharacter)?;
-    push_read(out, ds_codec::Why::Trailing)
-}
-
-fn push_unwritable(out: &mut String, flaw: Unwritable) -> Result<(), AllocError> {
-    push_flaw(out, flaw)?;
-    push_last(out, flaw.words())
-}
-
-fn push_writing(out: &mut String) -> Result<(), AllocError> {
-    push_unwritable(out, Unwritable::AddressOutside(3))?;
-    push_unwritable(out, Unwritable::BadText(3))?;
-    push_unwritable(out, Unwritable::BadPairs(3))?;
-    push_unwritable(out, Unwritable::BadCode(3))?;
-    push_unwritable(out, Unwritable::NotAllowed)?;
-    push_unwritable(out, Unwritable::OutOfMemory)?;
-    push_bad_size(out, BadSize)
 }
 
 fn push_apply(out: &mut String, why: ds_screen::Why) -> Result<(), AllocError> {
@@ -95,7 +58,6 @@ fn push_terminals(out: &mut String) -> Result<(), AllocError> {
 
 /// Each law does nothing.
 fn push_laws(out: &mut String) -> Result<(), AllocError> {
-    ds_codec::one_reading();
     ds_screen::one_effect();
     ds_screen::records_stay_sound();
     ds_screen::open_is_unprotected();
@@ -116,8 +78,6 @@ fn push_laws(out: &mut String) -> Result<(), AllocError> {
 /// Adds what a verb answers; whether it is one of these.
 pub(crate) fn push_answer(out: &mut String, verb: &str) -> Result<bool> {
     match verb {
-        "reading" => push_reading(out)?,
-        "writing" => push_writing(out)?,
         "applying" => push_applying(out)?,
         "answers" => push_answers(out)?,
         "terminals" => push_terminals(out)?,

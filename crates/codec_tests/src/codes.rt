@@ -6,7 +6,6 @@ use ds_codec::{
     Aid, Attr, Char, CommandCode, OrderCode, byte_of_digits, bytes_of_digits, is_graphic_code,
     last_attr, push_character, to_six_bit_code,
 };
-use ds_screen::text_of;
 use std::alloc::{AllocError, Global};
 use test_words::{byte, push_bool, push_bytes, push_hex, push_word_hex, two_bytes};
 
@@ -126,12 +125,6 @@ fn push_spelled(alloc: Global, out: &mut String, digits: &str) -> Result<()> {
     }
 }
 
-/// What is printed for a character.
-fn push_printed(out: &mut String, code: u8, alt: bool) -> Result<()> {
-    let character = Char::new(code, alt).context("a character")?;
-    Ok(out.push(char::from(text_of(character)))?)
-}
-
 /// What an attribute's bits say.
 fn push_meaning(out: &mut String, attribute: Attr) -> Result<(), AllocError> {
     out.push_str(if attribute.protected() {
@@ -201,8 +194,6 @@ fn push_byte_answer(alloc: Global, out: &mut String, verb: &str, words: &str) ->
         "attribute" => push_attribute(out, byte(words)?)?,
         "character" => push_kinds(out, byte(words)?)?,
         "pushed" => push_pushed(alloc, out, byte(words)?)?,
-        "printed" => push_printed(out, byte(words)?, false)?,
-        "printed-alternate" => push_printed(out, byte(words)?, true)?,
         _ => return Ok(false),
     }
     Ok(true)

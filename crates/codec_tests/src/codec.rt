@@ -3,12 +3,11 @@
 ghost use Rattle.std.specs.Prelude.{◌≡◌};
 ghost use Rattle.ds_codec.specs.Geometry.{limit_of};
 
-use crate::refusals::{push_bad_size, push_read_refused};
+use crate::refusals::{push_bad_size, push_refused};
 use crate::script::bytes_of;
-use crate::size_of;
 use anyhow::{Context, Result};
 use ds_codec::{
-    Attr, Char, Command, CommandCode, Geometry, Mode, Order, Placed, Record, Unwritable,
+    Attr, Char, Command, CommandCode, Geometry, Mode, Order, Placed, Record, Size, Unwritable,
     decode_address, encode_address, write_record,
 };
 use order_lines::{OwnedOrder, Told, read_line};
@@ -113,7 +112,7 @@ fn push_record(out: &mut String, record: &Record<'_>) -> Result<(), AllocError> 
 fn push_read(mode: Mode, out: &mut String, bytes: &[u8]) -> Result<(), AllocError> {
     match Record::read(mode, bytes) {
         Ok(record) => push_record(out, &record),
-        Err(refused) => push_read_refused(out, refused),
+        Err(refused) => push_refused(out, refused),
     }
 }
 
@@ -275,6 +274,15 @@ fn push_geometry(out: &mut String, geometry: Geometry) -> Result<(), AllocError>
     out.push_str(match geometry.mode() {
         Mode::Bits14 => " Bits14",
         Mode::Bits16 => " Bits16",
+    })
+}
+
+/// The size of a text such as `24x80`, whether a terminal can have it or not.
+fn size_of(text: &str) -> Result<Size> {
+    let (rows, cols) = text.split_once('x').context("a size")?;
+    Ok(Size {
+        rows: u16::from_str_radix(rows, 10)?,
+        cols: u16::from_str_radix(cols, 10)?,
     })
 }
 
