@@ -1,7 +1,8 @@
 -- Which attributes a record writes, each with the place of its order in the record.
-use Rattle.std.specs.Prelude.{ℕ, Bool, true, false, List, [], ◌∷◌, ◌++◌, Option, Some, None, if◌then◌else◌}
+use Rattle.std.specs.Prelude.{ℕ, max, Bool, true, false, List, [], ◌∷◌, ◌++◌, Option, Some, None, if◌then◌else◌}
 use Rattle.ds_codec.specs.declared.command.Command.{Command}
 use Rattle.ds_codec.specs.declared.command.Command.TheVariants.{Write, EraseWrite, EraseWriteAlternate}
+use Rattle.ds_codec.specs.Geometry.{Sizes, cells_of}
 use Rattle.ds_codec.specs.Order.{Item, start_field, start_field_extended, modify_field, Site}
 use Rattle.ds_screen.specs.declared.refused.Why.{Why}
 use Rattle.ds_screen.specs.declared.writes.AttributeWrite.{AttributeWrite}
@@ -40,3 +41,7 @@ attribute_writes v (Write wcc) orders = written_on wcc orders v
 attribute_writes v (EraseWrite wcc) orders = written_on wcc orders (erased v.geometry.default v)
 attribute_writes v (EraseWriteAlternate wcc) orders = written_on wcc orders (erased v.geometry.alternate v)
 attribute_writes v command orders = []
+
+-- how many positions the larger size has
+abbrev pub most_positions : Sizes → ℕ
+most_positions geometry = max (cells_of geometry.default) (cells_of geometry.alternate)

@@ -2,7 +2,7 @@
 
 ghost use Rattle.std.specs.Prelude.{◌≡◌, ◌<◌, ◌++◌, OnOk};
 ghost use Rattle.ds_codec.specs.Order.{item_of, site_of};
-ghost use Rattle.ds_screen.specs.State.{writing};
+ghost use Rattle.ds_screen.specs.State.{writing, HaveCharacters};
 ghost use Rattle.ds_screen.specs.Records.{begun};
 ghost use Rattle.ds_screen.specs.Surface.{Tells, IsOn};
 ghost use Rattle.ds_screen.specs.Writes.{stores_attribute, writes_at, order_writes};
@@ -59,6 +59,7 @@ fn add_order_writes<S: Surface>(
     requires { IsOn (S.size surface.old) start }
     ensures added { OnOk result (Tells S.shows surface.old (λ cells. writes.new.items
         ≡ writes.old.items ++ order_writes outbound.now.orders (writing cells start))) }
+    ensures characters { HaveCharacters outbound.now.orders }
     ensures room { S.room surface.new ≡ S.room surface.old }
 {
     let mut state = start;
@@ -85,6 +86,7 @@ pub(crate) fn add_writes<S: Surface>(
     requires { cursor < S.size surface.old }
     ensures added { OnOk result (Tells S.shows surface.old (λ cells. writes.new.items
         ≡ writes.old.items ++ order_writes outbound.now.orders (begun wcc cells cursor))) }
+    ensures characters { HaveCharacters outbound.now.orders }
     ensures room { S.room surface.new ≡ S.room surface.old }
 {
     if resets_modified(wcc) {

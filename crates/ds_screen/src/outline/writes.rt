@@ -7,12 +7,12 @@ use ds_codec::Record;
 use std::alloc::AllocError;
 
 impl Outline {
-    ghost use Rattle.std.specs.Prelude.{◌≡◌, ◌++◌, OnOk};
+    ghost use Rattle.std.specs.Prelude.{◌≡◌, ◌<◌, ◌++◌, OnOk, All};
     ghost use Rattle.ds_screen.specs.Picture.{Picture};
     ghost use Rattle.ds_screen.specs.Outline.{IsOutlineOf};
-    ghost use Rattle.ds_screen.specs.Writes.{attribute_writes};
+    ghost use Rattle.ds_screen.specs.Writes.{attribute_writes, most_positions};
 
-    /// Adds the attributes that `apply` would write of a record, from first to last, up to the first order that is at
+    /// Adds the attributes that `apply` writes of a record, from first to last, up to the first order that is at
     /// fault; a position may come more than once. The outline stays as it is. Takes the time of `apply`, and
     /// memory for what is added alone.
     ///
@@ -27,6 +27,9 @@ impl Outline {
         ensures added { OnOk result ((v : Picture) → IsOutlineOf self.old v
             → writes.new.items ≡ writes.old.items
             ++ attribute_writes v outbound.now.command outbound.now.orders) }
+        ensures inside { (v : Picture) → IsOutlineOf self.old v
+            → All (λ write. write.place < most_positions v.geometry)
+            (attribute_writes v outbound.now.command outbound.now.orders) }
         ensures unchanged { self.new ≡ self.old }
     {
         let now = Base {

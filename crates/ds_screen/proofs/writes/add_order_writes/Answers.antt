@@ -61,3 +61,12 @@ returns-clause-added g c =
     let before = c.orders.invariant.rest cells shown in
     sym (writes_end (writing before.0 c.orders.state) c.orders.writes.items)
     ∙ ap (λ sites. c.orders.writes.items ++ order_writes sites (writing before.0 c.orders.state)) (sym none) ∙ before.2
+
+pub returns-in-Err-clause-characters : goal.returns-in-Err-clause-characters
+returns-in-Err-clause-characters g c = orders_characters c.args.outbound.now.orders c.orders-placed-items.ensures.spelled
+
+pub returns-clause-characters : goal.returns-clause-characters
+returns-clause-characters g c = orders_characters c.args.outbound.now.orders c.orders-placed-items.ensures.spelled
+
+pub returns-in_err-add_write-in-Ok-clause-characters : goal.returns-in_err-add_write-in-Ok-clause-characters
+returns-in_err-add_write-in-Ok-clause-characters g c = orders_characters c.args.outbound.now.orders c.orders-placed-items.ensures.spelled
