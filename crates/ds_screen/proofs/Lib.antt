@@ -17,6 +17,7 @@ pub mod PrintLaws
 pub mod MarkLaws
 pub mod OutlineLaws
 pub mod WorstLaws
+pub mod WriteLaws
 pub mod OutlineFieldLaws
 pub mod PlaneLaws
 pub mod HalvingLaws

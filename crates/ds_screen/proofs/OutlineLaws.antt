@@ -22,7 +22,7 @@ use Rattle.ds_screen.proofs.ShowLaws.{clear_shows, read_refused, order_refused, 
 use Rattle.ds_screen.proofs.SoundLaws.{shown_sound, cleared_sound}
 
 -- what a write begins with is the same for the outline
-begins_same : (o : Outlined) (v : Picture) (command : Command) (r : Option Start) → IsOutlineOf o v
+pub begins_same : (o : Outlined) (v : Picture) (command : Command) (r : Option Start) → IsOutlineOf o v
     → start_of o.geometry o.size v.cells o.cursor command ≡ r → start_of v.geometry v.size v.cells v.cursor command ≡ r
 begins_same o v command r is begins =
     ap (λ g. start_of g v.size v.cells v.cursor command) (sym is.geometry) ∙ ap (λ s. start_of o.geometry s v.cells v.cursor command) (sym is.size)

@@ -51,7 +51,7 @@ based v start = record v { size = start.size; cells = start.cells; cursor = star
 abbrev Starts : Picture → Command → List Site → Start → Type 0
 Starts v command orders start = shown_of v command orders ≡ finishes start.wcc (based v start) (acts orders (begun start.wcc start.cells start.cursor))
 
-same_start : (s t : Start) → Some s ≡ Some t → s ≡ t
+pub same_start : (s t : Start) → Some s ≡ Some t → s ≡ t
 same_start s t e = cc
 
 starts : (v : Picture) (command : Command) (orders : List Site) (start : Start) → start_of v.geometry v.size v.cells v.cursor command ≡ Some start → Starts v command orders start

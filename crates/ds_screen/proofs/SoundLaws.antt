@@ -34,11 +34,11 @@ same_ok : {A E : Type 0} (x y : A) (r : Result A E) → r ≡ Ok x → r ≡ Ok 
 same_ok x y r first second = cc
 
 -- ---- what orders work on
-record IsWorkable (n : ℕ) (w : Writing) : Type 0 where
-  whole : length w.cells ≡ n
-  real : AreReal w.cells
-  cursor : w.cursor < n
-  address : w.address < n
+pub record IsWorkable (n : ℕ) (w : Writing) : Type 0 where
+  pub whole : length w.cells ≡ n
+  pub real : AreReal w.cells
+  pub cursor : w.cursor < n
+  pub address : w.address < n
 
 on_next : (n : ℕ) (w : Writing) → IsWorkable n w → ring_on (length w.cells) w.address 1 < n
 on_next n w good = let P : ℕ → Type 0 = λ m. ring_on m w.address 1 < n in subst P (sym good.whole) (on_lt n w.address 1 good.address (omega (arith, good.address)))
@@ -96,7 +96,7 @@ effect_cursor n (repeat_to_address stop character) w good = good.cursor
 effect_cursor n (erase_unprotected_to_address stop) w good = good.cursor
 effect_cursor n (graphic_escape code) w good = good.cursor
 
-effect_works : (n : ℕ) (order : Item) (w : Writing) → HasCharacters order → fault_of order w ≡ None → IsWorkable n w → IsWorkable n (effect_of order w)
+pub effect_works : (n : ℕ) (order : Item) (w : Writing) → HasCharacters order → fault_of order w ≡ None → IsWorkable n w → IsWorkable n (effect_of order w)
 effect_works n order w real fits good =
     record {
       whole = effect_length order w ∙ good.whole;
@@ -119,7 +119,7 @@ acts_work n (site ∷ sites) w end real good is =
 begun_whole : (wcc : ℕ) (cells : List Cell) (cursor : ℕ) → length (begun wcc cells cursor).cells ≡ length cells
 begun_whole wcc cells cursor = cond_both (resets wcc) _ cells (λ (made : List Cell). length made ≡ length cells) (λ does. length-ruled (length cells) _) (λ none. refl)
 
-begun_works : (wcc : ℕ) (v : Picture) → IsSound v → IsWorkable (cells_of v.size) (begun wcc v.cells v.cursor)
+pub begun_works : (wcc : ℕ) (v : Picture) → IsSound v → IsWorkable (cells_of v.size) (begun wcc v.cells v.cursor)
 begun_works wcc v sound =
     record {
       whole = begun_whole wcc v.cells v.cursor ∙ sound.whole;

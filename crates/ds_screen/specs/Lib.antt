@@ -13,6 +13,7 @@ pub mod Kept
 pub mod Outline
 pub mod Planes
 pub mod Worst
+pub mod Writes
 pub mod Prepared
 pub mod Laws
 pub mod Refused

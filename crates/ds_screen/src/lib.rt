@@ -31,6 +31,7 @@ mod stored;
 mod surface;
 mod tab;
 mod wcc;
+mod writes;
 
 pub use cells::Cells;
 pub use counted::attr_before_counted;
@@ -51,3 +52,4 @@ pub use records::Reset;
 pub use refused::{Refused, Why};
 pub use screen::Screen;
 pub use shown::text_of;
+pub use writes::AttributeWrite;

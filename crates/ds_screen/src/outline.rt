@@ -1,6 +1,7 @@
 //! The outline of a screen: what records leave of its fields, without its cells.
 
 mod worst;
+mod writes;
 
 use crate::effect::Effect;
 use crate::field::FieldAt;
