@@ -22,4 +22,5 @@ pub mod WalkLaws
 pub mod TalkLaws
 pub mod GeometryLaws
 pub mod TalkKeeps
+pub mod OriginLaws
 pub mod Rows

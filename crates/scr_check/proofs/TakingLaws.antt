@@ -19,7 +19,7 @@ one_more fault f records index d w next lt takes =
     ∙ ap (λ r. r >>= λ later. all_taken_by fault (index + 1) later (map f (drop (suc index) records))) takes)
 
 -- ---- the rule of the first turn
-first_one : (index : ℕ) (v : Picture) (r : Result Message read.Refused) → taken_by (λ i command orders. command_fault i command) index v r ≡ taken index v r
+pub first_one : (index : ℕ) (v : Picture) (r : Result Message read.Refused) → taken_by (λ i command orders. command_fault i command) index v r ≡ taken index v r
 first_one index v (Ok message) = refl
 first_one index v (Err refused) = refl
 

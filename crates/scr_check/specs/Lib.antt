@@ -13,3 +13,5 @@ pub mod BindFaultText
 pub mod Walk
 pub mod Talk
 pub mod TalkSeen
+pub mod Origins
+pub mod Noting

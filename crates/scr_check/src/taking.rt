@@ -49,7 +49,11 @@ pub fn take_by<R: TurnRule, T: RecordTarget>(
 }
 
 /// The same on an outline, whatever picture it outlines.
-fn take<R: TurnRule>(outline: &mut Outline, index: usize, bytes: &[u8]) -> Result<(), Finding>
+pub(crate) fn take<R: TurnRule>(
+    outline: &mut Outline,
+    index: usize,
+    bytes: &[u8],
+) -> Result<(), Finding>
     ensures { TakesOn R.fault_of outline.old outline.new index bytes.now result }
 {
     take_by::<R, Outline>(outline, index, bytes)
