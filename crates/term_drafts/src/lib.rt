@@ -3,7 +3,5 @@
 
 mod drafting;
 mod stop;
-#[cfg(test)]
-mod tests;
 
 pub use drafting::{draft_text, run_draft};

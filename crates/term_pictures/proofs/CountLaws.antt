@@ -1,12 +1,9 @@
 -- The texts of a drawing, counted.
-use Rattle.std.proofs.Common.{◌≡◌, ℕ, zero, suc, ◌+◌, ◌-◌, ◌*◌, ◌/◌, ◌%◌, ◌<◌, ◌≤◌, ◌^◌, Bool, true, false, List, [], ◌∷◌, ◌++◌, length, refl, sym, ap, ◌∙◌, arith, inl, inr, append_assoc}
+use Rattle.std.proofs.Common.{◌≡◌, ℕ, zero, suc, ◌+◌, ◌-◌, ◌*◌, ◌/◌, ◌%◌, ◌<◌, ◌≤◌, ◌^◌, Bool, true, false, List, [], ◌∷◌, ◌++◌, length, refl, ap, ◌∙◌, arith, inl, inr, append_assoc}
 use Rattle.std.specs.Prelude.{not, codes, Option, Some, None, unwrap_or, if◌then◌else◌}
 use Rattle.std.specs.Fmt.{decimal}
 use Rattle.std.specs.List.{flat_map, filter, range_with_len}
-use Rattle.ds_codec.specs.declared.size.Mode.{Mode}
-use Rattle.ds_codec.specs.declared.size.Size.{Size}
 use Rattle.ds_codec.specs.Geometry.{IsGood}
-use Rattle.ds_codec.specs.declared.cell.Cell.{Cell}
 use Rattle.ds_screen.specs.declared.lock.Lock.{Lock}
 use Rattle.ds_screen.specs.declared.lock.Lock.TheVariants.{Free, Waiting, Error}
 use Rattle.ds_screen.specs.Ring.{least}
@@ -16,14 +13,14 @@ use Rattle.ds_screen.proofs.RingLaws.{search_cases, least_found, least_none}
 use Rattle.term_commands.specs.Screen.{lock_word}
 use Rattle.term_pictures.specs.Laws.{texts_in, is_some, seen_places, DrawsSeen}
 use Rattle.term_pictures.specs.Seen.{seen_at, open_length}
-use Rattle.term_pictures.specs.Svg.{places, text_element, seen_text, text_at, line_element, begins_line, line_at, size_words, cursor_words, cursor_place, keyboard_words, title, title_line, root_line, style_lines, head_lines, cursor_element, svg_element}
+use Rattle.term_pictures.specs.Svg.{places, seen_text, text_at, line_element, begins_line, line_at, size_words, cursor_words, cursor_place, keyboard_words, title, title_line, root_line, style_lines, head_lines, cursor_element, svg_element}
 use Rattle.term_pictures.proofs.RowLaws.{few_cells}
-use Rattle.term_pictures.proofs.TagLaws.{are_bare, both_bare, skips, decimal_bare}
+use Rattle.term_pictures.proofs.TagLaws.{are_bare, both_bare, decimal_bare}
 use Rattle.term_pictures.proofs.ElementLaws.{skip_on, text_counts, line_skips, cursor_skips, root_skips, style_skips}
 
 -- ---- lines
 
-least_few : (most : ℕ) (test : ℕ → Bool) → unwrap_or (least most test) most ≤ most
+pub least_few : (most : ℕ) (test : ℕ → Bool) → unwrap_or (least most test) most ≤ most
 least_few most test =
     elim (search_cases most test) [
       | inl found ↦ rw (least_found most test found.0 found.1) (omega (arith, found.1.inside))
@@ -117,21 +114,26 @@ head_skips v rest low narrow inside =
 
 -- ---- the whole
 
-size_good : (v : Picture) → IsSound v → IsGood v.geometry.mode v.size
+pub size_good : (v : Picture) → IsSound v → IsGood v.geometry.mode v.size
 size_good v sound =
     elim sound.one_of_two [
       | inl same ↦ rw same sound.default_good
       | inr same ↦ rw same sound.alternate_good
     ]
 
-pub draws_seen : DrawsSeen
-unfolding svg_element
-draws_seen v sound =
+-- up to the cursor as many texts as characters are seen
+pub screen_counts : (v : Picture) (rest : List ℕ) → IsSound v
+    → texts_in (head_lines v ++ (flat_map (line_at v) (places v) ++ (flat_map (text_at v) (places v) ++ (cursor_element v.size.cols v.cursor ++ rest))))
+    ≡ length (seen_places v) + texts_in rest
+screen_counts v rest sound =
     let good = size_good v sound in
     let few : length v.cells ≤ 65025 = omega (arith, sound.whole, few_cells v.size.rows v.size.cols good.few_rows good.few_cols) in
     let inside : v.cursor < 2 ^ 32 = omega (arith, sound.cursor_inside, few_cells v.size.rows v.size.cols good.few_rows good.few_cols) in
     head_skips v _ good.few_rows good.few_cols inside
     ∙ lines_skip v (length v.cells) 0 _ (omega (arith, good.few_cols)) (omega (arith, few))
     ∙ texts_count v (length v.cells) 0 _ (omega (arith, few))
-    ∙ ap (λ n. length (seen_places v) + n) (cursor_skips v.size.cols v.cursor (codes "</svg>\n") inside)
-    ∙ omega arith
+    ∙ ap (λ n. length (seen_places v) + n) (cursor_skips v.size.cols v.cursor rest inside)
+
+pub draws_seen : DrawsSeen
+unfolding svg_element
+draws_seen v sound = screen_counts v (codes "</svg>\n") sound ∙ omega arith

@@ -1,6 +1,6 @@
 -- How many texts each element of a drawing begins.
-use Rattle.std.proofs.Common.{◌≡◌, ℕ, zero, suc, ◌+◌, ◌*◌, ◌/◌, ◌%◌, ◌<◌, ◌≤◌, ◌^◌, Bool, true, false, List, [], ◌∷◌, ◌++◌, refl, sym, ap, ◌∙◌, arith, append_assoc}
-use Rattle.std.specs.Prelude.{not, ◌==◌, codes, if◌then◌else◌}
+use Rattle.std.proofs.Common.{◌≡◌, ℕ, suc, ◌+◌, ◌*◌, ◌<◌, ◌^◌, Bool, true, false, List, [], ◌∷◌, ◌++◌, refl, ap, ◌∙◌, arith, append_assoc}
+use Rattle.std.specs.Prelude.{◌==◌, codes, if◌then◌else◌}
 use Rattle.std.specs.Fmt.{decimal}
 use Rattle.term_pictures.specs.Laws.{texts_in}
 use Rattle.term_pictures.specs.Seen.{is_intensified}
@@ -10,27 +10,27 @@ use Rattle.term_pictures.proofs.TagLaws.{are_bare, skips, decimal_bare}
 pub skip_on : (a b rest : List ℕ) → are_bare a ≡ true → texts_in ((a ++ b) ++ rest) ≡ texts_in (b ++ rest)
 skip_on a b rest bare = ap texts_in (append_assoc a b rest) ∙ skips a (b ++ rest) bare
 
-number_on : (n : ℕ) (b rest : List ℕ) → n < 2 ^ 64 → texts_in ((decimal n ++ b) ++ rest) ≡ texts_in (b ++ rest)
+pub number_on : (n : ℕ) (b rest : List ℕ) → n < 2 ^ 64 → texts_in ((decimal n ++ b) ++ rest) ≡ texts_in (b ++ rest)
 number_on n b rest lt = skip_on (decimal n) b rest (decimal_bare n lt)
 
-left_small : (cols p : ℕ) → p < 2 ^ 32 → left_of cols p < 2 ^ 60
+pub left_small : (cols p : ℕ) → p < 2 ^ 32 → left_of cols p < 2 ^ 60
 left_small cols p lt = omega arith
 
-top_small : (cols p : ℕ) → p < 2 ^ 32 → top_of cols p < 2 ^ 60
+pub top_small : (cols p : ℕ) → p < 2 ^ 32 → top_of cols p < 2 ^ 60
 top_small cols p lt = omega arith
 
 class_bare : (bright : Bool) → are_bare (if bright then codes " class=\"bright\"" else []) ≡ true
 class_bare true = refl
 class_bare false = refl
 
-either_bare : (b : Bool) (x y : List ℕ) → are_bare x ≡ true → (b ≡ false → are_bare y ≡ true) → are_bare (if b then x else y) ≡ true
+pub either_bare : (b : Bool) (x y : List ℕ) → are_bare x ≡ true → (b ≡ false → are_bare y ≡ true) → are_bare (if b then x else y) ≡ true
 either_bare true x y one other = one
 either_bare false x y one other = other refl
 
 plain_bare : (c : ℕ) → (c == 0x3C) ≡ false → are_bare (c ∷ []) ≡ true
 plain_bare c other = rw other refl
 
-escaped_bare : (c : ℕ) → are_bare (escaped c) ≡ true
+pub escaped_bare : (c : ℕ) → are_bare (escaped c) ≡ true
 unfolding escaped
 escaped_bare c =
     either_bare (c == 38) _ _ refl (λ one. either_bare (c == 60) _ _ refl (λ two. either_bare (c == 62) _ _ refl (λ three.

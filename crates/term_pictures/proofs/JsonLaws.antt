@@ -1,6 +1,6 @@
 -- Values that are pushed one after the other.
 use Rattle.std.proofs.Common.{◌≡◌, ℕ, zero, suc, ◌+◌, List, [], ◌∷◌, ◌++◌, map, append_assoc, refl, sym, ap, ◌∙◌, arith}
-use Rattle.std.specs.Prelude.{false, Result, Ok, Err, IfOk, String, string_bytes}
+use Rattle.std.specs.Prelude.{false, Result, Ok, Err, IfOk}
 use Rattle.std.specs.List.{range_with_len}
 use Rattle.std.proofs.lemmas.List.{map-append}
 use Rattle.ds_screen.specs.Picture.{Picture}

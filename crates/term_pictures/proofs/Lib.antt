@@ -5,3 +5,4 @@ mod ElementLaws
 mod CountLaws
 mod JsonLaws
 mod LookLaws
+mod NameLaws

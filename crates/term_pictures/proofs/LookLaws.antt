@@ -9,9 +9,9 @@ use Rattle.ds_codec.specs.Attribute.{is_hidden}
 use Rattle.ds_codec.specs.Character.{Glyph}
 use Rattle.ds_screen.specs.Picture.{Picture, cell_at}
 use Rattle.ds_screen.specs.Fields.{ruling_bits}
-use Rattle.ds_screen.specs.Shown.{Run, printed_runs, printed_in, printed_code, text_of, printed_under, printed_cell, printed_row}
+use Rattle.ds_screen.specs.Shown.{Run, printed_runs, printed_in, printed_code, text_of, printed_under, printed_cell}
 use Rattle.term_pictures.specs.declared.look.Look.{Look}
-use Rattle.term_pictures.specs.Colored.{look_at, is_plain, begin_look, end_look, begins_run, ends_run, before_cell, behind_cell, colored_cell, colored_column, colored_row}
+use Rattle.term_pictures.specs.Colored.{look_at, is_plain, begin_look, end_look, begins_run, ends_run, before_cell, behind_cell, colored_cell, colored_column}
 use Rattle.term_pictures.specs.Unwrapped.{unwrapped, RowsAreShown}
 
 -- ---- what is printed is no ESC

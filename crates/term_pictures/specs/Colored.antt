@@ -1,5 +1,5 @@
 -- The text of `show` with the looks of its cells, by SGR sequences (ECMA-48).
-use Rattle.std.specs.Prelude.{ℕ, ◌+◌, ◌-◌, ◌*◌, ◌%◌, Bool, true, false, not, ◌&&◌, ◌||◌, ◌==◌, List, [], ◌∷◌, ◌++◌, codes, if◌then◌else◌}
+use Rattle.std.specs.Prelude.{ℕ, ◌+◌, ◌-◌, ◌*◌, ◌%◌, Bool, not, ◌&&◌, ◌||◌, ◌==◌, List, [], ◌∷◌, ◌++◌, codes, if◌then◌else◌}
 use Rattle.std.specs.List.{flat_map, range_with_len}
 use Rattle.ds_screen.specs.Picture.{Picture, cell_at}
 use Rattle.ds_screen.specs.Fields.{ruling_bits, is_character, is_open, fields_of}

@@ -1,5 +1,5 @@
 -- A screen as one line of JSON.
-use Rattle.std.specs.Prelude.{ℕ, ◌/◌, ◌%◌, ◌==◌, List, ◌++◌, codes, map}
+use Rattle.std.specs.Prelude.{ℕ, List, ◌++◌, codes, map}
 use Rattle.std.specs.List.{range_with_len}
 use Rattle.ds_codec.specs.Attribute.{is_protected, is_hidden, is_modified}
 use Rattle.ds_screen.specs.declared.field.FieldAt.{FieldAt}

@@ -34,7 +34,7 @@ fn printed_under(ruling: Attr, cell: &Cell) -> u8
 }
 
 /// Whether a cell holds a character.
-fn is_character(cell: &Cell) -> bool
+pub(crate) fn is_character(cell: &Cell) -> bool
     ensures { result ≡ is_character cell.now }
 {
     match cell {

@@ -2,10 +2,14 @@
 
 ghost use Rattle.std.specs.Prelude.{◌≡◌, ◌++◌, OnOk, string_bytes};
 ghost use Rattle.term_pictures.specs.Html.{top_lines, body_lines, end_lines, html_page};
+ghost use Rattle.term_pictures.specs.Annotated.{annotated_page};
 
+use crate::notes::push_annotated_svg;
 use crate::svg::{push_svg, push_title_line};
 use ds_screen::{PlaneCells, Screen};
-use std::alloc::AllocError;
+use scr_check::Finding;
+use scr_layout::Entry;
+use std::alloc::{AllocError, Global};
 
 #[tactic(auto, unfolding(crate::specs::Html::top_lines))]
 fn push_top(out: &mut String) -> Result<(), AllocError>
@@ -36,5 +40,23 @@ pub(crate) fn push_page(out: &mut String, screen: &Screen<PlaneCells>) -> Result
     push_title_line(out, screen)?;
     push_body(out)?;
     push_svg(out, screen)?;
+    push_end(out)
+}
+
+/// A page with the drawing with the names of entries and with findings.
+pub(crate) fn push_annotated_page(
+    alloc: Global,
+    out: &mut String,
+    screen: &Screen<PlaneCells>,
+    entries: &[Entry],
+    findings: &[Finding],
+) -> Result<(), AllocError>
+    ensures { OnOk result (string_bytes out.new
+        ≡ string_bytes out.old ++ annotated_page entries.now findings.now screen.now) }
+{
+    push_top(out)?;
+    push_title_line(out, screen)?;
+    push_body(out)?;
+    push_annotated_svg(alloc, out, screen, entries, findings)?;
     push_end(out)
 }

@@ -17,13 +17,13 @@ const STYLE: &str =
 
 /// Where a cell stands: its left edge and its upper edge.
 #[derive(Clone, Copy, Debug, PartialEq, Eq)]
-struct Corner {
-    left: u32,
-    top: u32,
+pub(crate) struct Corner {
+    pub left: u32,
+    pub top: u32,
 }
 
 /// The corner of the cell at a position, on a screen of so many columns.
-fn corner_of(columns: u16, p: u32) -> Corner
+pub(crate) fn corner_of(columns: u16, p: u32) -> Corner
     requires some { 0 < columns }
     requires inside { p < 65025 }
     ensures left { result.left ≡ left_of columns p }
@@ -40,7 +40,7 @@ fn corner_of(columns: u16, p: u32) -> Corner
 
 /// A character as it is written in XML.
 #[tactic(auto, unfolding(crate::specs::Svg::escaped))]
-fn push_escaped(out: &mut String, character: u8) -> Result<(), AllocError>
+pub(crate) fn push_escaped(out: &mut String, character: u8) -> Result<(), AllocError>
     requires { character < 128 }
     ensures { OnOk result (string_bytes out.new ≡ string_bytes out.old ++ escaped character) }
 {
@@ -102,7 +102,7 @@ fn push_text_at(out: &mut String, screen: &Screen<PlaneCells>, p: u32) -> Result
 }
 
 /// The elements of all characters that are seen.
-fn push_texts(out: &mut String, screen: &Screen<PlaneCells>) -> Result<(), AllocError>
+pub(crate) fn push_texts(out: &mut String, screen: &Screen<PlaneCells>) -> Result<(), AllocError>
     ensures { OnOk result (string_bytes out.new ≡ string_bytes out.old
         ++ flat_map (text_at screen.now) (places screen.now)) }
 {
@@ -157,7 +157,7 @@ fn push_line_at(out: &mut String, screen: &Screen<PlaneCells>, p: u32) -> Result
 }
 
 /// A line under each part of a row that may be typed over.
-fn push_lines(out: &mut String, screen: &Screen<PlaneCells>) -> Result<(), AllocError>
+pub(crate) fn push_lines(out: &mut String, screen: &Screen<PlaneCells>) -> Result<(), AllocError>
     ensures { OnOk result (string_bytes out.new ≡ string_bytes out.old
         ++ flat_map (line_at screen.now) (places screen.now)) }
 {
@@ -239,7 +239,7 @@ fn push_style(out: &mut String) -> Result<(), AllocError>
     out.push_str(STYLE)
 }
 
-fn push_head(out: &mut String, screen: &Screen<PlaneCells>) -> Result<(), AllocError>
+pub(crate) fn push_head(out: &mut String, screen: &Screen<PlaneCells>) -> Result<(), AllocError>
     ensures { OnOk result (string_bytes out.new ≡ string_bytes out.old ++ head_lines screen.now) }
 {
     let size = screen.size();
@@ -264,7 +264,7 @@ fn push_box(out: &mut String, x: u32, y: u32) -> Result<(), AllocError>
 }
 
 /// The cursor at a position.
-fn push_cursor(out: &mut String, columns: u16, p: u32) -> Result<(), AllocError>
+pub(crate) fn push_cursor(out: &mut String, columns: u16, p: u32) -> Result<(), AllocError>
     requires some { 0 < columns }
     requires inside { p < 65025 }
     ensures { OnOk result (string_bytes out.new

@@ -1,5 +1,4 @@
-use Rattle.std.proofs.Common.{◌≡◌, ◌++◌, ◌∙◌, map, ap}
-use Rattle.ds_screen.specs.Fields.{fields_of}
+use Rattle.std.proofs.Common.{◌++◌, ◌∙◌, map, ap}
 use Rattle.serde_json.specs.View.{view}
 use Rattle.term_pictures.specs.Json.{field_data}
 use Rattle.term_pictures.proofs.JsonLaws.{one_field}

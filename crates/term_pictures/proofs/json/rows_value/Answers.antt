@@ -1,4 +1,4 @@
-use Rattle.std.proofs.Common.{◌≡◌, ◌∙◌, map, ap}
+use Rattle.std.proofs.Common.{◌∙◌, map, ap}
 use Rattle.serde_json.specs.View.{view}
 use Rattle.term_pictures.specs.Json.{row_data}
 use Rattle.term_pictures.proofs.JsonLaws.{one_row}

@@ -1,0 +1,156 @@
+//! The command `show` with a layout.
+
+ghost use Rattle.std.specs.Prelude.{◌≡◌, IfErr, IfOk, IfSome, string_bytes};
+ghost use Rattle.scr_check.specs.Findings.{answer_of};
+ghost use Rattle.term_commands.specs.Fault.{Gives};
+ghost use Rattle.term_commands.specs.Held.{answer_seen, records_held};
+ghost use Rattle.term_commands.specs.LayoutText.{layout_in};
+ghost use Rattle.term_commands.specs.Streams.{Prints};
+ghost use Rattle.term_pictures.specs.Annotated.{annotated_drawn, annotated_told, annotated_records, annotated, printed_annotated};
+
+use crate::html::push_annotated_page;
+use crate::notes::push_annotated_svg;
+use ds_screen::{PlaneCells, Screen};
+use ds_terminal::Terminal;
+use scr_check::{Finding, Verdict, check};
+use scr_layout::{Entry, Layout};
+use std::alloc::{AllocError, Global};
+use std::io::{Read, Write};
+use term_commands::{
+    Answer, CommandError, SizeLine, Status, finish, layout_in, lent, read_layout, read_text,
+    records_in, show_all,
+};
+
+/// In which form a screen is drawn with its layout.
+#[derive(Clone, Copy, Debug, PartialEq, Eq)]
+pub enum Annotated {
+    /// A drawing, SVG 1.1.
+    Svg,
+    /// A page with that drawing.
+    Html,
+}
+
+/// The text of a screen in a form.
+fn drawn(
+    alloc: Global,
+    form: Annotated,
+    screen: &Screen<PlaneCells>,
+    entries: &[Entry],
+    findings: &[Finding],
+) -> Result<String, AllocError>
+    ensures { IfOk result (λ text. string_bytes text
+        ≡ annotated_drawn form entries.now findings.now screen.now) }
+{
+    let mut out = String::new(alloc);
+    match form {
+        Annotated::Svg => push_annotated_svg(alloc, &mut out, screen, entries, findings)?,
+        Annotated::Html => push_annotated_page(alloc, &mut out, screen, entries, findings)?,
+    }
+    Ok(out)
+}
+
+/// What is found of records and a layout.
+fn findings_of(
+    alloc: Global,
+    layout: &Layout,
+    records: &[Vec<u8>],
+) -> Result<Vec<Finding>, AllocError>
+    ensures { IfOk result (λ findings. findings.items
+        ≡ answer_of layout.now (records_held records.now)) }
+{
+    let slices = lent(alloc, records)?;
+    match check(alloc, slices.as_slice(), layout)? {
+        Verdict::Yes => Ok(Vec::new(alloc)),
+        Verdict::No(findings) => Ok(findings),
+    }
+}
+
+/// What is printed of a layout and records that were told.
+fn annotated_told(
+    alloc: Global,
+    form: Annotated,
+    layout: &Layout,
+    records: &[Vec<u8>],
+) -> Result<Answer, CommandError>
+    ensures { Gives answer_seen result
+        (annotated_told form layout.now (records_held records.now)) }
+{
+    let mut terminal = Terminal::<PlaneCells>::new(alloc, layout.geometry())?;
+    show_all(&mut terminal, records)?;
+    let findings = findings_of(alloc, layout, records)?;
+    let findings = findings.as_slice();
+    Ok(Answer {
+        text: drawn(alloc, form, terminal.screen(), layout.entries(), findings)?,
+        status: Status::Done,
+    })
+}
+
+fn annotated_records(
+    alloc: Global,
+    form: Annotated,
+    layout: &Layout,
+    records: &[u8],
+) -> Result<Answer, CommandError>
+    ensures { Gives answer_seen result (annotated_records form layout.now records.now) }
+{
+    let told = records_in(alloc, records, SizeLine::Refused)?;
+    annotated_told(alloc, form, layout, told.records.as_slice())
+}
+
+/// What is printed, in a form, of the screen that a text of records leaves on the terminal of a layout, with the names of the
+/// layout's entries and with what `check` finds; or the first fault.
+///
+/// # Errors
+///
+/// The first fault of the layout, then of the lines, then the first record that is refused; out of memory.
+pub fn annotated_text(
+    alloc: Global,
+    form: Annotated,
+    layout: &[u8],
+    records: &[u8],
+) -> Result<Answer, CommandError>
+    ensures { Gives answer_seen result (annotated form layout.now records.now) }
+{
+    let layout = layout_in(alloc, layout)?;
+    annotated_records(alloc, form, &layout, records)
+}
+
+fn annotated_read<L: Read, R: Read>(
+    alloc: Global,
+    form: Annotated,
+    layout: &mut L,
+    reader: &mut R,
+) -> Result<Answer, CommandError>
+    ensures answer { IfSome (L.remaining layout.old) (λ text. IfSome (R.remaining
+        reader.old) (λ input. Gives answer_seen result (annotated form text input))) }
+    ensures unread { IfSome (L.remaining layout.old) (λ text. IfErr (layout_in text) (λ fault.
+        reader.new ≡ reader.old)) }
+{
+    let layout = read_layout(alloc, layout)?;
+    let records = read_text(alloc, reader)?;
+    annotated_records(alloc, form, &layout, records.as_slice())
+}
+
+/// Reads a layout and then records in hexadecimal, one a line, applies these to a new screen, and prints it in a form, with
+/// the name of each entry at its first cell, and a frame with its words at the place of each finding of `check`, round the
+/// screen where it has none; or the first fault: of the layout, then of the lines, or the first record that is refused.
+/// Records aren't read where the layout has a fault. The sizes are the layout's, so a line of sizes is bad. At most
+/// 16,777,216 bytes of either, 1,000 records of 32,768 bytes. After a read or a write that failed the status is `Failed`,
+/// where memory was refused `NoMemory`, and a front of the text was written.
+pub fn run_annotated<L: Read, R: Read, W: Write>(
+    alloc: Global,
+    form: Annotated,
+    layout: &mut L,
+    reader: &mut R,
+    writer: &mut W,
+) -> Status
+    ensures prints { IfSome (L.remaining layout.old) (λ text. IfSome (R.remaining
+        reader.old) (λ input.
+        Prints (W.contents writer.old) (W.contents writer.new) result
+        (printed_annotated form text input))) }
+    ensures unread { IfSome (L.remaining layout.old) (λ text. IfErr (layout_in text) (λ fault.
+        reader.new ≡ reader.old)) }
+{
+    let answer = annotated_read(alloc, form, layout, reader);
+    finish(alloc, writer, answer)
+}
