@@ -17,6 +17,7 @@ mod findings;
 mod layouts;
 mod lines;
 mod memory;
+mod origins;
 mod promise;
 mod script;
 mod shapes;
@@ -68,6 +69,7 @@ pub(crate) fn push_answer(
     if findings::push_answer(alloc, setup, out, verb, words)?
         || answers::push_answer(alloc, setup, out, verb, words)?
         || promise::push_answer(alloc, setup, out, verb, words)?
+        || origins::push_answer(alloc, setup, out, verb, words)?
         || shapes::push_answer(alloc, setup, out, verb, words)?
         || talks::push_answer(alloc, setup, out, verb, words)?
         || layouts::push_answer(alloc, setup, out, verb, words)?
