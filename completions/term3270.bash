@@ -8,7 +8,7 @@ _term3270() {
   fi
   case $command in
     show) COMPREPLY=($(compgen -W '--format --color --help' -- "$word")) ;;
-    check) COMPREPLY=($(compgen -W '--demo --format --help' -- "$word") $(compgen -f -- "$word")) ;;
+    check) COMPREPLY=($(compgen -W '--demo --records --format --help' -- "$word") $(compgen -f -- "$word")) ;;
     talk) COMPREPLY=($(compgen -W '--help' -- "$word") $(compgen -f -- "$word")) ;;
     press) COMPREPLY=($(compgen -W '--help' -- "$word") $(compgen -f -- "$word")) ;;
     convert) COMPREPLY=($(compgen -W '--back --help' -- "$word")) ;;

@@ -1,5 +1,5 @@
 -- What the parsed words of a command line ask for.
-use Rattle.std.specs.Prelude.{◌≡◌, ◌<◌, ℕ, Bool, true, false, List, Option, Some, None, codes}
+use Rattle.std.specs.Prelude.{◌≡◌, ◌<◌, ℕ, Bool, true, false, List, Option, Some, None, option_map, codes}
 use Rattle.std.specs.Borrow.{Bor}
 use Rattle.std.specs.Fmt.{decimal}
 use Rattle.clap.specs.Words.{Row, Text, first_of, one_of}
@@ -9,9 +9,10 @@ use Rattle.term_commands.specs.declared.output.demo.Demos.{Demos}
 use Rattle.term_commands.specs.declared.output.demo.Demos.TheVariants.{Printed, Omitted}
 use Rattle.term3270.specs.declared.asked.When.{When}
 use Rattle.term3270.specs.declared.asked.When.TheVariants.{Auto, Always, Never}
+use Rattle.term3270.specs.declared.asked.ReportForm.{ReportForm}
+use Rattle.term3270.specs.declared.asked.ReportForm.TheVariants.{Json, Sarif}
 use Rattle.term3270.specs.declared.asked.Asked.{Asked}
 use Rattle.term3270.specs.declared.asked.Asked.TheVariants.{Show, Draw, Check, Report, Talk, Press, Convert, ConvertBack, Draft, Bind, Records, Serve, Attach}
-use Rattle.term_findings.specs.declared.report.Report.TheVariants.{Json}
 use Rattle.term_pictures.specs.declared.drawing.Drawing.TheVariants as drawings
 use Rattle.term_traces.specs.declared.asked.Source.{Source}
 use Rattle.term_traces.specs.declared.asked.Source.TheVariants.{Trace, Stream}
@@ -52,18 +53,23 @@ IsShow rows asked = (first_of (codes "format") rows ≡ Some (codes "text") → 
     × (first_of (codes "format") rows ≡ Some (codes "html") → asked ≡ Draw drawings.Html)
     × (first_of (codes "format") rows ≡ Some (codes "json") → asked ≡ Draw drawings.Json)
 
+-- the path that was given for an option, where it was
+abbrev pub IsPath : Text → List Row → Option (Bor Text) → Type 0
+IsPath option rows given = option_map (λ path. path.now) given ≡ first_of option rows
+
 abbrev pub IsPlainCheck : List Row → Asked → Type 0
-IsPlainCheck rows (Check layout demos) = IsText (codes "LAYOUT") rows layout × AreDemos rows demos
+IsPlainCheck rows (Check layout records demos) = IsText (codes "LAYOUT") rows layout × IsPath (codes "records") rows records × AreDemos rows demos
 IsPlainCheck rows _ = ⊥
 
-abbrev pub IsReport : List Row → Asked → Type 0
-IsReport rows (Report layout report) = IsText (codes "LAYOUT") rows layout × (report ≡ Json)
-IsReport rows _ = ⊥
+abbrev pub IsReport : List Row → ReportForm → Asked → Type 0
+IsReport rows due (Report layout records form) = IsText (codes "LAYOUT") rows layout × IsPath (codes "records") rows records × (form ≡ due)
+IsReport rows due _ = ⊥
 
 -- the verdict, in the form that is named
 abbrev pub IsCheck : List Row → Asked → Type 0
 IsCheck rows asked = (first_of (codes "format") rows ≡ Some (codes "text") → IsPlainCheck rows asked)
-    × (first_of (codes "format") rows ≡ Some (codes "json") → IsReport rows asked)
+    × (first_of (codes "format") rows ≡ Some (codes "json") → IsReport rows Json asked)
+    × (first_of (codes "format") rows ≡ Some (codes "sarif") → IsReport rows Sarif asked)
 
 abbrev pub IsPress : List Row → Asked → Type 0
 IsPress rows (Press keys) = IsText (codes "KEYS") rows keys

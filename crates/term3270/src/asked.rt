@@ -2,12 +2,11 @@
 
 ghost use Rattle.std.specs.Prelude.{◌≡◌, option_map};
 ghost use Rattle.clap.specs.Words.{found_of, rows_of, subcommand_rows_of};
-ghost use Rattle.term3270.specs.Asked.{AreDemos, AsksFor, IsCheck, IsForm, IsConvert, IsNumber, IsOption, IsShow, IsSide, IsSource, IsText, IsWhen};
+ghost use Rattle.term3270.specs.Asked.{AreDemos, AsksFor, IsCheck, IsForm, IsConvert, IsNumber, IsOption, IsPath, IsShow, IsSide, IsSource, IsText, IsWhen};
 
 use clap::ArgMatches;
 use term_binds::Form;
 use term_commands::Demos;
-use term_findings::Report;
 use term_pictures::Drawing;
 use term_traces::Source;
 use tn_traces::Side;
@@ -21,6 +20,13 @@ pub(crate) enum When {
     Never,
 }
 
+/// A form of `check` that tools read.
+#[derive(Clone, Copy, Debug, PartialEq, Eq)]
+pub(crate) enum ReportForm {
+    Json,
+    Sarif,
+}
+
 /// A command, with the files, the options and the place on the net that it was given.
 #[derive(Clone, Copy, Debug, PartialEq, Eq)]
 pub(crate) enum Asked<'a> {
@@ -32,11 +38,13 @@ pub(crate) enum Asked<'a> {
     },
     Check {
         layout: &'a str,
+        records: Option<&'a str>,
         demos: Demos,
     },
     Report {
         layout: &'a str,
-        report: Report,
+        records: Option<&'a str>,
+        form: ReportForm,
     },
     Talk,
     Press {
@@ -161,13 +169,21 @@ fn check_of<'a>(words: &ArgMatches<'a>) -> Asked<'a>
     ensures { IsCheck (rows_of (found_of words.now)) result }
 {
     let layout = text_in(words, "LAYOUT");
+    let records = path_in(words, "records");
     match text_in(words, "format") {
         "json" => Asked::Report {
             layout,
-            report: Report::Json,
+            records,
+            form: ReportForm::Json,
+        },
+        "sarif" => Asked::Report {
+            layout,
+            records,
+            form: ReportForm::Sarif,
         },
         _ => Asked::Check {
             layout,
+            records,
             demos: demos_in(words),
         },
     }
@@ -230,6 +246,13 @@ fn text_in<'a>(words: &ArgMatches<'a>, word: &str) -> &'a str
         Some(text) => text,
         None => "",
     }
+}
+
+/// The path that was given for an option, where it was.
+fn path_in<'a>(words: &ArgMatches<'a>, option: &str) -> Option<&'a str>
+    ensures { IsPath option.now (rows_of (found_of words.now)) result }
+{
+    words.get_str(option)
 }
 
 /// The number that was given for a word; `clap` refuses words without it, or out of its range.

@@ -34,18 +34,20 @@ Statuses:
   0 done, 2 bad input, 3 a read or a write failed, 4 out of memory";
 
 const CHECK: &str = "Input:
-  The layout is a file in TOML (docs/LAYOUTS.md). Records are in hexadecimal, one a line, on standard input;
-  the sizes are the layout's. Spaces, empty lines and lines that begin with '#' are ignored.
+  The layout is a file in TOML (docs/LAYOUTS.md). Records are in hexadecimal, one a line, on standard input or
+  in the file that --records names; the sizes are the layout's. Spaces, empty lines and lines that begin with
+  '#' are ignored.
 
 Example:
   $ term3270 check examples/signon.toml < examples/signon.hex
   yes
 
 Forms:
-  json is an object a line for each finding, with what its keys send, and one with the verdict (docs/FINDINGS.md).
+  json is an object a line for each finding, with what its keys send, and one with the verdict; sarif is a log
+  of SARIF 2.1.0, with the lines of the files at which findings stand (docs/FINDINGS.md).
 
 Statuses:
-  0 yes, 1 findings, 2 bad input, 3 the layout can't be read, or a read or a write failed, 4 out of memory";
+  0 yes, 1 findings, 2 bad input, 3 a file can't be read, or a read or a write failed, 4 out of memory";
 
 const TALK: &str = "Input:
   Each layout is a file in TOML (docs/LAYOUTS.md), of one turn, in order, and all are for one terminal. Records
@@ -127,7 +129,7 @@ const SCREEN_FORMS: &[&str] = &["text", "svg", "html", "json"];
 
 const WHEN: &[&str] = &["auto", "always", "never"];
 
-const FINDING_FORMS: &[&str] = &["text", "json"];
+const FINDING_FORMS: &[&str] = &["text", "json", "sarif"];
 
 const SOURCES: &[&str] = &["trace", "stream"];
 
@@ -207,11 +209,16 @@ fn check<'a>(alloc: Global) -> Result<Command<'a>, AllocError> {
         .long("demo")
         .action(ArgAction::SetTrue)
         .help("Press the keys of each finding that has some, and print what is sent");
+    let records = Arg::new(alloc, "records")
+        .long("records")
+        .value_name("FILE")
+        .help("The file of the records, in place of standard input");
     Command::new(alloc, "check")
         .about("Print yes, or the findings of records and a layout")
         .after_help(CHECK)
         .arg(layout)?
         .arg(demo)?
+        .arg(records)?
         .arg(format(alloc, FINDING_FORMS, "How the findings are printed"))
 }
 

@@ -10,7 +10,7 @@ mod tcp;
 #[cfg(test)]
 mod tests;
 
-use crate::asked::{Asked, When};
+use crate::asked::{Asked, ReportForm, When};
 use crate::command_line::parsed;
 use crate::file::FileAt;
 use crate::sessions::{run_attach, run_serve};
@@ -20,15 +20,15 @@ use clap::ArgMatches;
 use clap::error::ErrorKind;
 use std::alloc::AllocError;
 use std::env::VarError;
-use std::io::{BufReader, IsTerminal};
+use std::io::{BufReader, IsTerminal, Read};
 use std::process::ExitCode;
 use std::{env, io};
 use term_binds::run_bind;
 use term_commands::{
-    Status, failure, run_check, run_convert, run_convert_back, run_press, run_show, run_talk,
+    Demos, Status, failure, run_check, run_convert, run_convert_back, run_press, run_show, run_talk,
 };
 use term_drafts::run_draft;
-use term_findings::run_report;
+use term_findings::{Paths, Report, run_report};
 use term_pictures::{Drawing, run_picture};
 use term_traces::{Asked as Wanted, run_records};
 
@@ -46,13 +46,19 @@ fn run(rt: &HostRuntime, asked: Asked<'_>, matches: &ArgMatches<'_>) -> Status {
             }
         }
         Asked::Draw { drawing } => run_picture(alloc, drawing, &mut records, &mut output),
-        Asked::Check { layout, demos } => {
-            let mut layout = file_at(rt, layout);
-            run_check(alloc, &mut layout, &mut records, &mut output, demos)
-        }
-        Asked::Report { layout, report } => {
-            let mut layout = file_at(rt, layout);
-            run_report(alloc, report, &mut layout, &mut records, &mut output)
+        Asked::Check {
+            layout,
+            records: Some(path),
+            demos,
+        } => check_over(rt, layout, &mut file_at(rt, path), demos),
+        Asked::Check { layout, demos, .. } => check_over(rt, layout, &mut records, demos),
+        Asked::Report {
+            layout,
+            records: Some(path),
+            form,
+        } => report_over(rt, layout, path, &mut file_at(rt, path), form),
+        Asked::Report { layout, form, .. } => {
+            report_over(rt, layout, "stdin", &mut records, form)
         }
         Asked::Talk => talk_of(rt, matches),
         Asked::Press { keys } => {
@@ -95,6 +101,33 @@ fn run(rt: &HostRuntime, asked: Asked<'_>, matches: &ArgMatches<'_>) -> Status {
             run_attach(rt, Place { host, port }, &mut keys, device, &mut output)
         }
     }
+}
+
+/// Runs `check` on a layout's file and these records.
+fn check_over<R: Read>(rt: &HostRuntime, layout: &str, records: &mut R, demos: Demos) -> Status {
+    let mut output = named(rt, "standard output", rt.stdout());
+    let mut layout = file_at(rt, layout);
+    run_check(rt.alloc(), &mut layout, records, &mut output, demos)
+}
+
+/// Runs `check` for tools on a layout's file and the records of this path.
+fn report_over<R: Read>(
+    rt: &HostRuntime,
+    layout: &str,
+    path: &str,
+    records: &mut R,
+    form: ReportForm,
+) -> Status {
+    let mut output = named(rt, "standard output", rt.stdout());
+    let report = match form {
+        ReportForm::Json => Report::Json,
+        ReportForm::Sarif => Report::Sarif(Paths {
+            layout,
+            records: path,
+        }),
+    };
+    let mut layout = file_at(rt, layout);
+    run_report(rt.alloc(), report, &mut layout, records, &mut output)
 }
 
 /// Whether the looks of cells are printed.

@@ -1,3 +1,7 @@
 mod Plain
 mod RecordLines
 mod Known
+mod Logged
+mod Places
+mod Limited
+mod Helped

@@ -12,9 +12,10 @@ use Rattle.scr_check.specs.declared.finding.Demo.{Demo}
 use Rattle.scr_check.specs.declared.finding.Finding.{Finding}
 use Rattle.scr_check.specs.FindingText.{demo_of, finding_number, finding_text}
 use Rattle.term_findings.specs.Facts.{record_of, byte_of, entry_of, place_of, row_at, column_at, length_of, sizes_of, size_text, sent_from}
+use Rattle.term_findings.specs.Help.{help_of}
 use Rattle.term_findings.specs.Name.{name_of}
 use Rattle.term_findings.specs.RecordLine.{record_line}
-use Rattle.term_findings.specs.Members.{with_some, with_count, with_text, with_words, with_record, with_place, with_entry, with_sizes, with_keys, keys_data, finding_data}
+use Rattle.term_findings.specs.Members.{with_some, with_count, with_text, with_words, with_record, with_place, with_entry, with_sizes, with_keys, with_help, keys_data, finding_data}
 
 neither : (a b : Bool) → (a || b) ≡ false → (a ≡ false) × (b ≡ false)
 neither false b none = (refl, none)
@@ -64,9 +65,9 @@ keys_plain k (Some demo) ms old = record { none = put_plain k (keys_data demo) m
 
 abbrev members_of : Declaration → List ℕ → Option Picture → Finding → Members
 members_of layout input opened finding =
-    with_keys opened (demo_of finding)
+    with_help layout finding (with_keys opened (demo_of finding)
     (with_sizes (sizes_of finding)
-    (with_entry layout.entries finding (with_place layout.size (place_of layout.entries finding) (with_record input finding (with_words layout.entries finding no_members)))))
+    (with_entry layout.entries finding (with_place layout.size (place_of layout.entries finding) (with_record input finding (with_words layout.entries finding no_members))))))
 
 plain_finding : (layout : Declaration) (input : List ℕ) (opened : Option Picture) (finding : Finding) → IsPlain (members_of layout input opened finding)
 plain_finding layout input opened finding =
@@ -86,7 +87,7 @@ plain_finding layout input opened finding =
     let with_layout = text_plain (codes "layout") (option_map (λ both. size_text both.1) (sizes_of finding)) _ sized in
     let keyed = keys_plain (codes "keys") (demo_of finding) _ with_layout in
     let sent = text_plain (codes "sends") (option_map encode_upper (sent_from opened (demo_of finding))) _ keyed in
-    sent
+    text_plain (codes "help") (help_of layout finding) _ sent
 
 pub finding_plain : (layout : Declaration) (input : List ℕ) (opened : Option Picture) (finding : Finding) → has_float (finding_data layout input opened finding) ≡ false
 finding_plain layout input opened finding = (plain_finding layout input opened finding).none

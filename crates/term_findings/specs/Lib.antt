@@ -1,5 +1,12 @@
+pub mod Rule
 pub mod Name
 pub mod Facts
+pub mod Help
 pub mod RecordLine
+pub mod Region
+pub mod Uri
 pub mod Members
+pub mod Lines
+pub mod Sarif
+pub mod Log
 pub mod Report

@@ -10,6 +10,7 @@ use Rattle.scr_check.specs.declared.finding.Demo.{Demo}
 use Rattle.scr_check.specs.declared.finding.Finding.{Finding}
 use Rattle.scr_check.specs.FindingText.{demo_of, finding_number, finding_text}
 use Rattle.term_findings.specs.Facts.{record_of, byte_of, entry_of, place_of, row_at, column_at, length_of, sizes_of, size_text, sent_from}
+use Rattle.term_findings.specs.Help.{help_of}
 use Rattle.term_findings.specs.Name.{name_of}
 use Rattle.term_findings.specs.RecordLine.{record_line}
 
@@ -64,11 +65,15 @@ abbrev pub with_keys : Option Picture → Option Demo → Members → Members
 with_keys opened demo members =
     with_text (codes "sends") (option_map encode_upper (sent_from opened demo)) (with_some (codes "keys") (option_map keys_data demo) members)
 
+-- what to do
+abbrev pub with_help : Declaration → Finding → Members → Members
+with_help layout finding members = with_text (codes "help") (help_of layout finding) members
+
 -- ---- the object
 
 -- a finding of records that leave this picture, in this text
 abbrev pub finding_data : Declaration → List ℕ → Option Picture → Finding → Data
 finding_data layout input opened finding =
-    object (with_keys opened (demo_of finding)
+    object (with_help layout finding (with_keys opened (demo_of finding)
     (with_sizes (sizes_of finding)
-    (with_entry layout.entries finding (with_place layout.size (place_of layout.entries finding) (with_record input finding (with_words layout.entries finding no_members))))))
+    (with_entry layout.entries finding (with_place layout.size (place_of layout.entries finding) (with_record input finding (with_words layout.entries finding no_members)))))))

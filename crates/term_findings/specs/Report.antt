@@ -2,7 +2,6 @@
 use Rattle.std.specs.Prelude.{ℕ, List, [], ◌∷◌, ◌++◌, length, codes, Option, Result, Ok, Err}
 use Rattle.std.specs.List.{flat_map}
 use Rattle.serde_json.specs.Data.{Data, number, unsigned, string, object, member, no_members}
-use Rattle.serde_json.specs.Written.{compact_text}
 use Rattle.ds_codec.specs.Reading.{◌>>=◌}
 use Rattle.ds_screen.specs.Picture.{Picture}
 use Rattle.scr_layout.specs.Layout.{Declaration}
@@ -11,8 +10,7 @@ use Rattle.scr_check.specs.Findings.{answer_of}
 use Rattle.term_commands.specs.declared.fault.Fault.{Fault}
 use Rattle.term_commands.specs.declared.input.sizes.SizeLine.TheVariants.{Refused}
 use Rattle.term_commands.specs.declared.output.demo.Demos.TheVariants.{Printed as Pressed}
-use Rattle.term_commands.specs.declared.status.Status.{Status}
-use Rattle.term_commands.specs.declared.status.Status.TheVariants.{Done, Findings, BadInput}
+use Rattle.term_commands.specs.declared.status.Status.TheVariants.{BadInput}
 use Rattle.term_commands.specs.DemoLines.{asked, shown_on}
 use Rattle.term_commands.specs.Fault.{fault_text}
 use Rattle.term_commands.specs.LayoutText.{layout_in}
@@ -21,12 +19,11 @@ use Rattle.term_commands.specs.Printed.{Printed, printed}
 use Rattle.term_commands.specs.Records.{records_in}
 use Rattle.term_findings.specs.Members.{finding_data}
 use Rattle.term_findings.specs.declared.report.Report.{Report}
+use Rattle.term_findings.specs.declared.report.Report.TheVariants.{Json, Sarif}
+use Rattle.term_findings.specs.Lines.{data_line, status_of}
+use Rattle.term_findings.specs.Log.{printed_log}
 
 -- ---- lines
-
--- a JSON value on a line of its own
-abbrev pub data_line : Data → List ℕ
-data_line value = compact_text value ++ codes "\n"
 
 -- the line of a finding, of records that leave this picture
 abbrev pub finding_line : Declaration → List ℕ → Option Picture → Finding → List ℕ
@@ -48,10 +45,6 @@ abbrev pub refusal_data : Fault → Data
 refusal_data fault = object (member (codes "verdict") (string (codes "refused")) (member (codes "words") (string (fault_text fault)) no_members))
 
 -- ---- the report
-
-abbrev pub status_of : List Finding → Status
-status_of [] = Done
-status_of (finding ∷ findings) = Findings
 
 -- a line for each finding, and one for the verdict; keys are pressed on the picture that the records leave
 abbrev pub report_findings : Declaration → List ℕ → List (List ℕ) → List Finding → Printed
@@ -76,6 +69,7 @@ abbrev pub or_refusal : Result Printed Fault → Printed
 or_refusal (Ok answer) = answer
 or_refusal (Err fault) = printed (data_line (refusal_data fault)) BadInput
 
--- what is reported for a layout's text and records, and the status; there is one form
+-- what is reported for a layout's text and records, and the status
 abbrev pub printed_report : Report → List ℕ → List ℕ → Printed
-printed_report form text input = or_refusal (report text input)
+printed_report Json text input = or_refusal (report text input)
+printed_report (Sarif paths) text input = printed_log paths text input

@@ -9,8 +9,9 @@ ghost use Rattle.serde_json.specs.Written.{compact_text, has_float};
 ghost use Rattle.term_commands.specs.Held.{answer_seen, records_held};
 ghost use Rattle.term_commands.specs.Printed.{printed};
 ghost use Rattle.term_commands.specs.declared.status.Status.TheVariants.{BadInput};
+ghost use Rattle.term_findings.specs.Lines.{data_line, status_of};
 ghost use Rattle.term_findings.specs.Members.{finding_data};
-ghost use Rattle.term_findings.specs.Report.{data_line, finding_line, verdict_data, verdict_word, refusal_data, status_of, report_findings};
+ghost use Rattle.term_findings.specs.Report.{finding_line, verdict_data, verdict_word, refusal_data, report_findings};
 
 use crate::members::finding_value;
 use ds_screen::PlaneCells;
@@ -99,7 +100,8 @@ fn verdict_word(findings: &[Finding]) -> &'static str
     }
 }
 
-fn status_of(findings: &[Finding]) -> Status
+/// Whether there are findings, as a status.
+pub(crate) fn status_of(findings: &[Finding]) -> Status
     ensures { result ≡ status_of findings.now }
 {
     match findings {

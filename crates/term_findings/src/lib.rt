@@ -2,15 +2,25 @@
 #![tactic(auto)]
 
 mod facts;
+mod help;
 mod json;
+mod log;
 mod members;
 mod names;
+mod paths;
 mod record_line;
+mod region;
 mod report;
+mod rule;
+mod sarif;
 #[cfg(test)]
 mod tests;
+mod uri;
 
+pub use help::help_text;
 pub use json::finding_json;
 pub use names::name_of;
+pub use paths::Paths;
 pub use record_line::line_of_record;
 pub use report::{Report, report_texts, run_report};
+pub use sarif::findings_log;

@@ -6,11 +6,12 @@ ghost use Rattle.hex.specs.Hex.{encode_upper};
 ghost use Rattle.serde_json.specs.View.{view, members_view};
 ghost use Rattle.term_findings.specs.Facts.{sent_from};
 ghost use Rattle.term_findings.specs.RecordLine.{record_line};
-ghost use Rattle.term_findings.specs.Members.{with_count, with_text, with_words, with_record, with_place, with_entry, with_sizes, with_keys, keys_data, finding_data};
+ghost use Rattle.term_findings.specs.Members.{with_count, with_text, with_words, with_record, with_place, with_entry, with_sizes, with_keys, with_help, keys_data, finding_data};
 
 use crate::facts::{
     byte_of, column_at, entry_of, length_of, place_of, record_of, row_at, size_text, sizes_of,
 };
+use crate::help::help_text;
 use crate::names::name_of;
 use crate::record_line::line_of_record;
 use ds_codec::Size;
@@ -197,8 +198,25 @@ fn put_keys(
     }
 }
 
+/// What to do, where it is known.
+fn put_help(
+    alloc: Global,
+    members: &mut Members,
+    layout: &Layout,
+    finding: &Finding,
+) -> Result<(), AllocError>
+    ensures { OnOk result (members_view members.new.entries
+        ≡ with_help layout.now finding.now (members_view members.old.entries)) }
+{
+    match help_text(alloc, layout, finding)? {
+        Some(help) => put_text(alloc, members, "help", help),
+        None => Ok(()),
+    }
+}
+
 /// A finding as a JSON object: its number, its name and its words, and each of the others that it has: `record` and
-/// `line`, `byte`, `place`, `row` and `column`, `length`, `declared` and `entry`, `size` and `layout`, `keys` and `sends`.
+/// `line`, `byte`, `place`, `row` and `column`, `length`, `declared` and `entry`, `size` and `layout`, `keys` and `sends`,
+/// and `help`.
 pub(crate) fn finding_value(
     alloc: Global,
     layout: &Layout,
@@ -222,5 +240,6 @@ pub(crate) fn finding_value(
     put_entry(alloc, &mut members, entries, finding)?;
     put_sizes(alloc, &mut members, sizes_of(finding))?;
     put_keys(alloc, &mut members, terminal, finding.demo())?;
+    put_help(alloc, &mut members, layout, finding)?;
     Ok(Value::Object(members))
 }

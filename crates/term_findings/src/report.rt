@@ -11,6 +11,8 @@ ghost use Rattle.scr_check.specs.Findings.{answer_of};
 ghost use Rattle.term_findings.specs.Report.{report_findings, report_within, report_records, report, or_refusal, printed_report};
 
 use crate::json::{findings_answer, refusal_answer};
+use crate::log::{log_read, log_texts};
+use crate::paths::Paths;
 use scr_check::{Verdict, check};
 use scr_layout::Layout;
 use std::alloc::{AllocError, Global};
@@ -22,9 +24,11 @@ use term_commands::{
 
 /// The form of a report.
 #[derive(Clone, Copy, Debug, PartialEq, Eq)]
-pub enum Report {
+pub enum Report<'a> {
     /// A JSON object on each line.
     Json,
+    /// A log of SARIF 2.1.0 on one line, with the files of these paths.
+    Sarif(Paths<'a>),
 }
 
 /// What is reported of a layout and records that were told.
@@ -89,15 +93,15 @@ fn or_refusal(alloc: Global, answer: Result<Answer, CommandError>) -> Result<Ans
 /// Where a request for memory was refused.
 pub fn report_texts(
     alloc: Global,
-    report: Report,
+    report: Report<'_>,
     layout: &[u8],
     records: &[u8],
 ) -> Result<Answer, CommandError>
-    ensures { Gives answer_seen result (Ok (printed_report report layout.now records.now)) }
+    ensures { Gives answer_seen result (Ok (printed_report report.entry layout.now records.now)) }
 {
-    let answer = report_both(alloc, layout, records);
     match report {
-        Report::Json => or_refusal(alloc, answer),
+        Report::Json => or_refusal(alloc, report_both(alloc, layout, records)),
+        Report::Sarif(paths) => log_texts(alloc, paths, layout, records),
     }
 }
 
@@ -116,21 +120,35 @@ fn report_read<L: Read, R: Read>(
     report_records(alloc, &layout, records.as_slice())
 }
 
-/// What is reported of a layout and records that are read.
-fn report_streams<L: Read, R: Read>(
+fn report_lines<L: Read, R: Read>(
     alloc: Global,
-    report: Report,
     layout: &mut L,
     reader: &mut R,
 ) -> Result<Answer, CommandError>
     ensures answer { IfSome (L.remaining layout.old) (λ text. IfSome (R.remaining
-        reader.old) (λ input. Gives answer_seen result (Ok (printed_report report text input)))) }
+        reader.old) (λ input. Gives answer_seen result (Ok (or_refusal (report text input))))) }
     ensures unread { IfSome (L.remaining layout.old) (λ text. IfErr (layout_in text) (λ fault.
         reader.new ≡ reader.old)) }
 {
     let answer = report_read(alloc, layout, reader);
+    or_refusal(alloc, answer)
+}
+
+/// What is reported of a layout and records that are read.
+fn report_streams<L: Read, R: Read>(
+    alloc: Global,
+    report: Report<'_>,
+    layout: &mut L,
+    reader: &mut R,
+) -> Result<Answer, CommandError>
+    ensures answer { IfSome (L.remaining layout.old) (λ text. IfSome (R.remaining
+        reader.old) (λ input. Gives answer_seen result (Ok (printed_report report.entry text input)))) }
+    ensures unread { IfSome (L.remaining layout.old) (λ text. IfErr (layout_in text) (λ fault.
+        reader.new ≡ reader.old)) }
+{
     match report {
-        Report::Json => or_refusal(alloc, answer),
+        Report::Json => report_lines(alloc, layout, reader),
+        Report::Sarif(paths) => log_read(alloc, paths, layout, reader),
     }
 }
 
@@ -140,14 +158,14 @@ fn report_streams<L: Read, R: Read>(
 /// write that failed the status is `Failed`, where memory was refused `NoMemory`, and a front of the text was written.
 pub fn run_report<L: Read, R: Read, W: Write>(
     alloc: Global,
-    report: Report,
+    report: Report<'_>,
     layout: &mut L,
     reader: &mut R,
     writer: &mut W,
 ) -> Status
     ensures prints { IfSome (L.remaining layout.old) (λ text. IfSome (R.remaining
         reader.old) (λ input.
-        Prints (W.contents writer.old) (W.contents writer.new) result (printed_report report text input))) }
+        Prints (W.contents writer.old) (W.contents writer.new) result (printed_report report.entry text input))) }
     ensures unread { IfSome (L.remaining layout.old) (λ text. IfErr (layout_in text) (λ fault.
         reader.new ≡ reader.old)) }
 {

@@ -1,6 +1,9 @@
 //! Reports of small screens, worked out by hand.
 
-use crate::{Report, finding_json, line_of_record, name_of, report_texts, run_report};
+use crate::{
+    Paths, Report, finding_json, findings_log, help_text, line_of_record, name_of, report_texts,
+    run_report,
+};
 use scr_check::{Demo, Finding, Overlong};
 use scr_layout::Layout;
 use serde_json::Value;
@@ -31,79 +34,79 @@ const REPORTS: [(&str, &str, &str, Status); 18] = [
     (
         CODE,
         "",
-        "{\"name\":\"no-record\",\"number\":2,\"words\":\"F2 no record\"}\n{\"fields\":1,\"findings\":1,\"records\":0,\"verdict\":\"no\"}\n",
+        "{\"help\":\"give the records that write the screen\",\"name\":\"no-record\",\"number\":2,\"words\":\"F2 no record\"}\n{\"fields\":1,\"findings\":1,\"records\":0,\"verdict\":\"no\"}\n",
         Status::Findings,
     ),
     (
         CODE,
         "# A comment.\nF1C2\n",
-        "{\"line\":2,\"name\":\"first-does-not-erase\",\"number\":3,\"record\":0,\"words\":\"F3 first record does not erase\"}\n{\"fields\":1,\"findings\":1,\"records\":1,\"verdict\":\"no\"}\n",
+        "{\"help\":\"begin record 0 with Erase/Write, F5, or Erase/Write Alternate, 7E\",\"line\":2,\"name\":\"first-does-not-erase\",\"number\":3,\"record\":0,\"words\":\"F3 first record does not erase\"}\n{\"fields\":1,\"findings\":1,\"records\":1,\"verdict\":\"no\"}\n",
         Status::Findings,
     ),
     (
         CODE,
         "F5C21D60C11D40131140C61DF0\n\nF6\n",
-        "{\"line\":3,\"name\":\"no-write\",\"number\":4,\"record\":1,\"words\":\"F4 record 1 is no write\"}\n{\"fields\":1,\"findings\":1,\"records\":2,\"verdict\":\"no\"}\n",
+        "{\"help\":\"leave record 1 out\",\"line\":3,\"name\":\"no-write\",\"number\":4,\"record\":1,\"words\":\"F4 record 1 is no write\"}\n{\"fields\":1,\"findings\":1,\"records\":2,\"verdict\":\"no\"}\n",
         Status::Findings,
     ),
     (
         CODE,
         "F5401D60C11D40131140C61DF0\n",
-        "{\"name\":\"keyboard-locked\",\"number\":5,\"words\":\"F5 keyboard stays locked\"}\n{\"fields\":1,\"findings\":1,\"records\":1,\"verdict\":\"no\"}\n",
+        "{\"help\":\"set bit 02, which restores the keyboard, of the last write control character\",\"name\":\"keyboard-locked\",\"number\":5,\"words\":\"F5 keyboard stays locked\"}\n{\"fields\":1,\"findings\":1,\"records\":1,\"verdict\":\"no\"}\n",
         Status::Findings,
     ),
     (
         "default = \"2x10\"\nalternate = \"3x10\"\nscreen = \"alternate\"\n",
         GOOD,
-        "{\"layout\":\"3x10\",\"name\":\"other-size\",\"number\":6,\"size\":\"2x10\",\"words\":\"F6 size 2x10, layout 3x10\"}\n{\"fields\":0,\"findings\":1,\"records\":1,\"verdict\":\"no\"}\n",
+        "{\"help\":\"erase by Erase/Write, F5, for the default size and by Erase/Write Alternate, 7E, for the alternate, or change the layout's screen\",\"layout\":\"3x10\",\"name\":\"other-size\",\"number\":6,\"size\":\"2x10\",\"words\":\"F6 size 2x10, layout 3x10\"}\n{\"fields\":0,\"findings\":1,\"records\":1,\"verdict\":\"no\"}\n",
         Status::Findings,
     ),
     (
         CODE,
         "F5C23C4040C1\n",
-        "{\"name\":\"no-field\",\"number\":7,\"words\":\"F7 no field\"}\n{\"fields\":1,\"findings\":1,\"records\":1,\"verdict\":\"no\"}\n",
+        "{\"help\":\"write attributes, each by Start Field, 1D\",\"name\":\"no-field\",\"number\":7,\"words\":\"F7 no field\"}\n{\"fields\":1,\"findings\":1,\"records\":1,\"verdict\":\"no\"}\n",
         Status::Findings,
     ),
     (
         NO_ENTRY,
         "F5C21140D11D40131140C31D60\n",
-        "{\"column\":9,\"keys\":{\"right\":0,\"type\":1},\"name\":\"undeclared-input\",\"number\":8,\"place\":18,\"row\":2,\"sends\":\"7D40D31140D2C1\",\"words\":\"F8 undeclared input at 18, keys: right 0, type 1\"}\n{\"fields\":0,\"findings\":1,\"records\":1,\"verdict\":\"no\"}\n",
+        "{\"column\":9,\"help\":\"declare it by [[field]], name = \\\"field-18\\\", row = 2, col = 9 and its length, or protect it\",\"keys\":{\"right\":0,\"type\":1},\"name\":\"undeclared-input\",\"number\":8,\"place\":18,\"row\":2,\"sends\":\"7D40D31140D2C1\",\"words\":\"F8 undeclared input at 18, keys: right 0, type 1\"}\n{\"fields\":0,\"findings\":1,\"records\":1,\"verdict\":\"no\"}\n",
         Status::Findings,
     ),
     (
         CODE,
         "F5C21D61C11D40131140C61DF0\n",
-        "{\"column\":2,\"keys\":{\"right\":0,\"type\":0},\"name\":\"undeclared-fixed\",\"number\":9,\"place\":1,\"row\":1,\"sends\":\"7D40C31140C1C1\",\"words\":\"F9 undeclared fixed at 1, keys: right 0, type 0\"}\n{\"fields\":1,\"findings\":1,\"records\":1,\"verdict\":\"no\"}\n",
+        "{\"column\":2,\"help\":\"reset bit 01, the modified data tag, of the attribute at 0, or declare it by [[field]], name = \\\"field-1\\\", row = 1, col = 2, kind = \\\"fixed\\\" and its length\",\"keys\":{\"right\":0,\"type\":0},\"name\":\"undeclared-fixed\",\"number\":9,\"place\":1,\"row\":1,\"sends\":\"7D40C31140C1C1\",\"words\":\"F9 undeclared fixed at 1, keys: right 0, type 0\"}\n{\"fields\":1,\"findings\":1,\"records\":1,\"verdict\":\"no\"}\n",
         Status::Findings,
     ),
     (
         "default = \"2x10\"\n[[field]]\nname = \"code\"\nrow = 1\ncol = 4\nlength = 3\n[[field]]\nname = \"late\"\nrow = 2\ncol = 1\nlength = 2\n",
         GOOD,
-        "{\"column\":1,\"declared\":2,\"entry\":\"late\",\"name\":\"missing\",\"number\":10,\"place\":10,\"row\":2,\"words\":\"F10 missing late\"}\n{\"fields\":2,\"findings\":1,\"records\":1,\"verdict\":\"no\"}\n",
+        "{\"column\":1,\"declared\":2,\"entry\":\"late\",\"help\":\"write an attribute at 9, by Set Buffer Address 1140C9, or correct row and col of late\",\"name\":\"missing\",\"number\":10,\"place\":10,\"row\":2,\"words\":\"F10 missing late\"}\n{\"fields\":2,\"findings\":1,\"records\":1,\"verdict\":\"no\"}\n",
         Status::Findings,
     ),
     (
         "default = \"2x10\"\n[[field]]\nname = \"code\"\nrow = 2\ncol = 9\nlength = 4\n",
         "F5C21140D11D40131140C31D60\n",
-        "{\"column\":9,\"declared\":4,\"entry\":\"code\",\"keys\":{\"right\":0,\"type\":5},\"length\":5,\"name\":\"too-long\",\"number\":11,\"place\":18,\"row\":2,\"sends\":\"7D40C41140D2C1C1C1C1C1\",\"words\":\"F11 code length 5, declared 4, keys: right 0, type 5\"}\n{\"fields\":1,\"findings\":1,\"records\":1,\"verdict\":\"no\"}\n",
+        "{\"column\":9,\"declared\":4,\"entry\":\"code\",\"help\":\"declare length = 5 for code, or end the field by an attribute after 4 cells\",\"keys\":{\"right\":0,\"type\":5},\"length\":5,\"name\":\"too-long\",\"number\":11,\"place\":18,\"row\":2,\"sends\":\"7D40C41140D2C1C1C1C1C1\",\"words\":\"F11 code length 5, declared 4, keys: right 0, type 5\"}\n{\"fields\":1,\"findings\":1,\"records\":1,\"verdict\":\"no\"}\n",
         Status::Findings,
     ),
     (
         "default = \"2x10\"\n[[field]]\nname = \"code\"\nrow = 1\ncol = 4\nlength = 3\nkind = \"fixed\"\n",
         GOOD,
-        "{\"column\":4,\"declared\":3,\"entry\":\"code\",\"name\":\"other-kind\",\"number\":12,\"place\":3,\"row\":1,\"words\":\"F12 code is of the other kind\"}\n{\"fields\":1,\"findings\":1,\"records\":1,\"verdict\":\"no\"}\n",
+        "{\"column\":4,\"declared\":3,\"entry\":\"code\",\"help\":\"declare code as kind = \\\"input\\\", or set bit 20, protected, of the attribute at 2\",\"name\":\"other-kind\",\"number\":12,\"place\":3,\"row\":1,\"words\":\"F12 code is of the other kind\"}\n{\"fields\":1,\"findings\":1,\"records\":1,\"verdict\":\"no\"}\n",
         Status::Findings,
     ),
     (
         "default = \"2x10\"\n[[field]]\nname = \"code\"\nrow = 1\ncol = 3\nlength = 4\n",
         "F5C21DC11D40131140C61DF0\n",
-        "{\"column\":2,\"name\":\"empty-modified\",\"number\":13,\"place\":1,\"row\":1,\"words\":\"F13 empty modified field at 1\"}\n{\"fields\":1,\"findings\":1,\"records\":1,\"verdict\":\"no\"}\n",
+        "{\"column\":2,\"help\":\"reset bit 01, the modified data tag, of the attribute at 0\",\"name\":\"empty-modified\",\"number\":13,\"place\":1,\"row\":1,\"words\":\"F13 empty modified field at 1\"}\n{\"fields\":1,\"findings\":1,\"records\":1,\"verdict\":\"no\"}\n",
         Status::Findings,
     ),
     (
         NO_ENTRY,
         "F5C21D61C11D40131140C61DF0\n",
-        "{\"column\":2,\"keys\":{\"right\":0,\"type\":0},\"name\":\"undeclared-fixed\",\"number\":9,\"place\":1,\"row\":1,\"sends\":\"7D40C31140C1C1\",\"words\":\"F9 undeclared fixed at 1, keys: right 0, type 0\"}\n{\"column\":4,\"keys\":{\"right\":0,\"type\":1},\"name\":\"undeclared-input\",\"number\":8,\"place\":3,\"row\":1,\"sends\":\"7D40C41140C1C11140C3C1\",\"words\":\"F8 undeclared input at 3, keys: right 0, type 1\"}\n{\"fields\":0,\"findings\":2,\"records\":1,\"verdict\":\"no\"}\n",
+        "{\"column\":2,\"help\":\"reset bit 01, the modified data tag, of the attribute at 0, or declare it by [[field]], name = \\\"field-1\\\", row = 1, col = 2, kind = \\\"fixed\\\" and its length\",\"keys\":{\"right\":0,\"type\":0},\"name\":\"undeclared-fixed\",\"number\":9,\"place\":1,\"row\":1,\"sends\":\"7D40C31140C1C1\",\"words\":\"F9 undeclared fixed at 1, keys: right 0, type 0\"}\n{\"column\":4,\"help\":\"declare it by [[field]], name = \\\"field-3\\\", row = 1, col = 4 and its length, or protect it\",\"keys\":{\"right\":0,\"type\":1},\"name\":\"undeclared-input\",\"number\":8,\"place\":3,\"row\":1,\"sends\":\"7D40C41140C1C11140C3C1\",\"words\":\"F8 undeclared input at 3, keys: right 0, type 1\"}\n{\"fields\":0,\"findings\":2,\"records\":1,\"verdict\":\"no\"}\n",
         Status::Findings,
     ),
     (
@@ -239,7 +242,7 @@ fn a_write_at_the_cursor_is_told_by_its_record(rt: HostRuntime) -> Result<(), Fa
     )?;
     assert_eq!(&rt;
         text.as_str(),
-        "{\"line\":3,\"name\":\"cursor-dependent\",\"number\":14,\"record\":1,\"words\":\"F14 record 1 depends on the cursor\"}"
+        "{\"help\":\"begin the orders of record 1 with Set Buffer Address, 11\",\"line\":3,\"name\":\"cursor-dependent\",\"number\":14,\"record\":1,\"words\":\"F14 record 1 depends on the cursor\"}"
     );
     Ok(())
 }
@@ -251,5 +254,70 @@ fn records_stand_on_lines_that_are_not_ignored(rt: HostRuntime) -> Result<(), Fa
         assert_eq!(&rt; line_of_record(text, index), line, "{index}");
     }
     assert_eq!(&rt; line_of_record(b"", 0), None);
+    Ok(())
+}
+
+/// The index of its rule in a log of one finding.
+fn rule_index(alloc: Global, log: &str) -> Result<Option<u64>, Fail> {
+    let value = Value::from_str(alloc, log)?;
+    assert_is_read_again(alloc, &value, log)?;
+    Ok(
+        value
+            .pointer("/runs/0/results/0/ruleIndex")
+            .and_then(Value::as_u64),
+    )
+}
+
+fn assert_is_read_again(alloc: Global, value: &Value, text: &str) -> Result<(), Fail> {
+    let again = value.to_string(alloc)?;
+    if again.as_str() == text {
+        Ok(())
+    } else {
+        Err(Fail::from("another value is read"))
+    }
+}
+
+#[test]
+fn a_finding_is_told_in_a_log(rt: HostRuntime) -> Result<(), Fail> {
+    let layout = code_layout(rt.alloc())?;
+    let log = findings_log(
+        rt.alloc(),
+        "a \\ \"b\".hex",
+        &layout,
+        b"F5C2\n",
+        &[Finding::KeyboardLocked],
+    )?;
+    assert_eq!(&rt; rule_index(rt.alloc(), log.as_str())?, Some(4));
+    let help = help_text(rt.alloc(), &layout, &Finding::NotAWrite(2))?;
+    let Some(help) = help else {
+        return Err(Fail::from("no help"));
+    };
+    assert_eq!(&rt; help.as_str(), "leave record 2 out");
+    Ok(())
+}
+
+#[test]
+fn texts_and_streams_are_told_in_one_log(rt: HostRuntime) -> Result<(), Fail> {
+    let report = Report::Sarif(Paths {
+        layout: "code.toml",
+        records: "stdin",
+    });
+    for (layout, records, _, status) in REPORTS {
+        let told = report_texts(rt.alloc(), report, layout.as_bytes(), records.as_bytes());
+        let Ok(answer) = told else {
+            return Err(Fail::from("nothing is reported"));
+        };
+        let mut text = Vec::new(rt.alloc());
+        let found = run_report(
+            rt.alloc(),
+            report,
+            &mut layout.as_bytes(),
+            &mut records.as_bytes(),
+            &mut text,
+        );
+        assert_eq!(&rt; text.as_slice(), answer.text.as_bytes(), "{records}");
+        assert_eq!(&rt; found, status, "{records}");
+        assert_eq!(&rt; answer.status, status, "{records}");
+    }
     Ok(())
 }

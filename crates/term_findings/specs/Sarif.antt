@@ -1,0 +1,102 @@
+-- What is told as a log of SARIF 2.1.0: one run, the rules, and a result for each finding or for an input that is refused.
+-- Members stand in the order of their keys.
+use Rattle.std.specs.Prelude.{ℕ, List, [], ◌∷◌, ◌++◌, codes, map, Option, Some, None}
+use Rattle.serde_json.specs.Data.{Data, number, unsigned, string, array, object, item, no_items, member, no_members}
+use Rattle.serde_json.specs.View.{items_of}
+use Rattle.scr_layout.specs.Layout.{Declaration}
+use Rattle.scr_check.specs.declared.finding.Finding.{Finding}
+use Rattle.scr_check.specs.FindingText.{finding_text}
+use Rattle.term_commands.specs.declared.fault.Fault.{Fault}
+use Rattle.term_commands.specs.Fault.{fault_text}
+use Rattle.term_findings.specs.declared.region.Columns.{Columns}
+use Rattle.term_findings.specs.declared.region.Region.{Region}
+use Rattle.term_findings.specs.declared.rule.Rule.{Rule}
+use Rattle.term_findings.specs.declared.rule.Rule.TheVariants.{InputRefused}
+use Rattle.term_findings.specs.Help.{help_of}
+use Rattle.term_findings.specs.Region.{finding_region}
+use Rattle.term_findings.specs.Rule.{all_rules, rule_of, rule_index, rule_id, rule_name, brief_of, meaning_of, rule_help}
+use Rattle.term_findings.specs.Uri.{uri_of}
+
+abbrev pub count : ℕ → Data
+count n = number (unsigned n)
+
+abbrev pub message_data : List ℕ → Data
+message_data text = object (member (codes "text") (string text) no_members)
+
+-- ---- the program
+
+abbrev pub level_data : Data
+level_data = object (member (codes "level") (string (codes "error")) no_members)
+
+unfoldable pub rule_data : Rule → Data
+rule_data rule =
+    object (member (codes "defaultConfiguration") level_data (member (codes "fullDescription") (message_data (meaning_of rule))
+    (member (codes "help") (message_data (rule_help rule)) (member (codes "id") (string (rule_id rule))
+    (member (codes "name") (string (rule_name rule)) (member (codes "shortDescription") (message_data (brief_of rule)) no_members))))))
+
+abbrev pub driver_data : Data
+driver_data =
+    object (member (codes "name") (string (codes "term3270")) (member (codes "rules") (array (items_of (map rule_data all_rules)))
+    (member (codes "version") (string (codes "0.1.0")) no_members)))
+
+unfoldable pub tool_data : Data
+tool_data = object (member (codes "driver") driver_data no_members)
+
+-- ---- a place
+
+abbrev pub columns_region : ℕ → Option Columns → Data
+columns_region line None = object (member (codes "startLine") (count line) no_members)
+columns_region line (Some columns) =
+    object (member (codes "endColumn") (count columns.after) (member (codes "startColumn") (count columns.start) (member (codes "startLine") (count line) no_members)))
+
+-- lines and columns count from 1, and the end is the column after the last
+abbrev pub region_data : Region → Data
+region_data region = columns_region region.line region.columns
+
+abbrev pub location_data : List ℕ → Region → Data
+location_data path region =
+    object (member (codes "physicalLocation") (object (member (codes "artifactLocation") (object (member (codes "uri") (string (uri_of path)) no_members))
+    (member (codes "region") (region_data region) no_members))) no_members)
+
+-- ---- a result
+
+-- a result of this rule, in this file at this place, with this text
+unfoldable pub result_data : Rule → List ℕ → Region → List ℕ → Data
+result_data rule path region text =
+    object (member (codes "level") (string (codes "error")) (member (codes "locations") (array (item (location_data path region) no_items))
+    (member (codes "message") (message_data text) (member (codes "ruleId") (string (rule_id rule)) (member (codes "ruleIndex") (count (rule_index rule)) no_members)))))
+
+abbrev pub help_end : Option (List ℕ) → List ℕ
+help_end None = []
+help_end (Some help) = codes ": " ++ help
+
+-- the words of a finding, and what to do
+abbrev pub message_of : Declaration → Finding → List ℕ
+message_of layout finding = finding_text layout.entries finding ++ help_end (help_of layout finding)
+
+-- a finding of records in this text, of the file of this path
+abbrev pub finding_result : List ℕ → Declaration → List ℕ → Finding → Data
+finding_result path layout input finding = result_data (rule_of finding) path (finding_region input finding) (message_of layout finding)
+
+abbrev pub findings_data : List ℕ → Declaration → List ℕ → List Finding → Data
+findings_data path layout input findings = array (items_of (map (finding_result path layout input) findings))
+
+-- what is wrong with the input of this path, at a line
+abbrev pub refusal_results : List ℕ → ℕ → Fault → Data
+refusal_results path line fault = array (item (result_data InputRefused path (record { line = line; columns = None }) (fault_text fault)) no_items)
+
+-- ---- the log
+
+abbrev pub run_data : Data → Data
+run_data results = object (member (codes "results") results (member (codes "tool") tool_data no_members))
+
+unfoldable pub log_data : Data → Data
+log_data results =
+    object (member (codes "$schema") (string (codes "https://json.schemastore.org/sarif-2.1.0.json"))
+    (member (codes "runs") (array (item (run_data results) no_items)) (member (codes "version") (string (codes "2.1.0")) no_members)))
+
+abbrev pub findings_log_data : List ℕ → Declaration → List ℕ → List Finding → Data
+findings_log_data path layout input findings = log_data (findings_data path layout input findings)
+
+abbrev pub refusal_log_data : List ℕ → ℕ → Fault → Data
+refusal_log_data path line fault = log_data (refusal_results path line fault)

@@ -1,0 +1,193 @@
+//! The command `check`, reported as a log.
+
+ghost use Rattle.std.specs.Prelude.{◌≡◌, IfErr, IfOk, IfSome, Ok};
+ghost use Rattle.term_commands.specs.Fault.{Gives};
+ghost use Rattle.term_commands.specs.Held.{answer_seen, records_held};
+ghost use Rattle.term_commands.specs.LayoutText.{layout_in};
+ghost use Rattle.term_commands.specs.Lines.{within_limit};
+ghost use Rattle.scr_check.specs.Findings.{answer_of};
+ghost use Rattle.term_findings.specs.Log.{log_findings, refused_log, log_within, log_records, or_refused, log_layout, printed_log};
+
+use crate::json::status_of;
+use crate::paths::Paths;
+use crate::region::{layout_line, line_of_fault};
+use crate::sarif::{findings_log, refusal_log};
+use scr_check::{Finding, Verdict, check};
+use scr_layout::Layout;
+use std::alloc::{AllocError, Global};
+use std::io::Read;
+use term_commands::{
+    Answer, CommandError, Fault, SizeLine, Status, layout_in, lent, read_text, records_in,
+    within_limit,
+};
+
+/// The log of findings.
+fn findings_answer(
+    alloc: Global,
+    paths: Paths<'_>,
+    layout: &Layout,
+    input: &[u8],
+    findings: &[Finding],
+) -> Result<Answer, AllocError>
+    ensures { IfOk result (λ answer. answer_seen answer
+        ≡ log_findings paths.entry layout.now input.now findings.now) }
+{
+    let mut text = findings_log(alloc, paths.records, layout, input, findings)?;
+    text.push_str("\n")?;
+    Ok(Answer {
+        text,
+        status: status_of(findings),
+    })
+}
+
+/// The log of an input that is refused.
+fn refused_answer(
+    alloc: Global,
+    path: &str,
+    line: usize,
+    fault: Fault,
+) -> Result<Answer, AllocError>
+    ensures { IfOk result (λ answer. answer_seen answer ≡ refused_log path.now line fault) }
+{
+    let mut text = refusal_log(alloc, path, line, fault)?;
+    text.push_str("\n")?;
+    Ok(Answer {
+        text,
+        status: Status::BadInput,
+    })
+}
+
+/// The log of a layout and records that were told.
+fn log_told(
+    alloc: Global,
+    paths: Paths<'_>,
+    layout: &Layout,
+    input: &[u8],
+    records: &[Vec<u8>],
+) -> Result<Answer, AllocError>
+    ensures { IfOk result (λ answer. answer_seen answer
+        ≡ log_findings paths.entry layout.now input.now (answer_of layout.now (records_held records.now))) }
+{
+    let slices = lent(alloc, records)?;
+    let verdict = check(alloc, slices.as_slice(), layout)?;
+    match verdict {
+        Verdict::Yes => findings_answer(alloc, paths, layout, input, &[]),
+        Verdict::No(findings) => {
+            findings_answer(alloc, paths, layout, input, findings.as_slice())
+        }
+    }
+}
+
+fn log_within(
+    alloc: Global,
+    paths: Paths<'_>,
+    layout: &Layout,
+    text: &[u8],
+) -> Result<Answer, CommandError>
+    ensures { Gives answer_seen result (log_within paths.entry layout.now text.now) }
+{
+    let told = records_in(alloc, text, SizeLine::Refused)?;
+    Ok(log_told(alloc, paths, layout, text, told.records.as_slice())?)
+}
+
+fn log_limited(
+    alloc: Global,
+    paths: Paths<'_>,
+    layout: &Layout,
+    input: &[u8],
+) -> Result<Answer, CommandError>
+    ensures { Gives answer_seen result (log_records paths.entry layout.now (within_limit input.now)) }
+{
+    let text = within_limit(input)?;
+    log_within(alloc, paths, layout, text)
+}
+
+/// The log of a layout and of records, or of what is wrong with the records.
+fn log_records(
+    alloc: Global,
+    paths: Paths<'_>,
+    layout: &Layout,
+    input: &[u8],
+) -> Result<Answer, CommandError>
+    ensures { Gives answer_seen result (Ok (or_refused paths.entry.records.now
+        (log_records paths.entry layout.now (within_limit input.now)))) }
+{
+    match log_limited(alloc, paths, layout, input) {
+        Ok(answer) => Ok(answer),
+        Err(CommandError::Fault(fault)) => {
+            Ok(refused_answer(alloc, paths.records, line_of_fault(fault), fault)?)
+        }
+        Err(CommandError::ReadFailed) => Err(CommandError::ReadFailed),
+        Err(CommandError::OutOfMemory) => Err(CommandError::OutOfMemory),
+    }
+}
+
+/// The log of a layout, and of records that are read.
+fn log_with<R: Read>(
+    alloc: Global,
+    paths: Paths<'_>,
+    layout: &Layout,
+    reader: &mut R,
+) -> Result<Answer, CommandError>
+    ensures { IfSome (R.remaining reader.old) (λ input. Gives answer_seen result
+        (Ok (or_refused paths.entry.records.now (log_records paths.entry layout.now (within_limit input))))) }
+{
+    let input = read_text(alloc, reader)?;
+    log_records(alloc, paths, layout, input.as_slice())
+}
+
+/// The log of a layout's text and of records that are read, unless the layout has a fault.
+fn log_over<R: Read>(
+    alloc: Global,
+    paths: Paths<'_>,
+    text: &[u8],
+    reader: &mut R,
+) -> Result<Answer, CommandError>
+    ensures answer { IfSome (R.remaining reader.old) (λ input. Gives answer_seen result
+        (Ok (log_layout paths.entry (within_limit text.now) (layout_in text.now) (within_limit input)))) }
+    ensures unread { IfErr (layout_in text.now) (λ fault. reader.new ≡ reader.old) }
+{
+    match layout_in(alloc, text) {
+        Ok(layout) => log_with(alloc, paths, &layout, reader),
+        Err(CommandError::Fault(fault)) => {
+            Ok(refused_answer(alloc, paths.layout, layout_line(text, fault), fault)?)
+        }
+        Err(CommandError::ReadFailed) => Err(CommandError::ReadFailed),
+        Err(CommandError::OutOfMemory) => Err(CommandError::OutOfMemory),
+    }
+}
+
+/// The log of a layout and records that are read.
+pub(crate) fn log_read<L: Read, R: Read>(
+    alloc: Global,
+    paths: Paths<'_>,
+    layout: &mut L,
+    reader: &mut R,
+) -> Result<Answer, CommandError>
+    ensures answer { IfSome (L.remaining layout.old) (λ text. IfSome (R.remaining
+        reader.old) (λ input. Gives answer_seen result (Ok (printed_log paths.entry text input)))) }
+    ensures unread { IfSome (L.remaining layout.old) (λ text. IfErr (layout_in text) (λ fault.
+        reader.new ≡ reader.old)) }
+{
+    let text = read_text(alloc, layout)?;
+    log_over(alloc, paths, text.as_slice(), reader)
+}
+
+/// The log of the texts of a layout and of records.
+pub(crate) fn log_texts(
+    alloc: Global,
+    paths: Paths<'_>,
+    layout: &[u8],
+    records: &[u8],
+) -> Result<Answer, CommandError>
+    ensures { Gives answer_seen result (Ok (printed_log paths.entry layout.now records.now)) }
+{
+    match layout_in(alloc, layout) {
+        Ok(told) => log_records(alloc, paths, &told, records),
+        Err(CommandError::Fault(fault)) => {
+            Ok(refused_answer(alloc, paths.layout, layout_line(layout, fault), fault)?)
+        }
+        Err(CommandError::ReadFailed) => Err(CommandError::ReadFailed),
+        Err(CommandError::OutOfMemory) => Err(CommandError::OutOfMemory),
+    }
+}

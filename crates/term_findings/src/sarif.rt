@@ -1,0 +1,259 @@
+//! The report as a log of SARIF 2.1.0.
+
+ghost use Rattle.std.specs.Prelude.{◌≡◌, ◌≤◌, ◌++◌, false, map, option_map, IfOk, OnOk, Some};
+ghost use Rattle.std.specs.String.{string_bytes};
+ghost use Rattle.serde_json.specs.Data.{array, depth};
+ghost use Rattle.serde_json.specs.Read.{read};
+ghost use Rattle.serde_json.specs.View.{view, items_of};
+ghost use Rattle.serde_json.specs.Written.{compact_text, has_float};
+ghost use Rattle.term_commands.specs.Fault.{fault_text};
+ghost use Rattle.term_findings.specs.Rule.{rule_help};
+ghost use Rattle.term_findings.specs.Sarif.{message_data, rule_data, tool_data, region_data, location_data, result_data, help_end, message_of, finding_result, findings_data, refusal_results, refusal_log_data, log_data, findings_log_data};
+
+use crate::help::help_text;
+use crate::region::{Region, finding_region, line_of_fault};
+use crate::rule::{Rule, all_rules, rule_of};
+use crate::uri::uri_of;
+use scr_check::Finding;
+use scr_layout::Layout;
+use serde_json::{Value, json};
+use std::alloc::{AllocError, Global};
+use term_commands::Fault;
+
+/// The version that the program prints too.
+const VERSION: &str = "0.1.0";
+
+const SCHEMA: &str = "https://json.schemastore.org/sarif-2.1.0.json";
+
+fn message_value(alloc: Global, text: &str) -> Result<Value, AllocError>
+    ensures { IfOk result (λ value. view value ≡ message_data text.now) }
+{
+    json!(in alloc; {"text": text})
+}
+
+/// What a rule means, and how it is mended.
+fn rule_help(alloc: Global, rule: Rule) -> Result<String, AllocError>
+    ensures { IfOk result (λ text. string_bytes text ≡ rule_help rule) }
+{
+    let meaning = rule.meaning();
+    let mend = rule.mend();
+    format!(in alloc; "{meaning} {mend}")
+}
+
+#[tactic(auto, unfolding(crate::specs::Sarif::rule_data))]
+fn rule_value(alloc: Global, rule: Rule) -> Result<Value, AllocError>
+    ensures { IfOk result (λ value. view value ≡ rule_data rule) }
+{
+    let help = rule_help(alloc, rule)?;
+    let meaning = message_value(alloc, rule.meaning())?;
+    let mend = message_value(alloc, help.as_str())?;
+    let id = rule.id();
+    let name = rule.name();
+    let brief = message_value(alloc, rule.brief())?;
+    json!(in alloc; {
+        "defaultConfiguration": {"level": "error"},
+        "fullDescription": meaning,
+        "help": mend,
+        "id": id,
+        "name": name,
+        "shortDescription": brief
+    })
+}
+
+fn rules_value(alloc: Global, rules: &[Rule]) -> Result<Value, AllocError>
+    ensures { IfOk result (λ value. view value ≡ array (items_of (map rule_data rules.now))) }
+{
+    let mut values = Vec::new(alloc);
+    for rule in rules {
+        values.push(rule_value(alloc, *rule)?)?;
+    }
+    Ok(Value::Array(values))
+}
+
+/// The program, with its rules.
+#[tactic(auto, unfolding(crate::specs::Sarif::tool_data))]
+fn tool_value(alloc: Global) -> Result<Value, AllocError>
+    ensures { IfOk result (λ value. view value ≡ tool_data) }
+{
+    let rules = rules_value(alloc, &all_rules())?;
+    json!(in alloc; {"driver": {"name": "term3270", "rules": rules, "version": VERSION}})
+}
+
+fn region_value(alloc: Global, region: Region) -> Result<Value, AllocError>
+    ensures { IfOk result (λ value. view value ≡ region_data region) }
+{
+    let line = region.line;
+    match region.columns {
+        Some(columns) => {
+            let after = columns.after;
+            let start = columns.start;
+            json!(in alloc; {"endColumn": after, "startColumn": start, "startLine": line})
+        }
+        None => json!(in alloc; {"startLine": line}),
+    }
+}
+
+fn location_value(alloc: Global, path: &str, region: Region) -> Result<Value, AllocError>
+    ensures { IfOk result (λ value. view value ≡ location_data path.now region) }
+{
+    let uri = uri_of(alloc, path)?;
+    let place = region_value(alloc, region)?;
+    json!(in alloc; {"physicalLocation": {"artifactLocation": {"uri": uri}, "region": place}})
+}
+
+#[tactic(auto, unfolding(crate::specs::Sarif::result_data))]
+fn result_value(
+    alloc: Global,
+    rule: Rule,
+    path: &str,
+    region: Region,
+    text: &str,
+) -> Result<Value, AllocError>
+    ensures { IfOk result (λ value. view value ≡ result_data rule path.now region text.now) }
+{
+    let location = location_value(alloc, path, region)?;
+    let message = message_value(alloc, text)?;
+    let id = rule.id();
+    let index = rule.index();
+    json!(in alloc; {
+        "level": "error",
+        "locations": [location],
+        "message": message,
+        "ruleId": id,
+        "ruleIndex": index
+    })
+}
+
+fn push_help(out: &mut String, help: Option<String>) -> Result<(), AllocError>
+    ensures { OnOk result (string_bytes out.new
+        ≡ string_bytes out.old ++ help_end (option_map string_bytes help)) }
+{
+    match help {
+        Some(help) => {
+            out.push_str(": ")?;
+            out.push_str(help.as_str())
+        }
+        None => Ok(()),
+    }
+}
+
+/// The words of a finding, and what to do.
+fn message_of(alloc: Global, layout: &Layout, finding: &Finding) -> Result<String, AllocError>
+    ensures { IfOk result (λ text. string_bytes text ≡ message_of layout.now finding.now) }
+{
+    let mut text = String::new(alloc);
+    finding.push_text(&mut text, layout.entries())?;
+    push_help(&mut text, help_text(alloc, layout, finding)?)?;
+    Ok(text)
+}
+
+fn finding_result(
+    alloc: Global,
+    path: &str,
+    layout: &Layout,
+    input: &[u8],
+    finding: &Finding,
+) -> Result<Value, AllocError>
+    ensures { IfOk result (λ value. view value
+        ≡ finding_result path.now layout.now input.now finding.now) }
+{
+    let text = message_of(alloc, layout, finding)?;
+    let region = finding_region(input, finding);
+    result_value(alloc, rule_of(finding), path, region, text.as_str())
+}
+
+fn findings_value(
+    alloc: Global,
+    path: &str,
+    layout: &Layout,
+    input: &[u8],
+    findings: &[Finding],
+) -> Result<Value, AllocError>
+    ensures { IfOk result (λ value. view value
+        ≡ findings_data path.now layout.now input.now findings.now) }
+{
+    let mut values = Vec::new(alloc);
+    for finding in findings {
+        values.push(finding_result(alloc, path, layout, input, finding)?)?;
+    }
+    Ok(Value::Array(values))
+}
+
+/// A log of one run, with these results.
+#[tactic(auto, unfolding(crate::specs::Sarif::log_data))]
+fn log_value(alloc: Global, results: Value) -> Result<Value, AllocError>
+    ensures { IfOk result (λ value. view value ≡ log_data (view results)) }
+{
+    let tool = tool_value(alloc)?;
+    json!(in alloc; {
+        "$schema": SCHEMA,
+        "runs": [{"results": results, "tool": tool}],
+        "version": "2.1.0"
+    })
+}
+
+#[tactic(auto, using(crate::proofs::Logged::log_plain, crate::proofs::Logged::log_nests))]
+fn log_text(alloc: Global, results: Value) -> Result<String, AllocError>
+    requires plain { has_float (view results) ≡ false }
+    requires flat { depth (view results) ≤ 8 }
+    ensures text { IfOk result (λ text. string_bytes text ≡ compact_text (log_data (view results))) }
+    ensures again { IfOk result (λ text. read (string_bytes text) ≡ Some (log_data (view results))) }
+{
+    let value = log_value(alloc, results)?;
+    value.to_string(alloc)
+}
+
+/// Findings of records, in their text, as a log of SARIF 2.1.0: a result for each, at the line of its record in the file
+/// of this path. A parser reads the same value again.
+///
+/// # Errors
+///
+/// Where a request for memory was refused.
+#[tactic(auto, using(crate::proofs::Logged::findings_plain, crate::proofs::Logged::findings_nest))]
+pub fn findings_log(
+    alloc: Global,
+    path: &str,
+    layout: &Layout,
+    input: &[u8],
+    findings: &[Finding],
+) -> Result<String, AllocError>
+    ensures text { IfOk result (λ text. string_bytes text
+        ≡ compact_text (findings_log_data path.now layout.now input.now findings.now)) }
+    ensures again { IfOk result (λ text. read (string_bytes text)
+        ≡ Some (findings_log_data path.now layout.now input.now findings.now)) }
+{
+    let results = findings_value(alloc, path, layout, input, findings)?;
+    log_text(alloc, results)
+}
+
+fn refusal_results(
+    alloc: Global,
+    path: &str,
+    line: usize,
+    fault: Fault,
+) -> Result<Value, AllocError>
+    ensures { IfOk result (λ value. view value ≡ refusal_results path.now line fault) }
+{
+    let words = format!(in alloc; "{fault}")?;
+    let region = Region {
+        line,
+        columns: None,
+    };
+    let told = result_value(alloc, Rule::InputRefused, path, region, words.as_str())?;
+    json!(in alloc; [told])
+}
+
+/// What is wrong with the input of this path, at a line, as a log of SARIF 2.1.0.
+#[tactic(auto, using(crate::proofs::Logged::refusal_plain, crate::proofs::Logged::refusal_nests))]
+pub(crate) fn refusal_log(
+    alloc: Global,
+    path: &str,
+    line: usize,
+    fault: Fault,
+) -> Result<String, AllocError>
+    ensures { IfOk result (λ text. string_bytes text
+        ≡ compact_text (refusal_log_data path.now line fault)) }
+{
+    let results = refusal_results(alloc, path, line, fault)?;
+    log_text(alloc, results)
+}
