@@ -7,7 +7,7 @@ _term3270() {
     return
   fi
   case $command in
-    show) COMPREPLY=($(compgen -W '--format --color --help' -- "$word")) ;;
+    show) COMPREPLY=($(compgen -W '--format --color --layout --help' -- "$word") $(compgen -f -- "$word")) ;;
     check) COMPREPLY=($(compgen -W '--demo --records --format --help' -- "$word") $(compgen -f -- "$word")) ;;
     talk) COMPREPLY=($(compgen -W '--help' -- "$word") $(compgen -f -- "$word")) ;;
     press) COMPREPLY=($(compgen -W '--help' -- "$word") $(compgen -f -- "$word")) ;;

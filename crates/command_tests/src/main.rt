@@ -4,11 +4,13 @@
 //! place of test functions: neither is proved.
 //!
 //! `file TEXT` gives the layout or the keys of the lines below, or of `talk` the layouts, with `|` between two of them, and
-//! `many N TEXT` the same text so often as a file. Every
+//! `many N TEXT` the same text so often as a file. `attach HEX` is a terminal that presses the file's keys on a host that
+//! sends these bytes, and `unflushed HEX` one whose line fails at each flush. Every
 //! other line is a verb, a command and its input, where `^` stands for the file. In texts `\n`, `\r` and `\xFF` are bytes; a
 //! line that is printed 32 times or more one after the other is printed once, as `[F2*32]`.
 #![tactic(auto)]
 
+mod attach;
 mod commands;
 mod devices;
 mod failures;
@@ -17,6 +19,7 @@ mod fronts;
 mod memory;
 mod notation;
 
+use crate::attach::Flush;
 use crate::commands::Command;
 use crate::notation::{bytes_of, repeated};
 use anyhow::{Context, Result};
@@ -87,6 +90,8 @@ fn push_answer(alloc: Global, out: &mut String, file: &[u8], line: &str) -> Resu
     match verb {
         "laws" => Ok(push_laws(out)?),
         "failures" => Ok(commands::push_failures(out)?),
+        "attach" => attach::push_attached(alloc, out, words, file, Flush::Done),
+        "unflushed" => attach::push_attached(alloc, out, words, file, Flush::Failed),
         _ => push_words(alloc, out, file, verb, words),
     }
 }

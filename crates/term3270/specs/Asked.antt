@@ -1,5 +1,5 @@
 -- What the parsed words of a command line ask for.
-use Rattle.std.specs.Prelude.{◌≡◌, ◌<◌, ℕ, Bool, true, false, List, Option, Some, None, option_map, codes}
+use Rattle.std.specs.Prelude.{◌≡◌, ◌<◌, ℕ, Bool, true, false, List, Option, Some, None, is_some, option_map, codes}
 use Rattle.std.specs.Borrow.{Bor}
 use Rattle.std.specs.Fmt.{decimal}
 use Rattle.clap.specs.Words.{Row, Text, first_of, one_of}
@@ -12,7 +12,9 @@ use Rattle.term3270.specs.declared.asked.When.TheVariants.{Auto, Always, Never}
 use Rattle.term3270.specs.declared.asked.ReportForm.{ReportForm}
 use Rattle.term3270.specs.declared.asked.ReportForm.TheVariants.{Json, Sarif}
 use Rattle.term3270.specs.declared.asked.Asked.{Asked}
-use Rattle.term3270.specs.declared.asked.Asked.TheVariants.{Show, Draw, Check, Report, Talk, Press, Convert, ConvertBack, Draft, Bind, Records, Serve, Attach}
+use Rattle.term3270.specs.declared.asked.Asked.TheVariants.{Show, Draw, Annotate, Undrawn, Check, Report, Talk, Press, Convert, ConvertBack, Draft, Bind, Records, Serve, Attach}
+use Rattle.term_pictures.specs.declared.annotated.Annotated.{Annotated}
+use Rattle.term_pictures.specs.declared.annotated.Annotated.TheVariants as annotated
 use Rattle.term_pictures.specs.declared.drawing.Drawing.TheVariants as drawings
 use Rattle.term_traces.specs.declared.asked.Source.{Source}
 use Rattle.term_traces.specs.declared.asked.Source.TheVariants.{Trace, Stream}
@@ -47,11 +49,26 @@ IsPlainShow rows (Show color) = IsWhen rows color
 IsPlainShow rows _ = ⊥
 
 -- the screen, in the form that is named
-abbrev pub IsShow : List Row → Asked → Type 0
-IsShow rows asked = (first_of (codes "format") rows ≡ Some (codes "text") → IsPlainShow rows asked)
+abbrev pub IsDrawn : List Row → Asked → Type 0
+IsDrawn rows asked = (first_of (codes "format") rows ≡ Some (codes "text") → IsPlainShow rows asked)
     × (first_of (codes "format") rows ≡ Some (codes "svg") → asked ≡ Draw drawings.Svg)
     × (first_of (codes "format") rows ≡ Some (codes "html") → asked ≡ Draw drawings.Html)
     × (first_of (codes "format") rows ≡ Some (codes "json") → asked ≡ Draw drawings.Json)
+
+abbrev pub IsAnnotated : List Row → Annotated → Asked → Type 0
+IsAnnotated rows form (Annotate layout given) = IsText (codes "layout") rows layout × (given ≡ form)
+IsAnnotated rows form _ = ⊥
+
+-- the screen with a layout, in the forms that draw it; in the others that is a fault of the command line
+abbrev pub IsWithLayout : List Row → Asked → Type 0
+IsWithLayout rows asked = (first_of (codes "format") rows ≡ Some (codes "svg") → IsAnnotated rows annotated.Svg asked)
+    × (first_of (codes "format") rows ≡ Some (codes "html") → IsAnnotated rows annotated.Html asked)
+    × (first_of (codes "format") rows ≡ Some (codes "text") → asked ≡ Undrawn)
+    × (first_of (codes "format") rows ≡ Some (codes "json") → asked ≡ Undrawn)
+
+abbrev pub IsShow : List Row → Asked → Type 0
+IsShow rows asked = (is_some (first_of (codes "layout") rows) ≡ false → IsDrawn rows asked)
+    × (is_some (first_of (codes "layout") rows) ≡ true → IsWithLayout rows asked)
 
 -- the path that was given for an option, where it was
 abbrev pub IsPath : Text → List Row → Option (Bor Text) → Type 0

@@ -1,13 +1,13 @@
 //! What the words of the command line ask for, as a value.
 
-ghost use Rattle.std.specs.Prelude.{◌≡◌, option_map};
-ghost use Rattle.clap.specs.Words.{found_of, rows_of, subcommand_rows_of};
-ghost use Rattle.term3270.specs.Asked.{AreDemos, AsksFor, IsCheck, IsForm, IsConvert, IsNumber, IsOption, IsPath, IsShow, IsSide, IsSource, IsText, IsWhen};
+ghost use Rattle.std.specs.Prelude.{◌≡◌, is_some, option_map};
+ghost use Rattle.clap.specs.Words.{first_of, found_of, rows_of, subcommand_rows_of};
+ghost use Rattle.term3270.specs.Asked.{AreDemos, AsksFor, IsCheck, IsDrawn, IsForm, IsConvert, IsNumber, IsOption, IsPath, IsShow, IsSide, IsSource, IsText, IsWhen, IsWithLayout};
 
 use clap::ArgMatches;
 use term_binds::Form;
 use term_commands::Demos;
-use term_pictures::Drawing;
+use term_pictures::{Annotated, Drawing};
 use term_traces::Source;
 use tn_traces::Side;
 
@@ -36,6 +36,12 @@ pub(crate) enum Asked<'a> {
     Draw {
         drawing: Drawing,
     },
+    Annotate {
+        layout: &'a str,
+        form: Annotated,
+    },
+    /// A layout, and a form that doesn't draw it.
+    Undrawn,
     Check {
         layout: &'a str,
         records: Option<&'a str>,
@@ -134,9 +140,38 @@ fn command_of<'a>(name: &str, words: &ArgMatches<'a>) -> Asked<'a>
     }
 }
 
-/// `show`, in the form that is named.
+/// `show`, with a layout where one is named.
 fn show_of<'a>(words: &ArgMatches<'a>) -> Asked<'a>
     ensures { IsShow (rows_of (found_of words.now)) result }
+{
+    if is_named(words, "layout") {
+        annotate_of(words)
+    } else {
+        draw_of(words)
+    }
+}
+
+/// The screen with a layout, in the form that is named.
+fn annotate_of<'a>(words: &ArgMatches<'a>) -> Asked<'a>
+    ensures { IsWithLayout (rows_of (found_of words.now)) result }
+{
+    let layout = text_in(words, "layout");
+    match text_in(words, "format") {
+        "svg" => Asked::Annotate {
+            layout,
+            form: Annotated::Svg,
+        },
+        "html" => Asked::Annotate {
+            layout,
+            form: Annotated::Html,
+        },
+        _ => Asked::Undrawn,
+    }
+}
+
+/// The screen, in the form that is named.
+fn draw_of<'a>(words: &ArgMatches<'a>) -> Asked<'a>
+    ensures { IsDrawn (rows_of (found_of words.now)) result }
 {
     match text_in(words, "format") {
         "svg" => Asked::Draw {
@@ -253,6 +288,13 @@ fn path_in<'a>(words: &ArgMatches<'a>, option: &str) -> Option<&'a str>
     ensures { IsPath option.now (rows_of (found_of words.now)) result }
 {
     words.get_str(option)
+}
+
+/// Whether a text was given for a word.
+fn is_named(words: &ArgMatches<'_>, word: &str) -> bool
+    ensures { result ≡ is_some (first_of word.now (rows_of (found_of words.now))) }
+{
+    words.get_str(word).is_some()
 }
 
 /// The number that was given for a word; `clap` refuses words without it, or out of its range.

@@ -30,8 +30,11 @@ Forms:
   svg and html are a picture of the screen as a terminal shows it, json is one object (docs/PICTURES.md). Text
   has the looks of its cells where standard output is a terminal and the environment doesn't say NO_COLOR.
 
+  With --layout svg and html have the name of each field of the layout at its place, and a red frame at each
+  finding of check, which tells its words. The sizes are the layout's.
+
 Statuses:
-  0 done, 2 bad input, 3 a read or a write failed, 4 out of memory";
+  0 done, 2 bad input, 3 the layout can't be read, or a read or a write failed, 4 out of memory";
 
 const CHECK: &str = "Input:
   The layout is a file in TOML (docs/LAYOUTS.md). Records are in hexadecimal, one a line, on standard input or
@@ -194,11 +197,17 @@ fn show<'a>(alloc: Global) -> Result<Command<'a>, AllocError> {
         .value_parser(WHEN)
         .default_value("auto")
         .help("When the text has the looks of its cells");
+    let layout = Arg::new(alloc, "layout")
+        .long("layout")
+        .value_name("FILE")
+        .conflicts_with("color")?
+        .help("With svg and html: name the fields of this layout, and mark what check finds");
     Command::new(alloc, "show")
         .about("Print the screen that the records leave (the default command)")
         .after_help(SHOW)
         .arg(format(alloc, SCREEN_FORMS, "How the screen is printed"))?
-        .arg(color)
+        .arg(color)?
+        .arg(layout)
 }
 
 fn check<'a>(alloc: Global) -> Result<Command<'a>, AllocError> {

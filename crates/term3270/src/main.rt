@@ -7,8 +7,6 @@ mod file;
 mod sessions;
 mod stream;
 mod tcp;
-#[cfg(test)]
-mod tests;
 
 use crate::asked::{Asked, ReportForm, When};
 use crate::command_line::parsed;
@@ -29,7 +27,7 @@ use term_commands::{
 };
 use term_drafts::run_draft;
 use term_findings::{Paths, Report, run_report};
-use term_pictures::{Drawing, run_picture};
+use term_pictures::{Drawing, run_annotated, run_picture};
 use term_traces::{Asked as Wanted, run_records};
 
 /// Runs a command on the standard streams, and on the file that it was given.
@@ -46,6 +44,11 @@ fn run(rt: &HostRuntime, asked: Asked<'_>, matches: &ArgMatches<'_>) -> Status {
             }
         }
         Asked::Draw { drawing } => run_picture(alloc, drawing, &mut records, &mut output),
+        Asked::Annotate { layout, form } => {
+            let mut layout = file_at(rt, layout);
+            run_annotated(alloc, form, &mut layout, &mut records, &mut output)
+        }
+        Asked::Undrawn => refuse_undrawn(rt),
         Asked::Check {
             layout,
             records: Some(path),
@@ -128,6 +131,12 @@ fn report_over<R: Read>(
     };
     let mut layout = file_at(rt, layout);
     run_report(rt.alloc(), report, &mut layout, records, &mut output)
+}
+
+/// Says on standard error that a form doesn't draw a layout.
+fn refuse_undrawn(rt: &HostRuntime) -> Status {
+    let _ = eprintln!(rt; "error: '--layout <FILE>' needs '--format svg' or '--format html'");
+    Status::BadInput
 }
 
 /// Whether the looks of cells are printed.
