@@ -7,7 +7,7 @@ import pathlib
 import subprocess
 import sys
 
-CASES = pathlib.Path(__file__).parent / "cases" / "check"
+CASES = pathlib.Path(__file__).parent / "cases" / "check_sarif"
 # What each object must have, by the standard (2.1.0, sections 3.13 to 3.52) and by what GitHub asks for.
 DRIVER = {"name": str, "version": str, "rules": list}
 RULE = {"id": str, "name": str, "shortDescription": dict, "fullDescription": dict, "help": dict, "defaultConfiguration": dict}
@@ -61,7 +61,7 @@ def faults_of_log(log, version):
 def main(program):
     version = subprocess.run([program, "--version"], capture_output=True, text=True).stdout.split()[-1] if program else None
     passed = failed = 0
-    for path in sorted(CASES.glob("sarif_*/stdout")):
+    for path in sorted(CASES.glob("*/stdout")):
         text = path.read_text()
         faults = list(faults_of_log(json.loads(text), version))
         if text.count("\n") != 1:
