@@ -96,7 +96,8 @@ fn log_limited(
     layout: &Layout,
     input: &[u8],
 ) -> Result<Answer, CommandError>
-    ensures { Gives answer_seen result (log_records paths.entry layout.now (within_limit input.now)) }
+    ensures { Gives answer_seen result
+        (log_records paths.entry layout.now (within_limit input.now)) }
 {
     let text = within_limit(input)?;
     log_within(alloc, paths, layout, text)

@@ -196,8 +196,10 @@ fn log_value(alloc: Global, results: Value) -> Result<Value, AllocError>
 fn log_text(alloc: Global, results: Value) -> Result<String, AllocError>
     requires plain { has_float (view results) ≡ false }
     requires flat { depth (view results) ≤ 8 }
-    ensures text { IfOk result (λ text. string_bytes text ≡ compact_text (log_data (view results))) }
-    ensures again { IfOk result (λ text. read (string_bytes text) ≡ Some (log_data (view results))) }
+    ensures text { IfOk result (λ text. string_bytes text
+        ≡ compact_text (log_data (view results))) }
+    ensures again { IfOk result (λ text. read (string_bytes text)
+        ≡ Some (log_data (view results))) }
 {
     let value = log_value(alloc, results)?;
     value.to_string(alloc)
