@@ -24,3 +24,4 @@ pub mod GeometryLaws
 pub mod TalkKeeps
 pub mod OriginLaws
 pub mod Rows
+pub mod TracedLaws

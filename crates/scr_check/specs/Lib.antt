@@ -15,3 +15,4 @@ pub mod Talk
 pub mod TalkSeen
 pub mod Origins
 pub mod Noting
+pub mod Traced

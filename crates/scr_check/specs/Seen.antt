@@ -36,10 +36,14 @@ IsReadyFor lock shown declared has_fields result =
 abbrev pub IsReadyOn : Outlined → Size → Result (Unit {0}) Finding → Type 0
 IsReadyOn outline size result = (v : Picture) → IsOutlineOf outline v → IsReady v size result
 
--- the records led to a picture, of which this is the outline, or this is the finding that comes first
+-- this is the outline of the picture that was opened, or the finding that comes first
+abbrev pub IsOpened : Result Picture Finding → Opening → Type 0
+IsOpened opened (Leads outline) = (v : Picture) × (opened ≡ Ok v) × IsOutlineOf outline v
+IsOpened opened (Stands finding) = opened ≡ Err finding
+
+-- the same of records
 abbrev pub IsOpening : Declaration → List (List ℕ) → Opening → Type 0
-IsOpening layout records (Leads outline) = (v : Picture) × (opening_of layout records ≡ Ok v) × IsOutlineOf outline v
-IsOpening layout records (Stands finding) = opening_of layout records ≡ Err finding
+IsOpening layout records opening = IsOpened (opening_of layout records) opening
 
 -- the cursor of a picture, and how many cells it has
 abbrev pub IsCursorOf : Cursor → Picture → Type 0

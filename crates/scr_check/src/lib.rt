@@ -13,6 +13,7 @@ mod opening;
 mod origins;
 mod taking;
 mod talk;
+mod traced;
 mod verdict;
 
 pub use binding::{BindError, BindFault, bind};
@@ -25,4 +26,5 @@ pub use opening::{FirstTurn, ready_for};
 pub use origins::{Origin, Origins, find_origins};
 pub use taking::{TurnRule, take_by};
 pub use talk::{TalkVerdict, Turn, check_talk, have_one_geometry};
+pub use traced::{Traced, attribute_place, trace_findings};
 pub use verdict::{Verdict, check};

@@ -49,7 +49,14 @@ impl Origins {
     pub fn at(&self, position: u32) -> Option<Origin>
         ensures { result ≡ kept_at self.now position }
     {
-        match self.slots.get(position as usize) {
+        self.kept(position as usize)
+    }
+
+    /// The same at an index.
+    pub(crate) fn kept(&self, index: usize) -> Option<Origin>
+        ensures { result ≡ kept_at self.now index }
+    {
+        match self.slots.get(index) {
             Some(origin) => *origin,
             None => None,
         }
