@@ -12,11 +12,12 @@ impl Outline {
     ghost use Rattle.ds_screen.specs.Outline.{IsOutlineOf};
     ghost use Rattle.ds_screen.specs.Writes.{record_writes, most_positions};
 
-    /// Adds the positions into which `apply` stores characters or an attribute when it takes a record, order by order, up
-    /// to the first order that is at fault; a position may come more than once. What goes round the end of the buffer
-    /// comes in two: what lies before the end, then what lies from 0 on. Text stores into as many positions as it has
-    /// bytes, at most all. Erase Unprotected to Address and a Program Tab that nulls store nothing: they only null.
-    /// The outline stays as it is. Takes the time of `apply`, and memory for what is added alone.
+    /// Adds the positions into which the orders of a record store characters or an attribute when `apply` takes it, in
+    /// their turn, up to the first order that is at fault; a position may come more than once. Text stores into as many
+    /// positions as it has bytes, at most all. What goes round the end of the buffer comes as two writes of one order:
+    /// what lies before the end, then what lies from 0 on. Program Tab and Erase Unprotected to Address add none, since
+    /// they only null, nor does what a command erases. The outline stays as it is. Takes the time of `apply`, and memory
+    /// for what is added alone.
     ///
     /// # Errors
     ///

@@ -36,7 +36,7 @@ orders-preserved g c =
           let after = c.in-Ok.ensures.acts before.0 before.1 in
           let positions : length before.0 ≡ c.positions-n.result = g.met.S.Surface.sized c.orders.surface before.0 before.1 ∙ c.orders.invariant.whole ∙ sym c.positions-n.ensures in
           let added : c.add_write.new.writes.items ≡ c.orders.writes.items ++ writes_at site (length before.0) c.orders.state.address =
-              subst (λ n. c.add_write.new.writes.items ≡ c.orders.writes.items ++ writes_at site n c.orders.state.address) (sym positions) c.in_ok-add_write-in-Ok.ensures in (
+          subst (λ n. c.add_write.new.writes.items ≡ c.orders.writes.items ++ writes_at site n c.orders.state.address) (sym positions) c.in_ok-add_write-in-Ok.ensures in (
             after.0,
             after.1,
             writes_on site c.next.new.self (writing before.0 c.orders.state) (writing after.0 c.in-Ok.after) c.orders.writes.items c.add_write.new.writes.items after.2 added
