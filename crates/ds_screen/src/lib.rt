@@ -52,4 +52,4 @@ pub use records::Reset;
 pub use refused::{Refused, Why};
 pub use screen::Screen;
 pub use shown::text_of;
-pub use writes::AttributeWrite;
+pub use writes::Write;

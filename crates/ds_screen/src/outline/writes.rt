@@ -1,35 +1,38 @@
-//! The attributes that a record is to write on an outlined screen.
+//! What a record is to write on an outlined screen.
 
 use crate::outline::Outline;
 use crate::records::{Base, prepare_on};
-use crate::writes::{AttributeWrite, add_writes};
+use crate::writes::{Write, add_writes};
 use ds_codec::Record;
 use std::alloc::AllocError;
 
 impl Outline {
-    ghost use Rattle.std.specs.Prelude.{◌≡◌, ◌<◌, ◌++◌, OnOk, All};
+    ghost use Rattle.std.specs.Prelude.{◌≡◌, ◌+◌, ◌≤◌, ◌++◌, OnOk, All};
     ghost use Rattle.ds_screen.specs.Picture.{Picture};
     ghost use Rattle.ds_screen.specs.Outline.{IsOutlineOf};
-    ghost use Rattle.ds_screen.specs.Writes.{attribute_writes, most_positions};
+    ghost use Rattle.ds_screen.specs.Writes.{record_writes, most_positions};
 
-    /// Adds the attributes that `apply` writes of a record, from first to last, up to the first order that is at
-    /// fault; a position may come more than once. The outline stays as it is. Takes the time of `apply`, and
-    /// memory for what is added alone.
+    /// Adds the positions into which the orders of a record store characters or an attribute when `apply` takes it, in
+    /// their turn, up to the first order that is at fault; a position may come more than once. Text stores into as many
+    /// positions as it has bytes, at most all. What goes round the end of the buffer comes as two writes of one order:
+    /// what lies before the end, then what lies from 0 on. Program Tab and Erase Unprotected to Address add none, since
+    /// they only null, nor does what a command erases. The outline stays as it is. Takes the time of `apply`, and memory
+    /// for what is added alone.
     ///
     /// # Errors
     ///
     /// Out of memory; then some of them may have been added.
-    pub fn attribute_writes(
+    pub fn writes(
         &mut self,
         outbound: &Record<'_>,
-        writes: &mut Vec<AttributeWrite>,
+        writes: &mut Vec<Write>,
     ) -> Result<(), AllocError>
         ensures added { OnOk result ((v : Picture) → IsOutlineOf self.old v
             → writes.new.items ≡ writes.old.items
-            ++ attribute_writes v outbound.now.command outbound.now.orders) }
+            ++ record_writes v outbound.now.command outbound.now.orders) }
         ensures inside { (v : Picture) → IsOutlineOf self.old v
-            → All (λ write. write.place < most_positions v.geometry)
-            (attribute_writes v outbound.now.command outbound.now.orders) }
+            → All (λ write. write.place + write.count ≤ most_positions v.geometry)
+            (record_writes v outbound.now.command outbound.now.orders) }
         ensures unchanged { self.new ≡ self.old }
     {
         let now = Base {

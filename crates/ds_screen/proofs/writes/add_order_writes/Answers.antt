@@ -1,6 +1,6 @@
-use Rattle.std.proofs.Common.{◌≡◌, [], ◌∷◌, ◌++◌, refl, sym, ◌∙◌, ap, subst}
+use Rattle.std.proofs.Common.{◌≡◌, [], ◌∷◌, ◌++◌, length, refl, sym, ◌∙◌, ap, subst}
 use Rattle.ds_codec.specs.Order.{Site, site_of}
-use Rattle.ds_screen.specs.Writes.{order_writes}
+use Rattle.ds_screen.specs.Writes.{writes_at, order_writes}
 use Rattle.ds_screen.specs.State.{writing, HaveCharacters}
 use Rattle.ds_screen.specs.Surface.{IsOn}
 use Rattle.ds_screen.proofs.ActLaws.{orders_characters}
@@ -33,10 +33,13 @@ orders-preserved g c =
     record {
       rest = λ cells shown.
           let before = c.orders.invariant.rest cells shown in
-          let after = c.in-Ok.ensures.acts before.0 before.1 in (
+          let after = c.in-Ok.ensures.acts before.0 before.1 in
+          let positions : length before.0 ≡ c.positions-n.result = g.met.S.Surface.sized c.orders.surface before.0 before.1 ∙ c.orders.invariant.whole ∙ sym c.positions-n.ensures in
+          let added : c.add_write.new.writes.items ≡ c.orders.writes.items ++ writes_at site (length before.0) c.orders.state.address =
+          subst (λ n. c.add_write.new.writes.items ≡ c.orders.writes.items ++ writes_at site n c.orders.state.address) (sym positions) c.in_ok-add_write-in-Ok.ensures in (
             after.0,
             after.1,
-            writes_on site c.next.new.self (writing before.0 c.orders.state) (writing after.0 c.in-Ok.after) c.orders.writes.items c.add_write.new.writes.items after.2 c.in_ok-add_write-in-Ok.ensures
+            writes_on site c.next.new.self (writing before.0 c.orders.state) (writing after.0 c.in-Ok.after) c.orders.writes.items c.add_write.new.writes.items after.2 added
                 ∙ ap (λ sites. c.orders.writes.items ++ order_writes sites (writing before.0 c.orders.state)) (sym split) ∙ before.2,
           );
       characters = (subst HaveCharacters split c.orders.invariant.characters).1;

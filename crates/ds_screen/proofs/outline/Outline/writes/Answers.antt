@@ -1,9 +1,9 @@
 use Rattle.std.proofs.Common.{◌++◌, ◌∙◌, sym, ap, subst, append-nil}
 use Rattle.std.proofs.lemmas.Result.{on_ok_weaker}
-use Rattle.ds_screen.specs.Writes.{attribute_writes, most_positions}
+use Rattle.ds_screen.specs.Writes.{record_writes, most_positions}
 use Rattle.ds_screen.specs.Outline.{Outlined, outlined, IsOutlineOf}
 use Rattle.ds_screen.proofs.WriteLaws.{outline_writes, outline_writes_none, record_inside, nothing_inside}
-use Rattle.ds_screen.proofs.outline.Outline.attribute_writes.Goals as goal
+use Rattle.ds_screen.proofs.outline.Outline.writes.Goals as goal
 
 pub returns-in_default-clause-added : goal.returns-in_default-clause-added
 returns-in_default-clause-added c = λ v is.
@@ -29,5 +29,5 @@ pub returns-in_default-clause-inside : goal.returns-in_default-clause-inside
 returns-in_default-clause-inside c = λ v is.
     let o : Outlined = outlined c.self.inside.geometry c.self.inside.size c.self.inside.marks c.self.inside.cursor c.self.inside.lock in
     let held : IsOutlineOf o v = subst (λ u. IsOutlineOf u v) (sym c.self.view_is) is in
-    nothing_inside (most_positions v.geometry) (attribute_writes v c.args.outbound.now.command c.args.outbound.now.orders)
+    nothing_inside (most_positions v.geometry) (record_writes v c.args.outbound.now.command c.args.outbound.now.orders)
     (outline_writes_none o v c.args.outbound.now c.command-command.result held c.command-command.ensures (c.in_default.ensures.start v.cells held.marks))
