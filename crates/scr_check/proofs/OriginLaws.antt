@@ -1,21 +1,20 @@
--- Notes on the orders that write attributes: one more, one record more.
-use Rattle.std.proofs.Common.{◌≡◌, ℕ, zero, suc, ◌+◌, ◌<◌, ◌≤◌, cond, eqb, List, [], ◌∷◌, ◌++◌, map, length, set, get_or, drop, replicate, Option, Some, None, Result, Ok, Err, refl, sym, ◌∙◌, ap, arith, inl, inr}
+-- Notes on what the orders write: one more, one record more.
+use Rattle.std.proofs.Common.{◌≡◌, ℕ, zero, suc, ◌+◌, ◌<◌, ◌≤◌, cond, Bool, true, false, List, [], ◌∷◌, ◌++◌, map, length, set, get_or, drop, replicate, Option, Some, None, Result, Ok, Err, refl, sym, ◌∙◌, ap, arith, inl, inr}
 use Rattle.std.proofs.Math.Seq.{drop-cons}
-use Rattle.std.proofs.lemmas.Bool.{cond-true, cond-false, cases_eq, eq-eqb, ne_eqb}
-use Rattle.std.proofs.lemmas.List.{get_or-set_same, get_or-set_other, drop_all}
+use Rattle.std.proofs.lemmas.List.{drop_all}
 use Rattle.ds_codec.specs.declared.refused.Refused as read
 use Rattle.ds_codec.specs.declared.command.Command.{Command}
 use Rattle.ds_codec.specs.Order.{Site}
 use Rattle.ds_codec.specs.Record.{Message}
 use Rattle.ds_codec.specs.Reading.{read_of}
-use Rattle.ds_screen.specs.declared.writes.AttributeWrite.{AttributeWrite}
+use Rattle.ds_screen.specs.declared.writes.Write.{Write}
 use Rattle.ds_screen.specs.declared.refused.Refused as shown
 use Rattle.ds_screen.specs.Picture.{Picture}
 use Rattle.ds_screen.specs.Records.{shown_of}
 use Rattle.scr_check.specs.declared.finding.Finding.{Finding}
 use Rattle.scr_check.specs.declared.origins.Origin.{Origin}
 use Rattle.scr_check.specs.Opening.{command_fault, unless_found, applied, taken}
-use Rattle.scr_check.specs.Origins.{Noted, noted, read_writes, and_later, notes_from, later_or, last_at, kept_at}
+use Rattle.scr_check.specs.Origins.{Noted, noted, covers, read_writes, and_later, notes_from, later_or, last_at, kept_at}
 use Rattle.scr_check.specs.Noting.{Keeps}
 use Rattle.scr_check.proofs.LeadLaws.{shown_geometry}
 
@@ -31,8 +30,8 @@ last_both p [] second = alone (last_at p second)
     alone None = refl
     alone (Some a) = refl
 last_both p (note ∷ first) second =
-    ap (λ o. later_or o (cond (eqb note.place p) (Some note.origin) None)) (last_both p first second)
-    ∙ later_late (last_at p second) (last_at p first) (cond (eqb note.place p) (Some note.origin) None)
+    ap (λ o. later_or o (cond (covers note p) (Some note.origin) None)) (last_both p first second)
+    ∙ later_late (last_at p second) (last_at p first) (cond (covers note p) (Some note.origin) None)
 
 pub keeps_none : (slots : List (Option Origin)) → Keeps [] slots slots
 keeps_none slots p = refl
@@ -44,31 +43,23 @@ keeps_both first second before middle after one two p =
     ∙ ap (λ o. later_or o (kept_at before p)) (sym (last_both p first second))
 
 -- one note
-pub keeps_one : (slots : List (Option Origin)) (note : Noted) → note.place < length slots → Keeps (note ∷ []) slots (set slots note.place (Some note.origin))
-keeps_one slots note lt p =
-    elim (cases_eq note.place p) [
-      | inl same ↦
-          ap (λ q. get_or (set slots note.place (Some note.origin)) q None) (sym same)
-          ∙ get_or-set_same slots note.place (Some note.origin) None lt
-          ∙ sym (ap (λ o. later_or o (kept_at slots p)) (cond-true (eqb note.place p) _ _ (eq-eqb note.place p same)))
-      | inr apart ↦
-          get_or-set_other slots note.place p (Some note.origin) None (λ same. apart (sym same))
-          ∙ sym (ap (λ o. later_or o (kept_at slots p)) (cond-false (eqb note.place p) _ _ (ne_eqb note.place p apart)))
-    ]
+note_covers : (t : Bool) (origin : Origin) (before : Option Origin) → cond t (Some origin) before ≡ later_or (cond t (Some origin) None) before
+note_covers true origin before = refl
+note_covers false origin before = refl
 
 -- ---- one write more of a record
-pub note_more : (index : ℕ) (writes : List AttributeWrite) (i : ℕ) (d : AttributeWrite) (slots : List (Option Origin)) (p : ℕ) → i < length writes → (get_or writes i d).place < length slots
-    → later_or (last_at p (map (noted index) (drop (i + 1) writes))) (kept_at (set slots (get_or writes i d).place (Some (noted index (get_or writes i d)).origin)) p)
-    ≡ later_or (last_at p (map (noted index) (drop i writes))) (kept_at slots p)
-note_more index writes i d slots p lt inside =
+pub note_more : (index : ℕ) (writes : List Write) (i : ℕ) (d : Write) (before after : List (Option Origin)) (p : ℕ) → i < length writes
+    → kept_at after p ≡ cond (covers (noted index (get_or writes i d)) p) (Some (noted index (get_or writes i d)).origin) (kept_at before p)
+    → later_or (last_at p (map (noted index) (drop (i + 1) writes))) (kept_at after p) ≡ later_or (last_at p (map (noted index) (drop i writes))) (kept_at before p)
+note_more index writes i d before after p lt is =
     let note : Noted = noted index (get_or writes i d) in
     let others : Option Origin = last_at p (map (noted index) (drop (suc i) writes)) in
-    ap (λ k. later_or (last_at p (map (noted index) (drop k writes))) (kept_at (set slots note.place (Some note.origin)) p)) (let e : i + 1 ≡ suc i = omega arith in e)
-    ∙ ap (later_or others) (keeps_one slots note inside p)
-    ∙ sym (later_late others (cond (eqb note.place p) (Some note.origin) None) (kept_at slots p))
-    ∙ sym (ap (λ l. later_or (last_at p (map (noted index) l)) (kept_at slots p)) (drop-cons writes i d lt))
+    ap (λ k. later_or (last_at p (map (noted index) (drop k writes))) (kept_at after p)) (let e : i + 1 ≡ suc i = omega arith in e)
+    ∙ ap (later_or others) (is ∙ note_covers (covers note p) note.origin (kept_at before p))
+    ∙ sym (later_late others (cond (covers note p) (Some note.origin) None) (kept_at before p))
+    ∙ sym (ap (λ l. later_or (last_at p (map (noted index) l)) (kept_at before p)) (drop-cons writes i d lt))
 
-pub note_ends : (index : ℕ) (writes : List AttributeWrite) (i : ℕ) (slots : List (Option Origin)) (p : ℕ) → length writes ≤ i
+pub note_ends : (index : ℕ) (writes : List Write) (i : ℕ) (slots : List (Option Origin)) (p : ℕ) → length writes ≤ i
     → kept_at slots p ≡ later_or (last_at p (map (noted index) (drop i writes))) (kept_at slots p)
 note_ends index writes i slots p le = sym (ap (λ l. later_or (last_at p (map (noted index) l)) (kept_at slots p)) (drop_all i writes le))
 

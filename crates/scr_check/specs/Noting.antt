@@ -1,5 +1,5 @@
 -- For the code's own proofs: no public contract rests on this file.
--- Notes on the orders that write attributes, kept as the records are taken.
+-- Notes on what the orders write, kept as the records are taken.
 use Rattle.std.specs.Prelude.{◌≡◌, ℕ, ◌≤◌, true, false, Bool, List, map, length, Option}
 use Rattle.ds_codec.specs.Reading.{read_of}
 use Rattle.ds_screen.specs.Picture.{Picture}

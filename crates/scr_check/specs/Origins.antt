@@ -1,30 +1,35 @@
--- Where the attributes of a screen come from: the order that wrote each of them last.
-use Rattle.std.specs.Prelude.{◌≡◌, ℕ, ◌+◌, ◌==◌, List, [], ◌∷◌, ◌++◌, map, slice_index_or, Option, Some, None, Result, Ok, Err, if◌then◌else◌}
+-- Where what stands on a screen comes from: the order that wrote last at each position.
+use Rattle.std.specs.Prelude.{◌≡◌, ℕ, ◌+◌, Bool, ◌&&◌, nat_le, nat_lt, List, [], ◌∷◌, ◌++◌, map, slice_index_or, Option, Some, None, Result, Ok, Err, if◌then◌else◌}
 use Rattle.ds_codec.specs.declared.refused.Refused as read
 use Rattle.ds_codec.specs.Record.{Message}
 use Rattle.ds_codec.specs.Reading.{read_of}
-use Rattle.ds_screen.specs.declared.writes.AttributeWrite.{AttributeWrite}
+use Rattle.ds_screen.specs.declared.writes.Write.{Write}
 use Rattle.ds_screen.specs.Picture.{Picture}
 use Rattle.ds_screen.specs.Records.{new_picture}
-use Rattle.ds_screen.specs.Writes.{attribute_writes}
+use Rattle.ds_screen.specs.Writes.{record_writes}
 use Rattle.scr_layout.specs.Layout.{Declaration}
 use Rattle.scr_check.specs.declared.finding.Finding.{Finding}
 use Rattle.scr_check.specs.declared.origins.Origin.{Origin}
 use Rattle.scr_check.specs.Opening.{taken}
 
--- an attribute that was written at a place, and the order that wrote it
+-- positions in a row, and the order that stored into them
 pub record Noted : Type 0 where
   pub place : ℕ
+  pub count : ℕ
   pub origin : Origin
 
 -- what the record of this number wrote
-abbrev pub noted : ℕ → AttributeWrite → Noted
-noted index write = record { place = write.place; origin = record { index = index; at = write.at } }
+abbrev pub noted : ℕ → Write → Noted
+noted index write = record { place = write.place; count = write.count; origin = record { index = index; at = write.at } }
 
--- the attributes that a record writes on a picture, if it can be read
-abbrev pub read_writes : Picture → Result Message read.Refused → List AttributeWrite
+-- whether a position is one of them
+abbrev pub covers : Noted → ℕ → Bool
+covers note p = nat_le note.place p && nat_lt p (note.place + note.count)
+
+-- what a record writes on a picture, if it can be read
+abbrev pub read_writes : Picture → Result Message read.Refused → List Write
 read_writes v (Err refused) = []
-read_writes v (Ok message) = attribute_writes v message.command message.orders
+read_writes v (Ok message) = record_writes v message.command message.orders
 
 -- what a record writes, and then what the records after it write on the picture that it leaves; nothing from the first
 -- one on against which something stands
@@ -47,9 +52,9 @@ later_or (Some later) earlier = Some later
 -- the order that wrote last at a position
 abbrev pub last_at : ℕ → List Noted → Option Origin
 last_at p [] = None
-last_at p (note ∷ notes) = later_or (last_at p notes) (if note.place == p then Some note.origin else None)
+last_at p (note ∷ notes) = later_or (last_at p notes) (if covers note p then Some note.origin else None)
 
--- the order that wrote an attribute last at a position, of all records on a new terminal of the layout's geometry
+-- the order that wrote last at a position, a character or an attribute, of all records on a new terminal of the layout's geometry
 abbrev pub origin_of : Declaration → List (List ℕ) → ℕ → Option Origin
 origin_of layout records p = last_at p (notes_from 0 (new_picture layout.geometry) records)
 

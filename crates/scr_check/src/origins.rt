@@ -1,17 +1,17 @@
-//! Where the attributes of a screen come from: the order that wrote each of them last.
+//! Where what stands on a screen comes from: the order that wrote last at each position.
 
-ghost use Rattle.std.specs.Prelude.{◌≡◌, ◌<◌, ℕ, map, length, true, All, IfOk, OnOk};
+ghost use Rattle.std.specs.Prelude.{◌≡◌, ◌≤◌, ◌+◌, ◌&&◌, ℕ, map, length, nat_le, nat_lt, if◌then◌else◌, true, All, Some, IfOk, OnOk};
 ghost use Rattle.ds_codec.specs.Reading.{read_of};
 ghost use Rattle.ds_screen.specs.Picture.{Picture};
 ghost use Rattle.ds_screen.specs.Outline.{IsOutlineOf};
 ghost use Rattle.ds_screen.specs.Writes.{most_positions};
-ghost use Rattle.scr_check.specs.Origins.{noted, read_writes, notes_from, AreOrigins};
+ghost use Rattle.scr_check.specs.Origins.{noted, read_writes, notes_from, kept_at, AreOrigins};
 ghost use Rattle.scr_check.specs.Noting.{HasSlots, Keeps, NotesOn};
 
 use crate::opening::FirstTurn;
 use crate::taking::take;
 use ds_codec::Record;
-use ds_screen::{AttributeWrite, Outline};
+use ds_screen::{Outline, Write};
 use scr_layout::Layout;
 use std::alloc::{AllocError, Global};
 use std::marker::Model;
@@ -25,7 +25,7 @@ pub struct Origin {
     pub at: usize,
 }
 
-/// For each position the order that wrote an attribute there last.
+/// For each position the order that wrote there last.
 #[derive(Drop)]
 pub struct Origins {
     slots: Vec<Option<Origin>>,
@@ -44,8 +44,8 @@ impl Origins {
     ghost use Rattle.std.specs.Prelude.{◌≡◌};
     ghost use Rattle.scr_check.specs.Origins.{kept_at};
 
-    /// The order that wrote an attribute last at a position, counted from 0: `None` where no order did, and past the
-    /// larger size. The attribute may since have been written over. Takes one look.
+    /// The order that wrote last at a position, counted from 0, a character or an attribute: `None` where no order did,
+    /// and past the larger size. What it wrote may since have been erased. Takes one look.
     pub fn at(&self, position: u32) -> Option<Origin>
         ensures { result ≡ kept_at self.now position }
     {
@@ -63,37 +63,51 @@ impl Origins {
     }
 }
 
-/// Makes the list that of the attributes that a record is to write; empty where it can't be read.
+/// Makes the list that of what a record is to write; empty where it can't be read.
 fn list_writes(
     outline: &mut Outline,
     bytes: &[u8],
-    writes: &mut Vec<AttributeWrite>,
+    writes: &mut Vec<Write>,
 ) -> Result<(), AllocError>
     ensures listed { OnOk result ((v : Picture) → IsOutlineOf outline.old v
         → writes.new.items ≡ read_writes v (read_of v.geometry.mode bytes.now)) }
     ensures inside { OnOk result ((v : Picture) → IsOutlineOf outline.old v
-        → All (λ write. write.place < most_positions v.geometry) writes.new.items) }
+        → All (λ write. write.place + write.count ≤ most_positions v.geometry) writes.new.items) }
     ensures unchanged { outline.new ≡ outline.old }
 {
     writes.clear();
     match Record::read(outline.geometry().mode(), bytes) {
-        Ok(record) => outline.attribute_writes(&record, writes),
+        Ok(record) => outline.writes(&record, writes),
         Err(_) => Ok(()),
     }
 }
 
+/// Notes an order at the positions from one up to another.
+fn note_part(slots: &mut [Option<Origin>], from: usize, to: usize, origin: Origin)
+    requires order { from ≤ to }
+    requires inside { to ≤ length slots.old }
+    ensures noted { (p : ℕ) → kept_at slots.new p
+        ≡ (if nat_le from p && nat_lt p to then Some origin else kept_at slots.old p) }
+    ensures whole { length slots.new ≡ length slots.old }
+{
+    'positions: for i in from..to {
+        slots[i] = Some(origin);
+    }
+}
+
 /// Notes what the record of this number wrote, from first to last.
-fn note_writes(slots: &mut Vec<Option<Origin>>, index: usize, writes: &[AttributeWrite])
-    requires { All (λ write. write.place < length slots.old.items) writes.now }
-    ensures noted { Keeps (map (noted index) writes.now) slots.old.items slots.new.items }
-    ensures whole { length slots.new.items ≡ length slots.old.items }
+fn note_writes(slots: &mut [Option<Origin>], index: usize, writes: &[Write])
+    requires { All (λ write. write.place + write.count ≤ length slots.old) writes.now }
+    ensures noted { Keeps (map (noted index) writes.now) slots.old slots.new }
+    ensures whole { length slots.new ≡ length slots.old }
 {
     for write in writes {
         let origin = Origin {
             index,
             at: write.at,
         };
-        slots[write.place as usize] = Some(origin);
+        let from = write.place as usize;
+        note_part(slots, from, from + write.count as usize, origin);
     }
 }
 
@@ -102,7 +116,7 @@ fn take_noting(
     outline: &mut Outline,
     index: usize,
     bytes: &[u8],
-    writes: &mut Vec<AttributeWrite>,
+    writes: &mut Vec<Write>,
     slots: &mut Vec<Option<Origin>>,
 ) -> Result<bool, AllocError>
     requires { HasSlots outline.old slots.old.items }
@@ -140,8 +154,7 @@ fn note_all(
     Ok(())
 }
 
-/// For each position of a new terminal of the layout's geometry, the order that wrote an attribute there last when the
-/// records are taken in turn as `check` takes them, up to the first against which something stands. Builds no
+/// For each position of a new terminal of the layout's geometry, the order that wrote there last when the records are taken in turn as `check` takes them, up to the first against which something stands. Builds no
 /// screen, reads each record twice, and takes time for the records' bytes and the positions of the larger size.
 ///
 /// # Errors
