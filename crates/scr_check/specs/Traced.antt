@@ -1,6 +1,5 @@
 -- The orders that a finding comes from.
 use Rattle.std.specs.Prelude.{ℕ, List, slice_get, Option, Some, None, option_map, option_and_then, Result, Ok, Err}
-use Rattle.ds_codec.specs.declared.cell.Cell.{Cell}
 use Rattle.ds_codec.specs.declared.size.Size.{Size}
 use Rattle.ds_codec.specs.Geometry.{cells_of}
 use Rattle.ds_screen.specs.declared.field.FieldAt.{FieldAt}

@@ -83,12 +83,12 @@ fn list_writes(
 }
 
 /// Notes an order at the positions from one up to another.
-fn note_part(slots: &mut [Option<Origin>], from: usize, to: usize, origin: Origin)
+fn note_part(slots: &mut Vec<Option<Origin>>, from: usize, to: usize, origin: Origin)
     requires order { from ≤ to }
-    requires inside { to ≤ length slots.old }
-    ensures noted { (p : ℕ) → kept_at slots.new p
-        ≡ (if nat_le from p && nat_lt p to then Some origin else kept_at slots.old p) }
-    ensures whole { length slots.new ≡ length slots.old }
+    requires inside { to ≤ length slots.old.items }
+    ensures noted { (p : ℕ) → kept_at slots.new.items p
+        ≡ (if nat_le from p && nat_lt p to then Some origin else kept_at slots.old.items p) }
+    ensures whole { length slots.new.items ≡ length slots.old.items }
 {
     'positions: for i in from..to {
         slots[i] = Some(origin);
@@ -96,10 +96,10 @@ fn note_part(slots: &mut [Option<Origin>], from: usize, to: usize, origin: Origi
 }
 
 /// Notes what the record of this number wrote, from first to last.
-fn note_writes(slots: &mut [Option<Origin>], index: usize, writes: &[Write])
-    requires { All (λ write. write.place + write.count ≤ length slots.old) writes.now }
-    ensures noted { Keeps (map (noted index) writes.now) slots.old slots.new }
-    ensures whole { length slots.new ≡ length slots.old }
+fn note_writes(slots: &mut Vec<Option<Origin>>, index: usize, writes: &[Write])
+    requires { All (λ write. write.place + write.count ≤ length slots.old.items) writes.now }
+    ensures noted { Keeps (map (noted index) writes.now) slots.old.items slots.new.items }
+    ensures whole { length slots.new.items ≡ length slots.old.items }
 {
     for write in writes {
         let origin = Origin {

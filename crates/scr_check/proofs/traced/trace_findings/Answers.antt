@@ -1,4 +1,4 @@
-use Rattle.std.proofs.Common.{rules, ◌≡◌, ℕ, List, map, ◌∙◌}
+use Rattle.std.proofs.Common.{ℕ, List, map, ◌∙◌}
 use Rattle.scr_layout.specs.Layout.{Declaration}
 use Rattle.scr_check.specs.Opening.{opening_of}
 use Rattle.scr_check.specs.Origins.{origin_of, kept_at}
