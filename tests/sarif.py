@@ -37,6 +37,10 @@ def faults_of_result(result, rules):
     if not uri or any(c not in "-._~/:%" and not (c.isascii() and c.isalnum()) for c in uri):
         yield f"uri {uri}"
     yield from faults_of_region(place["region"])
+    for related in result.get("relatedLocations", []):
+        if not related["message"].get("text") or related["physicalLocation"]["artifactLocation"]["uri"] != uri:
+            yield "a related location without a text, or in another file"
+        yield from faults_of_region(related["physicalLocation"]["region"])
 
 
 def faults_of_log(log, version):

@@ -30,7 +30,7 @@ class Answer(NamedTuple):
 class Finding(SimpleNamespace):
     """What stands against records: number, name and words, and where it applies its record, its place, its entry, and the
     keys that show it with what the terminal sends then (bytes): docs/FINDINGS.md has them. What doesn't apply is None."""
-    record = line = byte = place = row = column = entry = declared = length = size = layout = keys = sends = None
+    record = line = byte = end = place = row = column = entry = declared = length = size = layout = keys = sends = None
 
 
 def _call(name, *inputs):

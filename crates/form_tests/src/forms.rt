@@ -4,6 +4,7 @@ use anyhow::{Context, Result};
 use std::alloc::Global;
 use term_commands::{Answer, CommandError, Status, printed};
 use term_drafts::{draft_text, run_draft};
+use term_findings::{Paths, Report, report_texts, run_report};
 use term_pictures::{Annotated, Drawing, annotated_text, picture_text, run_annotated, run_picture};
 
 /// What is printed of records.
@@ -12,6 +13,7 @@ pub(crate) enum Form {
     Drawn(Drawing),
     Annotated(Annotated),
     Draft,
+    Reported(Report<'static>),
 }
 
 /// The form of a name.
@@ -24,6 +26,11 @@ pub(crate) fn form_of(name: &str) -> Option<Form> {
         "svg-layout" => Some(Form::Annotated(Annotated::Svg)),
         "html-layout" => Some(Form::Annotated(Annotated::Html)),
         "draft" => Some(Form::Draft),
+        "findings" => Some(Form::Reported(Report::Json)),
+        "log" => Some(Form::Reported(Report::Sarif(Paths {
+            layout: "code.toml",
+            records: "stdin",
+        }))),
         _ => None,
     }
 }
@@ -43,6 +50,7 @@ pub(crate) fn written(alloc: Global, form: Form, input: &str) -> Result<(String,
         Form::Drawn(drawing) => run_picture(alloc, drawing, &mut reader, &mut text),
         Form::Annotated(form) => run_annotated(alloc, form, &mut layout, &mut reader, &mut text),
         Form::Draft => run_draft(alloc, &mut reader, &mut text),
+        Form::Reported(report) => run_report(alloc, report, &mut layout, &mut reader, &mut text),
     };
     Ok((String::from_utf8(text)?, status))
 }
@@ -54,6 +62,12 @@ fn answered(alloc: Global, form: Form, input: &str) -> Result<Answer, CommandErr
         Form::Drawn(drawing) => picture_text(alloc, drawing, records.as_bytes()),
         Form::Annotated(form) => annotated_text(alloc, form, layout.as_bytes(), records.as_bytes()),
         Form::Draft => draft_text(alloc, records.as_bytes()),
+        Form::Reported(report) => report_texts(
+            alloc,
+            report,
+            layout.as_bytes(),
+            records.as_bytes(),
+        ),
     }
 }
 

@@ -5,3 +5,4 @@ mod Logged
 mod Places
 mod Limited
 mod Helped
+mod SameFound

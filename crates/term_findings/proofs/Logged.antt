@@ -5,16 +5,17 @@ use Rattle.serde_json.specs.Read.{max_depth}
 use Rattle.serde_json.specs.View.{items_of}
 use Rattle.serde_json.specs.Written.{has_float, items_have_float}
 use Rattle.scr_layout.specs.Layout.{Declaration}
-use Rattle.scr_check.specs.declared.finding.Finding.{Finding}
+use Rattle.scr_check.specs.declared.origins.Origin.{Origin}
+use Rattle.scr_check.specs.declared.traced.Traced.{Traced}
 use Rattle.term_commands.specs.declared.fault.Fault.{Fault}
 use Rattle.term_commands.specs.Fault.{fault_text}
 use Rattle.term_findings.specs.declared.region.Columns.{Columns}
 use Rattle.term_findings.specs.declared.region.Region.{Region}
 use Rattle.term_findings.specs.declared.rule.Rule.{Rule}
 use Rattle.term_findings.specs.declared.rule.Rule.TheVariants.{InputRefused}
-use Rattle.term_findings.specs.Region.{finding_region}
+use Rattle.term_findings.specs.Region.{finding_region, order_region}
 use Rattle.term_findings.specs.Rule.{all_rules, rule_of}
-use Rattle.term_findings.specs.Sarif.{rule_data, tool_data, columns_region, result_data, message_of, finding_result, findings_data, refusal_results, log_data}
+use Rattle.term_findings.specs.Sarif.{rule_data, tool_data, columns_region, end_data, result_data, message_of, end_of, finding_result, findings_data, refusal_results, log_data}
 
 -- ---- lists
 
@@ -54,24 +55,51 @@ region_nests : (line : ℕ) (columns : Option Columns) → depth (columns_region
 region_nests line None = omega arith
 region_nests line (Some columns) = omega arith
 
-result_plain : (rule : Rule) (path : List ℕ) (region : Region) (text : List ℕ) → has_float (result_data rule path region text) ≡ false
+result_plain : (rule : Rule) (path : List ℕ) (region : Region) (text : List ℕ) → has_float (result_data rule path region text None) ≡ false
 unfolding result_data
 result_plain rule path region text = rw (region_plain region.line region.columns) refl
 
-result_nests : (rule : Rule) (path : List ℕ) (region : Region) (text : List ℕ) → depth (result_data rule path region text) ≤ 6
+related_plain : (rule : Rule) (path : List ℕ) (region : Region) (text : List ℕ) (ends : Region)
+    → has_float (result_data rule path region text (Some (end_data path ends))) ≡ false
+unfolding result_data
+related_plain rule path region text ends = rw (region_plain region.line region.columns, region_plain ends.line ends.columns) refl
+
+result_nests : (rule : Rule) (path : List ℕ) (region : Region) (text : List ℕ) → depth (result_data rule path region text None) ≤ 6
 unfolding result_data
 result_nests rule path region text = omega (arith, region_nests region.line region.columns)
 
-pub findings_plain : (path : List ℕ) (layout : Declaration) (input : List ℕ) (findings : List Finding)
-    → has_float (findings_data path layout input findings) ≡ false
-findings_plain path layout input findings =
-    none_floats (finding_result path layout input) (λ finding. result_plain (rule_of finding) path (finding_region input finding) (message_of layout finding)) findings
+related_nests : (rule : Rule) (path : List ℕ) (region : Region) (text : List ℕ) (ends : Region)
+    → depth (result_data rule path region text (Some (end_data path ends))) ≤ 6
+unfolding result_data
+related_nests rule path region text ends = omega (arith, region_nests region.line region.columns, region_nests ends.line ends.columns)
 
-pub findings_nest : (path : List ℕ) (layout : Declaration) (input : List ℕ) (findings : List Finding)
+ended_plain : (rule : Rule) (path : List ℕ) (region : Region) (text input : List ℕ) (end : Option Origin)
+    → has_float (result_data rule path region text (end_of path input end)) ≡ false
+ended_plain rule path region text input None = result_plain rule path region text
+ended_plain rule path region text input (Some origin) = related_plain rule path region text (order_region input origin)
+
+ended_nests : (rule : Rule) (path : List ℕ) (region : Region) (text input : List ℕ) (end : Option Origin)
+    → depth (result_data rule path region text (end_of path input end)) ≤ 6
+ended_nests rule path region text input None = result_nests rule path region text
+ended_nests rule path region text input (Some origin) = related_nests rule path region text (order_region input origin)
+
+finding_is_plain : (path : List ℕ) (layout : Declaration) (input : List ℕ) (traced : Traced) → has_float (finding_result path layout input traced) ≡ false
+finding_is_plain path layout input traced =
+    ended_plain (rule_of traced.finding) path (finding_region input traced) (message_of layout traced.finding) input traced.end
+
+finding_is_flat : (path : List ℕ) (layout : Declaration) (input : List ℕ) (traced : Traced) → depth (finding_result path layout input traced) ≤ 6
+finding_is_flat path layout input traced =
+    ended_nests (rule_of traced.finding) path (finding_region input traced) (message_of layout traced.finding) input traced.end
+
+pub findings_plain : (path : List ℕ) (layout : Declaration) (input : List ℕ) (findings : List Traced)
+    → has_float (findings_data path layout input findings) ≡ false
+findings_plain path layout input findings = none_floats (finding_result path layout input) (finding_is_plain path layout input) findings
+
+pub findings_nest : (path : List ℕ) (layout : Declaration) (input : List ℕ) (findings : List Traced)
     → depth (findings_data path layout input findings) ≤ 8
 findings_nest path layout input findings =
     let few : items_depth (items_of (map (finding_result path layout input) findings)) ≤ 6 =
-    all_nest (finding_result path layout input) 6 (λ finding. result_nests (rule_of finding) path (finding_region input finding) (message_of layout finding)) findings
+    all_nest (finding_result path layout input) 6 (finding_is_flat path layout input) findings
     in omega (arith, few)
 
 pub refusal_plain : (path : List ℕ) (line : ℕ) (fault : Fault) → has_float (refusal_results path line fault) ≡ false

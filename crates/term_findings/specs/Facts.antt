@@ -8,22 +8,35 @@ use Rattle.scr_layout.specs.Entry.{Declared}
 use Rattle.scr_check.specs.declared.finding.Demo.{Demo}
 use Rattle.scr_check.specs.declared.finding.Finding.{Finding}
 use Rattle.scr_check.specs.declared.finding.Finding.TheVariants.{RecordRefused, FirstNotErase, NotAWrite, OtherSize, Undeclared, UndeclaredFixed, Missing, TooLong, OtherKind, EmptyModified, CursorDependent}
+use Rattle.scr_check.specs.declared.traced.Traced.{Traced}
 use Rattle.term_commands.specs.DemoLines.{bytes_replayed}
+
+abbrev pub or_else : Option ℕ → Option ℕ → Option ℕ
+or_else (Some n) other = Some n
+or_else None other = other
 
 -- ---- the record
 
--- the record that it is about, counted from 0
-abbrev pub record_of : Finding → Option ℕ
-record_of (RecordRefused index refused) = Some index
-record_of FirstNotErase = Some 0
-record_of (NotAWrite index) = Some index
-record_of (CursorDependent index) = Some index
-record_of finding = None
+-- the record that a finding tells by itself, counted from 0
+abbrev pub record_told : Finding → Option ℕ
+record_told (RecordRefused index refused) = Some index
+record_told FirstNotErase = Some 0
+record_told (NotAWrite index) = Some index
+record_told (CursorDependent index) = Some index
+record_told finding = None
 
--- the byte of the record at which it is refused, counted from 0
-abbrev pub byte_of : Finding → Option ℕ
-byte_of (RecordRefused index refused) = Some (refused_at refused)
-byte_of finding = None
+-- the byte of that record at which it is refused, counted from 0
+abbrev pub byte_told : Finding → Option ℕ
+byte_told (RecordRefused index refused) = Some (refused_at refused)
+byte_told finding = None
+
+-- the record that it is about: the one that it tells, or that of the order from which it comes
+abbrev pub record_of : Traced → Option ℕ
+record_of traced = or_else (record_told traced.finding) (option_map (λ origin. origin.index) traced.origin)
+
+-- the byte of that record: the one that it tells, or the order's first
+abbrev pub byte_of : Traced → Option ℕ
+byte_of traced = or_else (byte_told traced.finding) (option_map (λ origin. origin.at) traced.origin)
 
 -- ---- the field
 
@@ -43,10 +56,6 @@ field_place (Undeclared place demo) = Some place
 field_place (UndeclaredFixed place demo) = Some place
 field_place (EmptyModified place) = Some place
 field_place finding = None
-
-abbrev pub or_else : Option ℕ → Option ℕ → Option ℕ
-or_else (Some place) other = Some place
-or_else None other = other
 
 -- the buffer address of the first character of the field, or of the entry
 abbrev pub place_of : List Declared → Finding → Option ℕ

@@ -4,8 +4,7 @@ use Rattle.serde_json.specs.Data.{Data}
 use Rattle.serde_json.specs.Written.{compact_text}
 use Rattle.ds_codec.specs.Reading.{◌>>=◌}
 use Rattle.scr_layout.specs.Layout.{Declaration}
-use Rattle.scr_check.specs.declared.finding.Finding.{Finding}
-use Rattle.scr_check.specs.Findings.{answer_of}
+use Rattle.scr_check.specs.declared.traced.Traced.{Traced}
 use Rattle.term_commands.specs.declared.fault.Fault.{Fault}
 use Rattle.term_commands.specs.declared.input.sizes.SizeLine.TheVariants.{Refused}
 use Rattle.term_commands.specs.declared.status.Status.TheVariants.{BadInput}
@@ -14,12 +13,12 @@ use Rattle.term_commands.specs.Lines.{within_limit}
 use Rattle.term_commands.specs.Printed.{Printed, printed}
 use Rattle.term_commands.specs.Records.{records_in}
 use Rattle.term_findings.specs.declared.paths.Paths.{Paths}
-use Rattle.term_findings.specs.Lines.{data_line, status_of}
+use Rattle.term_findings.specs.Lines.{data_line, found_in, status_of}
 use Rattle.term_findings.specs.Region.{line_in, line_of_fault}
 use Rattle.term_findings.specs.Sarif.{findings_log_data, refusal_log_data}
 
 -- findings stand in the file of the records
-abbrev pub log_findings : Paths → Declaration → List ℕ → List Finding → Printed
+abbrev pub log_findings : Paths → Declaration → List ℕ → List Traced → Printed
 log_findings paths layout input findings = printed (data_line (findings_log_data paths.records.now layout input findings)) (status_of findings)
 
 -- the input of this path is refused at a line
@@ -27,7 +26,7 @@ abbrev pub refused_log : List ℕ → ℕ → Fault → Printed
 refused_log path line fault = printed (data_line (refusal_log_data path line fault)) BadInput
 
 abbrev pub log_within : Paths → Declaration → List ℕ → Result Printed Fault
-log_within paths layout text = records_in Refused text >>= λ told. Ok (log_findings paths layout text (answer_of layout told.records))
+log_within paths layout text = records_in Refused text >>= λ told. Ok (log_findings paths layout text (found_in layout told.records))
 
 -- records within their limit
 abbrev pub log_records : Paths → Declaration → Result (List ℕ) Fault → Result Printed Fault

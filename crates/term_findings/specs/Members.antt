@@ -1,6 +1,7 @@
 -- A finding as a JSON object. Its members are in the order of their keys, and a key that doesn't apply is left out.
-use Rattle.std.specs.Prelude.{ℕ, List, codes, Option, Some, None, option_map, option_and_then}
-use Rattle.serde_json.specs.Data.{Data, number, unsigned, string, object, Members, no_members, member, put}
+use Rattle.std.specs.Prelude.{ℕ, ◌==◌, List, [], ◌∷◌, ◌++◌, codes, Option, Some, None, option_map, option_and_then, if◌then◌else◌}
+use Rattle.serde_json.specs.Data.{Data, number, unsigned, string, array, object, Members, no_members, member, put}
+use Rattle.serde_json.specs.View.{items_of}
 use Rattle.hex.specs.Hex.{encode_upper}
 use Rattle.ds_codec.specs.declared.size.Size.{Size}
 use Rattle.ds_screen.specs.Picture.{Picture}
@@ -8,6 +9,8 @@ use Rattle.scr_layout.specs.Entry.{Declared}
 use Rattle.scr_layout.specs.Layout.{Declaration}
 use Rattle.scr_check.specs.declared.finding.Demo.{Demo}
 use Rattle.scr_check.specs.declared.finding.Finding.{Finding}
+use Rattle.scr_check.specs.declared.origins.Origin.{Origin}
+use Rattle.scr_check.specs.declared.traced.Traced.{Traced}
 use Rattle.scr_check.specs.FindingText.{demo_of, finding_number, finding_text}
 use Rattle.term_findings.specs.Facts.{record_of, byte_of, entry_of, place_of, row_at, column_at, length_of, sizes_of, size_text, sent_from}
 use Rattle.term_findings.specs.Help.{help_of}
@@ -34,11 +37,19 @@ with_words entries finding members =
     with_text (codes "words") (Some (finding_text entries finding))
     (with_text (codes "name") (Some (name_of finding)) (with_count (codes "number") (Some (finding_number finding)) members))
 
--- the record, its line in the input, and the byte
-abbrev pub with_record : List ℕ → Finding → Members → Members
-with_record input finding members =
-    with_count (codes "byte") (byte_of finding)
-    (with_count (codes "line") (option_and_then (record_line input) (record_of finding)) (with_count (codes "record") (record_of finding) members))
+-- a record, its line in the input, and a byte of it
+abbrev pub with_spot : List ℕ → Option ℕ → Option ℕ → Members → Members
+with_spot input index byte members =
+    with_count (codes "byte") byte
+    (with_count (codes "line") (option_and_then (record_line input) index) (with_count (codes "record") index members))
+
+-- where an order stands
+abbrev pub spot_data : List ℕ → Origin → Data
+spot_data input origin = object (with_spot input (Some origin.index) (Some origin.at) no_members)
+
+-- the order that ends the field
+abbrev pub with_end : List ℕ → Option Origin → Members → Members
+with_end input end members = with_some (codes "end") (option_map (spot_data input) end) members
 
 -- where the field begins
 abbrev pub with_place : Size → Option ℕ → Members → Members
@@ -57,8 +68,16 @@ abbrev pub with_sizes : Option (Size × Size) → Members → Members
 with_sizes sizes members =
     with_text (codes "layout") (option_map (λ both. size_text both.1) sizes) (with_text (codes "size") (option_map (λ both. size_text both.0) sizes) members)
 
+-- a key as a line of keys, with how often it is pressed
+abbrev pub key_data : List ℕ → ℕ → Data
+key_data line times = object (member (codes "key") (string line) (member (codes "times") (number (unsigned times)) no_members))
+
+-- nothing of a key that isn't pressed
+abbrev pub pressed : List ℕ → ℕ → List Data
+pressed line times = if times == 0 then [] else (key_data line times ∷ [])
+
 abbrev pub keys_data : Demo → Data
-keys_data demo = object (member (codes "right") (number (unsigned demo.rights)) (member (codes "type") (number (unsigned demo.types)) no_members))
+keys_data demo = array (items_of (pressed (codes "right") demo.rights ++ (pressed (codes "type C1") demo.types ++ pressed (codes "enter") 1)))
 
 -- the keys that show it, and what they send
 abbrev pub with_keys : Option Picture → Option Demo → Members → Members
@@ -72,8 +91,9 @@ with_help layout finding members = with_text (codes "help") (help_of layout find
 -- ---- the object
 
 -- a finding of records that leave this picture, in this text
-abbrev pub finding_data : Declaration → List ℕ → Option Picture → Finding → Data
-finding_data layout input opened finding =
-    object (with_help layout finding (with_keys opened (demo_of finding)
-    (with_sizes (sizes_of finding)
-    (with_entry layout.entries finding (with_place layout.size (place_of layout.entries finding) (with_record input finding (with_words layout.entries finding no_members)))))))
+abbrev pub finding_data : Declaration → List ℕ → Option Picture → Traced → Data
+finding_data layout input opened traced =
+    object (with_help layout traced.finding (with_keys opened (demo_of traced.finding)
+    (with_sizes (sizes_of traced.finding)
+    (with_entry layout.entries traced.finding (with_place layout.size (place_of layout.entries traced.finding)
+    (with_end input traced.end (with_spot input (record_of traced) (byte_of traced) (with_words layout.entries traced.finding no_members))))))))

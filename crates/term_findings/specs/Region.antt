@@ -1,6 +1,7 @@
 -- Where a finding or a refusal stands in the text of an input: its line, and the columns of a byte where one is known.
 use Rattle.std.specs.Prelude.{ℕ, ◌+◌, ◌*◌, Bool, true, false, not, ◌&&◌, ◌==◌, List, [], ◌∷◌, codes, slice_get, Option, Some, None, option_map, option_and_then, unwrap_or, Result, Ok, Err}
-use Rattle.scr_check.specs.declared.finding.Finding.{Finding}
+use Rattle.scr_check.specs.declared.origins.Origin.{Origin}
+use Rattle.scr_check.specs.declared.traced.Traced.{Traced}
 use Rattle.term_commands.specs.declared.fault.Fault.{Fault}
 use Rattle.term_commands.specs.declared.fault.Fault.TheVariants.{BadLine, LayoutRefused}
 use Rattle.term_commands.specs.Lines.{lines_in}
@@ -28,16 +29,21 @@ columns_of start last = option_and_then (λ column. option_map (λ end_column. r
 abbrev pub byte_columns : List ℕ → ℕ → Option Columns
 byte_columns line byte = columns_of (digit_column line (2 * byte)) (digit_column line (2 * byte + 1))
 
-abbrev pub finding_columns : List ℕ → Finding → Option Columns
-finding_columns input finding =
-    option_and_then (λ line. option_and_then (byte_columns line) (byte_of finding)) (option_and_then (record_text input) (record_of finding))
+abbrev pub spot_columns : List ℕ → Option ℕ → Option ℕ → Option Columns
+spot_columns input index byte = option_and_then (λ line. option_and_then (byte_columns line) byte) (option_and_then (record_text input) index)
+
+-- the line of a record, or the first, and the columns of a byte of it
+abbrev pub spot_region : List ℕ → Option ℕ → Option ℕ → Region
+spot_region input index byte = record { line = unwrap_or (option_and_then (record_line input) index) 1; columns = spot_columns input index byte }
 
 -- ---- a finding
 
--- the line of its record, or the first
-abbrev pub finding_region : List ℕ → Finding → Region
-finding_region input finding =
-    record { line = unwrap_or (option_and_then (record_line input) (record_of finding)) 1; columns = finding_columns input finding }
+abbrev pub finding_region : List ℕ → Traced → Region
+finding_region input traced = spot_region input (record_of traced) (byte_of traced)
+
+-- where an order begins
+abbrev pub order_region : List ℕ → Origin → Region
+order_region input origin = spot_region input (Some origin.index) (Some origin.at)
 
 -- ---- a refusal
 

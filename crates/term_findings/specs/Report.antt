@@ -5,8 +5,7 @@ use Rattle.serde_json.specs.Data.{Data, number, unsigned, string, object, member
 use Rattle.ds_codec.specs.Reading.{◌>>=◌}
 use Rattle.ds_screen.specs.Picture.{Picture}
 use Rattle.scr_layout.specs.Layout.{Declaration}
-use Rattle.scr_check.specs.declared.finding.Finding.{Finding}
-use Rattle.scr_check.specs.Findings.{answer_of}
+use Rattle.scr_check.specs.declared.traced.Traced.{Traced}
 use Rattle.term_commands.specs.declared.fault.Fault.{Fault}
 use Rattle.term_commands.specs.declared.input.sizes.SizeLine.TheVariants.{Refused}
 use Rattle.term_commands.specs.declared.output.demo.Demos.TheVariants.{Printed as Pressed}
@@ -20,21 +19,21 @@ use Rattle.term_commands.specs.Records.{records_in}
 use Rattle.term_findings.specs.Members.{finding_data}
 use Rattle.term_findings.specs.declared.report.Report.{Report}
 use Rattle.term_findings.specs.declared.report.Report.TheVariants.{Json, Sarif}
-use Rattle.term_findings.specs.Lines.{data_line, status_of}
+use Rattle.term_findings.specs.Lines.{data_line, found_in, status_of}
 use Rattle.term_findings.specs.Log.{printed_log}
 
 -- ---- lines
 
 -- the line of a finding, of records that leave this picture
-abbrev pub finding_line : Declaration → List ℕ → Option Picture → Finding → List ℕ
+abbrev pub finding_line : Declaration → List ℕ → Option Picture → Traced → List ℕ
 finding_line layout input opened finding = data_line (finding_data layout input opened finding)
 
-abbrev pub verdict_word : List Finding → List ℕ
+abbrev pub verdict_word : List Traced → List ℕ
 verdict_word [] = codes "yes"
 verdict_word (finding ∷ findings) = codes "no"
 
 -- how many findings, records and fields there are, and the verdict; the fields are the layout's entries
-abbrev pub verdict_data : ℕ → ℕ → List Finding → Data
+abbrev pub verdict_data : ℕ → ℕ → List Traced → Data
 verdict_data fields records findings =
     object (member (codes "fields") (number (unsigned fields))
     (member (codes "findings") (number (unsigned (length findings)))
@@ -47,14 +46,14 @@ refusal_data fault = object (member (codes "verdict") (string (codes "refused"))
 -- ---- the report
 
 -- a line for each finding, and one for the verdict; keys are pressed on the picture that the records leave
-abbrev pub report_findings : Declaration → List ℕ → List (List ℕ) → List Finding → Printed
+abbrev pub report_findings : Declaration → List ℕ → List (List ℕ) → List Traced → Printed
 report_findings layout input records findings =
     printed (flat_map (finding_line layout input (asked Pressed (shown_on layout records))) findings
     ++ data_line (verdict_data (length layout.entries) (length records) findings))
     (status_of findings)
 
 abbrev pub report_within : Declaration → List ℕ → Result Printed Fault
-report_within layout text = records_in Refused text >>= λ told. Ok (report_findings layout text told.records (answer_of layout told.records))
+report_within layout text = records_in Refused text >>= λ told. Ok (report_findings layout text told.records (found_in layout told.records))
 
 -- a longer input is not looked at
 abbrev pub report_records : Declaration → List ℕ → Result Printed Fault

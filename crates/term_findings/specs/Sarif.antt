@@ -1,10 +1,12 @@
 -- What is told as a log of SARIF 2.1.0: one run, the rules, and a result for each finding or for an input that is refused.
 -- Members stand in the order of their keys.
-use Rattle.std.specs.Prelude.{ℕ, List, [], ◌∷◌, ◌++◌, codes, map, Option, Some, None}
-use Rattle.serde_json.specs.Data.{Data, number, unsigned, string, array, object, item, no_items, member, no_members}
+use Rattle.std.specs.Prelude.{ℕ, List, [], ◌∷◌, ◌++◌, codes, map, Option, Some, None, option_map}
+use Rattle.serde_json.specs.Data.{Data, number, unsigned, string, array, object, item, no_items, Members, member, no_members}
 use Rattle.serde_json.specs.View.{items_of}
 use Rattle.scr_layout.specs.Layout.{Declaration}
 use Rattle.scr_check.specs.declared.finding.Finding.{Finding}
+use Rattle.scr_check.specs.declared.origins.Origin.{Origin}
+use Rattle.scr_check.specs.declared.traced.Traced.{Traced}
 use Rattle.scr_check.specs.FindingText.{finding_text}
 use Rattle.term_commands.specs.declared.fault.Fault.{Fault}
 use Rattle.term_commands.specs.Fault.{fault_text}
@@ -13,7 +15,7 @@ use Rattle.term_findings.specs.declared.region.Region.{Region}
 use Rattle.term_findings.specs.declared.rule.Rule.{Rule}
 use Rattle.term_findings.specs.declared.rule.Rule.TheVariants.{InputRefused}
 use Rattle.term_findings.specs.Help.{help_of}
-use Rattle.term_findings.specs.Region.{finding_region}
+use Rattle.term_findings.specs.Region.{finding_region, order_region}
 use Rattle.term_findings.specs.Rule.{all_rules, rule_of, rule_index, rule_id, rule_name, brief_of, meaning_of, rule_help}
 use Rattle.term_findings.specs.Uri.{uri_of}
 
@@ -53,18 +55,32 @@ columns_region line (Some columns) =
 abbrev pub region_data : Region → Data
 region_data region = columns_region region.line region.columns
 
+abbrev pub physical_data : List ℕ → Region → Data
+physical_data path region =
+    object (member (codes "artifactLocation") (object (member (codes "uri") (string (uri_of path)) no_members))
+    (member (codes "region") (region_data region) no_members))
+
 abbrev pub location_data : List ℕ → Region → Data
-location_data path region =
-    object (member (codes "physicalLocation") (object (member (codes "artifactLocation") (object (member (codes "uri") (string (uri_of path)) no_members))
-    (member (codes "region") (region_data region) no_members))) no_members)
+location_data path region = object (member (codes "physicalLocation") (physical_data path region) no_members)
+
+-- where the field of a finding ends, in this file
+abbrev pub end_data : List ℕ → Region → Data
+end_data path region =
+    object (member (codes "message") (message_data (codes "the order that ends the field"))
+    (member (codes "physicalLocation") (physical_data path region) no_members))
 
 -- ---- a result
 
--- a result of this rule, in this file at this place, with this text
-unfoldable pub result_data : Rule → List ℕ → Region → List ℕ → Data
-result_data rule path region text =
+abbrev pub then_related : Option Data → Members → Members
+then_related None members = members
+then_related (Some related) members = member (codes "relatedLocations") (array (item related no_items)) members
+
+-- a result of this rule, in this file at this place, with this text, and with another place if there is one
+unfoldable pub result_data : Rule → List ℕ → Region → List ℕ → Option Data → Data
+result_data rule path region text related =
     object (member (codes "level") (string (codes "error")) (member (codes "locations") (array (item (location_data path region) no_items))
-    (member (codes "message") (message_data text) (member (codes "ruleId") (string (rule_id rule)) (member (codes "ruleIndex") (count (rule_index rule)) no_members)))))
+    (member (codes "message") (message_data text)
+    (then_related related (member (codes "ruleId") (string (rule_id rule)) (member (codes "ruleIndex") (count (rule_index rule)) no_members))))))
 
 abbrev pub help_end : Option (List ℕ) → List ℕ
 help_end None = []
@@ -74,16 +90,20 @@ help_end (Some help) = codes ": " ++ help
 abbrev pub message_of : Declaration → Finding → List ℕ
 message_of layout finding = finding_text layout.entries finding ++ help_end (help_of layout finding)
 
--- a finding of records in this text, of the file of this path
-abbrev pub finding_result : List ℕ → Declaration → List ℕ → Finding → Data
-finding_result path layout input finding = result_data (rule_of finding) path (finding_region input finding) (message_of layout finding)
+abbrev pub end_of : List ℕ → List ℕ → Option Origin → Option Data
+end_of path input end = option_map (λ origin. end_data path (order_region input origin)) end
 
-abbrev pub findings_data : List ℕ → Declaration → List ℕ → List Finding → Data
+-- a finding of records in this text, of the file of this path
+abbrev pub finding_result : List ℕ → Declaration → List ℕ → Traced → Data
+finding_result path layout input traced =
+    result_data (rule_of traced.finding) path (finding_region input traced) (message_of layout traced.finding) (end_of path input traced.end)
+
+abbrev pub findings_data : List ℕ → Declaration → List ℕ → List Traced → Data
 findings_data path layout input findings = array (items_of (map (finding_result path layout input) findings))
 
 -- what is wrong with the input of this path, at a line
 abbrev pub refusal_results : List ℕ → ℕ → Fault → Data
-refusal_results path line fault = array (item (result_data InputRefused path (record { line = line; columns = None }) (fault_text fault)) no_items)
+refusal_results path line fault = array (item (result_data InputRefused path (record { line = line; columns = None }) (fault_text fault) None) no_items)
 
 -- ---- the log
 
@@ -95,7 +115,7 @@ log_data results =
     object (member (codes "$schema") (string (codes "https://json.schemastore.org/sarif-2.1.0.json"))
     (member (codes "runs") (array (item (run_data results) no_items)) (member (codes "version") (string (codes "2.1.0")) no_members)))
 
-abbrev pub findings_log_data : List ℕ → Declaration → List ℕ → List Finding → Data
+abbrev pub findings_log_data : List ℕ → Declaration → List ℕ → List Traced → Data
 findings_log_data path layout input findings = log_data (findings_data path layout input findings)
 
 abbrev pub refusal_log_data : List ℕ → ℕ → Fault → Data

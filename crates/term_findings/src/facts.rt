@@ -2,16 +2,16 @@
 
 ghost use Rattle.std.specs.Prelude.{◌≡◌, ◌≤◌, option_map, IfOk};
 ghost use Rattle.std.specs.String.{string_bytes};
-ghost use Rattle.term_findings.specs.Facts.{record_of, byte_of, entry_index, entry_of, field_place, place_of, row_at, column_at, length_of, sizes_of, size_text};
+ghost use Rattle.term_findings.specs.Facts.{record_told, byte_told, record_of, byte_of, entry_index, entry_of, field_place, place_of, row_at, column_at, length_of, sizes_of, size_text};
 
 use ds_codec::Size;
-use scr_check::Finding;
+use scr_check::{Finding, Traced};
 use scr_layout::Entry;
 use std::alloc::{AllocError, Global};
 
-/// The record that it is about, counted from 0.
-pub(crate) fn record_of(finding: &Finding) -> Option<usize>
-    ensures { result ≡ record_of finding.now }
+/// The record that a finding tells by itself, counted from 0.
+fn record_told(finding: &Finding) -> Option<usize>
+    ensures { result ≡ record_told finding.now }
 {
     match finding {
         Finding::RecordRefused(index, _)
@@ -22,13 +22,33 @@ pub(crate) fn record_of(finding: &Finding) -> Option<usize>
     }
 }
 
-/// The byte of the record at which it is refused, counted from 0.
-pub(crate) fn byte_of(finding: &Finding) -> Option<usize>
-    ensures { result ≡ byte_of finding.now }
+/// The byte of that record at which it is refused, counted from 0.
+fn byte_told(finding: &Finding) -> Option<usize>
+    ensures { result ≡ byte_told finding.now }
 {
     match finding {
         Finding::RecordRefused(_, refused) => Some(refused.at()),
         _ => None,
+    }
+}
+
+/// The record that it is about, counted from 0: the one that it tells, or that of the order from which it comes.
+pub(crate) fn record_of(traced: &Traced) -> Option<usize>
+    ensures { result ≡ record_of traced.now }
+{
+    match record_told(&traced.finding) {
+        Some(index) => Some(index),
+        None => Some(traced.origin?.index),
+    }
+}
+
+/// The byte of that record, counted from 0: the one that it tells, or the order's first.
+pub(crate) fn byte_of(traced: &Traced) -> Option<usize>
+    ensures { result ≡ byte_of traced.now }
+{
+    match byte_told(&traced.finding) {
+        Some(byte) => Some(byte),
+        None => Some(traced.origin?.at),
     }
 }
 

@@ -16,7 +16,7 @@ ghost use Rattle.term_findings.specs.Report.{finding_line, verdict_data, verdict
 use crate::members::finding_value;
 use ds_screen::PlaneCells;
 use ds_terminal::Terminal;
-use scr_check::Finding;
+use scr_check::Traced;
 use scr_layout::Layout;
 use serde_json::{Value, json};
 use std::alloc::{AllocError, Global};
@@ -33,7 +33,7 @@ fn push_line(alloc: Global, out: &mut String, value: &Value) -> Result<(), Alloc
     out.push_str("\n")
 }
 
-/// A finding of records, in their text, as JSON: the keys that it has. Keys of its demo are pressed on the terminal that
+/// A finding of records, in their text, with the orders that it comes from, as JSON: the keys that it has. Keys of its demo are pressed on the terminal that
 /// the records leave. A parser reads the same value again.
 ///
 /// # Errors
@@ -45,14 +45,14 @@ pub fn finding_json(
     layout: &Layout,
     input: &[u8],
     terminal: Option<&Terminal<PlaneCells>>,
-    finding: &Finding,
+    traced: &Traced,
 ) -> Result<String, AllocError>
     ensures text { IfOk result (λ text. string_bytes text
-        ≡ compact_text (finding_data layout.now input.now (option_map (λ t. t.now) terminal.entry) finding.now)) }
+        ≡ compact_text (finding_data layout.now input.now (option_map (λ t. t.now) terminal.entry) traced.now)) }
     ensures again { IfOk result (λ text. read (string_bytes text)
-        ≡ Some (finding_data layout.now input.now (option_map (λ t. t.now) terminal.entry) finding.now)) }
+        ≡ Some (finding_data layout.now input.now (option_map (λ t. t.now) terminal.entry) traced.now)) }
 {
-    let value = finding_value(alloc, layout, input, terminal, finding)?;
+    let value = finding_value(alloc, layout, input, terminal, traced)?;
     value.to_string(alloc)
 }
 
@@ -63,12 +63,12 @@ fn push_finding(
     layout: &Layout,
     input: &[u8],
     terminal: Option<&Terminal<PlaneCells>>,
-    finding: &Finding,
+    traced: &Traced,
 ) -> Result<(), AllocError>
     ensures { OnOk result (string_bytes out.new ≡ string_bytes out.old
-        ++ finding_line layout.now input.now (option_map (λ t. t.now) terminal.entry) finding.now) }
+        ++ finding_line layout.now input.now (option_map (λ t. t.now) terminal.entry) traced.now) }
 {
-    let text = finding_json(alloc, layout, input, terminal, finding)?;
+    let text = finding_json(alloc, layout, input, terminal, traced)?;
     out.push_str(text.as_str())?;
     out.push_str("\n")
 }
@@ -80,7 +80,7 @@ fn push_findings(
     layout: &Layout,
     input: &[u8],
     terminal: Option<&Terminal<PlaneCells>>,
-    findings: &[Finding],
+    findings: &[Traced],
 ) -> Result<(), AllocError>
     ensures { OnOk result (string_bytes out.new ≡ string_bytes out.old
         ++ flat_map (finding_line layout.now input.now (option_map (λ t. t.now) terminal.entry)) findings.now) }
@@ -91,7 +91,7 @@ fn push_findings(
     Ok(())
 }
 
-fn verdict_word(findings: &[Finding]) -> &'static str
+fn verdict_word(findings: &[Traced]) -> &'static str
     ensures { result.now ≡ verdict_word findings.now }
 {
     match findings {
@@ -101,7 +101,7 @@ fn verdict_word(findings: &[Finding]) -> &'static str
 }
 
 /// Whether there are findings, as a status.
-pub(crate) fn status_of(findings: &[Finding]) -> Status
+pub(crate) fn status_of(findings: &[Traced]) -> Status
     ensures { result ≡ status_of findings.now }
 {
     match findings {
@@ -115,7 +115,7 @@ fn verdict_value(
     alloc: Global,
     fields: usize,
     records: usize,
-    findings: &[Finding],
+    findings: &[Traced],
 ) -> Result<Value, AllocError>
     ensures { IfOk result (λ value. view value ≡ verdict_data fields records findings.now) }
 {
@@ -130,7 +130,7 @@ fn push_verdict(
     out: &mut String,
     fields: usize,
     records: usize,
-    findings: &[Finding],
+    findings: &[Traced],
 ) -> Result<(), AllocError>
     ensures { OnOk result (string_bytes out.new ≡ string_bytes out.old
         ++ data_line (verdict_data fields records findings.now)) }
@@ -167,7 +167,7 @@ pub(crate) fn findings_answer(
     layout: &Layout,
     input: &[u8],
     records: &[Vec<u8>],
-    findings: &[Finding],
+    findings: &[Traced],
 ) -> Result<Answer, AllocError>
     ensures { IfOk result (λ answer. answer_seen answer
         ≡ report_findings layout.now input.now (records_held records.now) findings.now) }

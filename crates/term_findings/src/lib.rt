@@ -2,6 +2,7 @@
 #![tactic(auto)]
 
 mod facts;
+mod found;
 mod help;
 mod json;
 mod log;
@@ -13,8 +14,6 @@ mod region;
 mod report;
 mod rule;
 mod sarif;
-#[cfg(test)]
-mod tests;
 mod uri;
 
 pub use help::help_text;

@@ -5,20 +5,20 @@ ghost use Rattle.term_commands.specs.Fault.{Gives};
 ghost use Rattle.term_commands.specs.Held.{answer_seen, records_held};
 ghost use Rattle.term_commands.specs.LayoutText.{layout_in};
 ghost use Rattle.term_commands.specs.Lines.{within_limit};
-ghost use Rattle.scr_check.specs.Findings.{answer_of};
+ghost use Rattle.term_findings.specs.Lines.{found_in};
 ghost use Rattle.term_findings.specs.Log.{log_findings, refused_log, log_within, log_records, or_refused, log_layout, printed_log};
 
+use crate::found::find;
 use crate::json::status_of;
 use crate::paths::Paths;
 use crate::region::{layout_line, line_of_fault};
 use crate::sarif::{findings_log, refusal_log};
-use scr_check::{Finding, Verdict, check};
+use scr_check::Traced;
 use scr_layout::Layout;
 use std::alloc::{AllocError, Global};
 use std::io::Read;
 use term_commands::{
-    Answer, CommandError, Fault, SizeLine, Status, layout_in, lent, read_text, records_in,
-    within_limit,
+    Answer, CommandError, Fault, SizeLine, Status, layout_in, read_text, records_in, within_limit,
 };
 
 /// The log of findings.
@@ -27,7 +27,7 @@ fn findings_answer(
     paths: Paths<'_>,
     layout: &Layout,
     input: &[u8],
-    findings: &[Finding],
+    findings: &[Traced],
 ) -> Result<Answer, AllocError>
     ensures { IfOk result (λ answer. answer_seen answer
         ≡ log_findings paths.entry layout.now input.now findings.now) }
@@ -66,16 +66,10 @@ fn log_told(
     records: &[Vec<u8>],
 ) -> Result<Answer, AllocError>
     ensures { IfOk result (λ answer. answer_seen answer
-        ≡ log_findings paths.entry layout.now input.now (answer_of layout.now (records_held records.now))) }
+        ≡ log_findings paths.entry layout.now input.now (found_in layout.now (records_held records.now))) }
 {
-    let slices = lent(alloc, records)?;
-    let verdict = check(alloc, slices.as_slice(), layout)?;
-    match verdict {
-        Verdict::Yes => findings_answer(alloc, paths, layout, input, &[]),
-        Verdict::No(findings) => {
-            findings_answer(alloc, paths, layout, input, findings.as_slice())
-        }
-    }
+    let found = find(alloc, layout, records)?;
+    findings_answer(alloc, paths, layout, input, found.as_slice())
 }
 
 fn log_within(

@@ -1,12 +1,12 @@
 //! A finding as a JSON object.
 
-ghost use Rattle.std.specs.Prelude.{◌≡◌, ◌≤◌, option_map, option_and_then, IfOk, OnOk, Some};
+ghost use Rattle.std.specs.Prelude.{◌≡◌, ◌≤◌, ◌++◌, map, option_map, option_and_then, IfOk, OnOk, Some};
 ghost use Rattle.std.specs.String.{string_bytes};
 ghost use Rattle.hex.specs.Hex.{encode_upper};
 ghost use Rattle.serde_json.specs.View.{view, members_view};
 ghost use Rattle.term_findings.specs.Facts.{sent_from};
 ghost use Rattle.term_findings.specs.RecordLine.{record_line};
-ghost use Rattle.term_findings.specs.Members.{with_count, with_text, with_words, with_record, with_place, with_entry, with_sizes, with_keys, with_help, keys_data, finding_data};
+ghost use Rattle.term_findings.specs.Members.{with_count, with_text, with_words, with_spot, with_end, with_place, with_entry, with_sizes, with_keys, with_help, spot_data, pressed, keys_data, finding_data};
 
 use crate::facts::{
     byte_of, column_at, entry_of, length_of, place_of, record_of, row_at, size_text, sizes_of,
@@ -18,7 +18,7 @@ use ds_codec::Size;
 use ds_screen::PlaneCells;
 use ds_terminal::Terminal;
 use order_lines::push_bytes;
-use scr_check::{Demo, Finding};
+use scr_check::{Demo, Finding, Origin, Traced};
 use scr_layout::{Entry, Layout};
 use serde_json::{Map, Value, json, put};
 use std::alloc::{AllocError, Global};
@@ -91,19 +91,51 @@ fn line_of(input: &[u8], index: Option<usize>) -> Option<usize>
     line_of_record(input, index?)
 }
 
-fn put_record(
+/// A record, its line in the input, and a byte of it, where there are such.
+fn put_spot(
     alloc: Global,
     members: &mut Members,
     input: &[u8],
-    finding: &Finding,
+    index: Option<usize>,
+    byte: Option<usize>,
 ) -> Result<(), AllocError>
     ensures { OnOk result (members_view members.new.entries
-        ≡ with_record input.now finding.now (members_view members.old.entries)) }
+        ≡ with_spot input.now index byte (members_view members.old.entries)) }
 {
-    let index = record_of(finding);
     put_count(alloc, members, "record", index)?;
     put_count(alloc, members, "line", line_of(input, index))?;
-    put_count(alloc, members, "byte", byte_of(finding))
+    put_count(alloc, members, "byte", byte)
+}
+
+/// Where an order stands.
+fn spot_value(alloc: Global, input: &[u8], origin: Origin) -> Result<Value, AllocError>
+    ensures { IfOk result (λ value. view value ≡ spot_data input.now origin) }
+{
+    let mut members = Map::new(alloc);
+    put_spot(
+        alloc,
+        &mut members,
+        input,
+        Some(origin.index),
+        Some(origin.at),
+    )?;
+    Ok(Value::Object(members))
+}
+
+/// The order that ends the field, where one is known.
+fn put_end(
+    alloc: Global,
+    members: &mut Members,
+    input: &[u8],
+    end: Option<Origin>,
+) -> Result<(), AllocError>
+    ensures { OnOk result (members_view members.new.entries
+        ≡ with_end input.now end (members_view members.old.entries)) }
+{
+    match end {
+        Some(origin) => put(members, alloc, "end", spot_value(alloc, input, origin)?),
+        None => Ok(()),
+    }
 }
 
 fn put_place(
@@ -156,12 +188,27 @@ fn put_sizes(
     put_text(alloc, members, "layout", size_text(alloc, declared)?)
 }
 
-/// How often each key of a demo is pressed.
+/// A key as a line of keys, with how often it is pressed; nothing where it isn't.
+fn push_key(alloc: Global, keys: &mut Vec<Value>, line: &str, times: u32) -> Result<(), AllocError>
+    ensures { OnOk result (map view keys.new.items
+        ≡ map view keys.old.items ++ pressed line.now times) }
+{
+    if times == 0 {
+        return Ok(());
+    }
+    keys.push(json!(in alloc; {"key": line, "times": times})?)?;
+    Ok(())
+}
+
+/// The keys of a demo, each with how often it is pressed.
 fn keys_value(alloc: Global, demo: Demo) -> Result<Value, AllocError>
     ensures { IfOk result (λ value. view value ≡ keys_data demo) }
 {
-    let Demo { rights, types } = demo;
-    json!(in alloc; {"right": rights, "type": types})
+    let mut keys = Vec::new(alloc);
+    push_key(alloc, &mut keys, "right", demo.rights)?;
+    push_key(alloc, &mut keys, "type C1", demo.types)?;
+    push_key(alloc, &mut keys, "enter", 1)?;
+    Ok(Value::Array(keys))
 }
 
 /// What the keys of a demo send, in hexadecimal.
@@ -214,29 +261,33 @@ fn put_help(
     }
 }
 
-/// A finding as a JSON object: its number, its name and its words, and each of the others that it has: `record` and
-/// `line`, `byte`, `place`, `row` and `column`, `length`, `declared` and `entry`, `size` and `layout`, `keys` and `sends`,
+/// A finding as a JSON object: its number, its name and its words, and each of the others that it has: `record`, `line` and
+/// `byte`, `end`, `place`, `row` and `column`, `length`, `declared` and `entry`, `size` and `layout`, `keys` and `sends`,
 /// and `help`.
 pub(crate) fn finding_value(
     alloc: Global,
     layout: &Layout,
     input: &[u8],
     terminal: Option<&Terminal<PlaneCells>>,
-    finding: &Finding,
+    traced: &Traced,
 ) -> Result<Value, AllocError>
     ensures { IfOk result (λ value. view value
-        ≡ finding_data layout.now input.now (option_map (λ t. t.now) terminal.entry) finding.now) }
+        ≡ finding_data layout.now input.now (option_map (λ t. t.now) terminal.entry) traced.now) }
 {
     let entries = layout.entries();
+    let finding = &traced.finding;
+    let place = place_of(entries, finding);
     let mut members = Map::new(alloc);
     put_words(alloc, &mut members, entries, finding)?;
-    put_record(alloc, &mut members, input, finding)?;
-    put_place(
+    put_spot(
         alloc,
         &mut members,
-        layout.size(),
-        place_of(entries, finding),
+        input,
+        record_of(traced),
+        byte_of(traced),
     )?;
+    put_end(alloc, &mut members, input, traced.end)?;
+    put_place(alloc, &mut members, layout.size(), place)?;
     put_entry(alloc, &mut members, entries, finding)?;
     put_sizes(alloc, &mut members, sizes_of(finding))?;
     put_keys(alloc, &mut members, terminal, finding.demo())?;

@@ -2,13 +2,13 @@
 
 ghost use Rattle.std.specs.Prelude.{◌≡◌, ◌≤◌, codes, option_map, IfSome, length};
 ghost use Rattle.term_commands.specs.Lines.{within_limit};
-ghost use Rattle.term_findings.specs.Region.{record_text, digit_column, byte_columns, begins, is_table, table_line, finding_columns, finding_region, fault_table, line_in, line_of_fault};
+ghost use Rattle.term_findings.specs.Region.{record_text, digit_column, byte_columns, begins, is_table, table_line, spot_columns, spot_region, finding_region, order_region, fault_table, line_in, line_of_fault};
 ghost use Rattle.term_commands.specs.Records.{without_spaces};
 
 use crate::facts::{byte_of, record_of};
 use crate::record_line::{is_silent, line_of_record};
 use bstr::ByteSlice;
-use scr_check::Finding;
+use scr_check::{Origin, Traced};
 use term_commands::Fault;
 
 /// The most bytes of a text that is looked at.
@@ -85,23 +85,38 @@ fn byte_columns(line: &[u8], byte: usize) -> Option<Columns>
     })
 }
 
-fn finding_columns(input: &[u8], finding: &Finding) -> Option<Columns>
-    ensures { result ≡ finding_columns input.now finding.now }
+fn spot_columns(input: &[u8], index: Option<usize>, byte: Option<usize>) -> Option<Columns>
+    ensures { result ≡ spot_columns input.now index byte }
 {
-    let line = record_text(input, record_of(finding)?)?;
-    byte_columns(line, byte_of(finding)?)
+    let line = record_text(input, index?)?;
+    byte_columns(line, byte?)
 }
 
-/// The line of the record that a finding is about, or the first; and the byte at which the record is refused.
-pub(crate) fn finding_region(input: &[u8], finding: &Finding) -> Region
-    ensures { result ≡ finding_region input.now finding.now }
+/// The line of a record, or the first, and the columns of a byte of it.
+fn spot_region(input: &[u8], index: Option<usize>, byte: Option<usize>) -> Region
+    ensures { result ≡ spot_region input.now index byte }
 {
-    let columns = finding_columns(input, finding);
-    let line = match record_of(finding) {
+    let columns = spot_columns(input, index, byte);
+    let line = match index {
         Some(index) => line_of_record(input, index).unwrap_or(1),
         None => 1,
     };
     Region { line, columns }
+}
+
+/// The line of the record that a finding is about, or the first; and the byte at which the record is refused, or where
+/// the order begins from which the finding comes.
+pub(crate) fn finding_region(input: &[u8], traced: &Traced) -> Region
+    ensures { result ≡ finding_region input.now traced.now }
+{
+    spot_region(input, record_of(traced), byte_of(traced))
+}
+
+/// Where an order begins.
+pub(crate) fn order_region(input: &[u8], origin: Origin) -> Region
+    ensures { result ≡ order_region input.now origin }
+{
+    spot_region(input, Some(origin.index), Some(origin.at))
 }
 
 /// Whether a line begins with these bytes, where spaces don't count.

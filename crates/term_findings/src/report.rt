@@ -7,19 +7,19 @@ ghost use Rattle.term_commands.specs.LayoutText.{layout_in};
 ghost use Rattle.term_commands.specs.Printed.{Printed};
 ghost use Rattle.term_commands.specs.Streams.{Prints};
 ghost use Rattle.term_commands.specs.declared.fault.Fault.{Fault as AFault};
-ghost use Rattle.scr_check.specs.Findings.{answer_of};
+ghost use Rattle.term_findings.specs.Lines.{found_in};
 ghost use Rattle.term_findings.specs.Report.{report_findings, report_within, report_records, report, or_refusal, printed_report};
 
+use crate::found::find;
 use crate::json::{findings_answer, refusal_answer};
 use crate::log::{log_read, log_texts};
 use crate::paths::Paths;
-use scr_check::{Verdict, check};
 use scr_layout::Layout;
 use std::alloc::{AllocError, Global};
 use std::io::{Read, Write};
 use term_commands::{
-    Answer, CommandError, SizeLine, Status, finish, layout_in, lent, read_layout, read_text,
-    records_in, within_limit,
+    Answer, CommandError, SizeLine, Status, finish, layout_in, read_layout, read_text, records_in,
+    within_limit,
 };
 
 /// The form of a report.
@@ -39,16 +39,10 @@ fn report_told(
     records: &[Vec<u8>],
 ) -> Result<Answer, AllocError>
     ensures { IfOk result (λ answer. answer_seen answer
-        ≡ report_findings layout.now input.now (records_held records.now) (answer_of layout.now (records_held records.now))) }
+        ≡ report_findings layout.now input.now (records_held records.now) (found_in layout.now (records_held records.now))) }
 {
-    let slices = lent(alloc, records)?;
-    let verdict = check(alloc, slices.as_slice(), layout)?;
-    match verdict {
-        Verdict::Yes => findings_answer(alloc, layout, input, records, &[]),
-        Verdict::No(findings) => {
-            findings_answer(alloc, layout, input, records, findings.as_slice())
-        }
-    }
+    let found = find(alloc, layout, records)?;
+    findings_answer(alloc, layout, input, records, found.as_slice())
 }
 
 fn report_within(alloc: Global, layout: &Layout, text: &[u8]) -> Result<Answer, CommandError>

@@ -8,13 +8,13 @@ ghost use Rattle.serde_json.specs.View.{view, items_of};
 ghost use Rattle.serde_json.specs.Written.{compact_text, has_float};
 ghost use Rattle.term_commands.specs.Fault.{fault_text};
 ghost use Rattle.term_findings.specs.Rule.{rule_help};
-ghost use Rattle.term_findings.specs.Sarif.{message_data, rule_data, tool_data, region_data, location_data, result_data, help_end, message_of, finding_result, findings_data, refusal_results, refusal_log_data, log_data, findings_log_data};
+ghost use Rattle.term_findings.specs.Sarif.{message_data, rule_data, tool_data, region_data, physical_data, location_data, end_data, result_data, help_end, message_of, end_of, finding_result, findings_data, refusal_results, refusal_log_data, log_data, findings_log_data};
 
 use crate::help::help_text;
-use crate::region::{Region, finding_region, line_of_fault};
+use crate::region::{Region, finding_region, order_region};
 use crate::rule::{Rule, all_rules, rule_of};
 use crate::uri::uri_of;
-use scr_check::Finding;
+use scr_check::{Finding, Origin, Traced};
 use scr_layout::Layout;
 use serde_json::{Value, json};
 use std::alloc::{AllocError, Global};
@@ -93,14 +93,31 @@ fn region_value(alloc: Global, region: Region) -> Result<Value, AllocError>
     }
 }
 
-fn location_value(alloc: Global, path: &str, region: Region) -> Result<Value, AllocError>
-    ensures { IfOk result (λ value. view value ≡ location_data path.now region) }
+fn physical_value(alloc: Global, path: &str, region: Region) -> Result<Value, AllocError>
+    ensures { IfOk result (λ value. view value ≡ physical_data path.now region) }
 {
     let uri = uri_of(alloc, path)?;
     let place = region_value(alloc, region)?;
-    json!(in alloc; {"physicalLocation": {"artifactLocation": {"uri": uri}, "region": place}})
+    json!(in alloc; {"artifactLocation": {"uri": uri}, "region": place})
 }
 
+fn location_value(alloc: Global, path: &str, region: Region) -> Result<Value, AllocError>
+    ensures { IfOk result (λ value. view value ≡ location_data path.now region) }
+{
+    let physical = physical_value(alloc, path, region)?;
+    json!(in alloc; {"physicalLocation": physical})
+}
+
+/// Where the field of a finding ends.
+fn end_value(alloc: Global, path: &str, region: Region) -> Result<Value, AllocError>
+    ensures { IfOk result (λ value. view value ≡ end_data path.now region) }
+{
+    let message = message_value(alloc, "the order that ends the field")?;
+    let physical = physical_value(alloc, path, region)?;
+    json!(in alloc; {"message": message, "physicalLocation": physical})
+}
+
+/// A result of a rule at a place, with a text, and with another place if there is one.
 #[tactic(auto, unfolding(crate::specs::Sarif::result_data))]
 fn result_value(
     alloc: Global,
@@ -108,20 +125,32 @@ fn result_value(
     path: &str,
     region: Region,
     text: &str,
+    related: Option<Value>,
 ) -> Result<Value, AllocError>
-    ensures { IfOk result (λ value. view value ≡ result_data rule path.now region text.now) }
+    ensures { IfOk result (λ value. view value
+        ≡ result_data rule path.now region text.now (option_map view related)) }
 {
     let location = location_value(alloc, path, region)?;
     let message = message_value(alloc, text)?;
     let id = rule.id();
     let index = rule.index();
-    json!(in alloc; {
-        "level": "error",
-        "locations": [location],
-        "message": message,
-        "ruleId": id,
-        "ruleIndex": index
-    })
+    match related {
+        Some(related) => json!(in alloc; {
+            "level": "error",
+            "locations": [location],
+            "message": message,
+            "relatedLocations": [related],
+            "ruleId": id,
+            "ruleIndex": index
+        }),
+        None => json!(in alloc; {
+            "level": "error",
+            "locations": [location],
+            "message": message,
+            "ruleId": id,
+            "ruleIndex": index
+        }),
+    }
 }
 
 fn push_help(out: &mut String, help: Option<String>) -> Result<(), AllocError>
@@ -147,19 +176,36 @@ fn message_of(alloc: Global, layout: &Layout, finding: &Finding) -> Result<Strin
     Ok(text)
 }
 
+/// Where the field of a finding ends, if that is known.
+fn end_of(
+    alloc: Global,
+    path: &str,
+    input: &[u8],
+    end: Option<Origin>,
+) -> Result<Option<Value>, AllocError>
+    ensures { IfOk result (λ value. option_map view value ≡ end_of path.now input.now end) }
+{
+    match end {
+        Some(origin) => Ok(Some(end_value(alloc, path, order_region(input, origin))?)),
+        None => Ok(None),
+    }
+}
+
 fn finding_result(
     alloc: Global,
     path: &str,
     layout: &Layout,
     input: &[u8],
-    finding: &Finding,
+    traced: &Traced,
 ) -> Result<Value, AllocError>
     ensures { IfOk result (λ value. view value
-        ≡ finding_result path.now layout.now input.now finding.now) }
+        ≡ finding_result path.now layout.now input.now traced.now) }
 {
+    let finding = &traced.finding;
     let text = message_of(alloc, layout, finding)?;
-    let region = finding_region(input, finding);
-    result_value(alloc, rule_of(finding), path, region, text.as_str())
+    let end = end_of(alloc, path, input, traced.end)?;
+    let region = finding_region(input, traced);
+    result_value(alloc, rule_of(finding), path, region, text.as_str(), end)
 }
 
 fn findings_value(
@@ -167,7 +213,7 @@ fn findings_value(
     path: &str,
     layout: &Layout,
     input: &[u8],
-    findings: &[Finding],
+    findings: &[Traced],
 ) -> Result<Value, AllocError>
     ensures { IfOk result (λ value. view value
         ≡ findings_data path.now layout.now input.now findings.now) }
@@ -205,8 +251,8 @@ fn log_text(alloc: Global, results: Value) -> Result<String, AllocError>
     value.to_string(alloc)
 }
 
-/// Findings of records, in their text, as a log of SARIF 2.1.0: a result for each, at the line of its record in the file
-/// of this path. A parser reads the same value again.
+/// Findings of records, in their text, with the orders that they come from, as a log of SARIF 2.1.0: a result for each, at
+/// the line of its record and the columns of its byte in the file of this path. A parser reads the same value again.
 ///
 /// # Errors
 ///
@@ -217,7 +263,7 @@ pub fn findings_log(
     path: &str,
     layout: &Layout,
     input: &[u8],
-    findings: &[Finding],
+    findings: &[Traced],
 ) -> Result<String, AllocError>
     ensures text { IfOk result (λ text. string_bytes text
         ≡ compact_text (findings_log_data path.now layout.now input.now findings.now)) }
@@ -241,7 +287,8 @@ fn refusal_results(
         line,
         columns: None,
     };
-    let told = result_value(alloc, Rule::InputRefused, path, region, words.as_str())?;
+    let rule = Rule::InputRefused;
+    let told = result_value(alloc, rule, path, region, words.as_str(), None)?;
     json!(in alloc; [told])
 }
 

@@ -1,0 +1,43 @@
+//! What is found of records, with the orders that it comes from.
+
+ghost use Rattle.std.specs.Prelude.{◌≡◌, map, IfOk};
+ghost use Rattle.scr_check.specs.Seen.{findings_in};
+ghost use Rattle.scr_check.specs.Traced.{traced_of};
+ghost use Rattle.term_commands.specs.Held.{records_held};
+ghost use Rattle.term_findings.specs.Lines.{found_in};
+
+use scr_check::{Traced, Verdict, check, trace_findings};
+use scr_layout::Layout;
+use std::alloc::{AllocError, Global};
+use term_commands::lent;
+
+/// The findings of a verdict on records, each with the orders that it comes from.
+fn trace_verdict(
+    alloc: Global,
+    records: &[&[u8]],
+    layout: &Layout,
+    verdict: &Verdict,
+) -> Result<Vec<Traced>, AllocError>
+    ensures { IfOk result (λ traced. traced.items
+        ≡ map (traced_of layout.now (map (λ bytes. bytes.now) records.now)) (findings_in verdict.now)) }
+{
+    match verdict {
+        Verdict::Yes => Ok(Vec::new(alloc)),
+        Verdict::No(findings) => trace_findings(alloc, records, layout, findings.as_slice()),
+    }
+}
+
+/// What is found of records, each with the orders that it comes from; nothing where the verdict is yes.
+pub(crate) fn find(
+    alloc: Global,
+    layout: &Layout,
+    records: &[Vec<u8>],
+) -> Result<Vec<Traced>, AllocError>
+    ensures { IfOk result (λ found. found.items
+        ≡ found_in layout.now (records_held records.now)) }
+{
+    let slices = lent(alloc, records)?;
+    let records = slices.as_slice();
+    let verdict = check(alloc, records, layout)?;
+    trace_verdict(alloc, records, layout, &verdict)
+}
