@@ -13,7 +13,7 @@ use Rattle.term_findings.specs.declared.region.Columns.{Columns}
 use Rattle.term_findings.specs.declared.region.Region.{Region}
 use Rattle.term_findings.specs.declared.rule.Rule.{Rule}
 use Rattle.term_findings.specs.declared.rule.Rule.TheVariants.{InputRefused}
-use Rattle.term_findings.specs.Region.{finding_region, order_region}
+use Rattle.term_findings.specs.Region.{Standing, finding_region, order_region}
 use Rattle.term_findings.specs.Rule.{all_rules, rule_of}
 use Rattle.term_findings.specs.Sarif.{rule_data, tool_data, columns_region, end_data, result_data, message_of, end_of, finding_result, findings_data, refusal_results, log_data}
 
@@ -73,33 +73,33 @@ related_nests : (rule : Rule) (path : List ℕ) (region : Region) (text : List �
 unfolding result_data
 related_nests rule path region text ends = omega (arith, region_nests region.line region.columns, region_nests ends.line ends.columns)
 
-ended_plain : (rule : Rule) (path : List ℕ) (region : Region) (text input : List ℕ) (end : Option Origin)
-    → has_float (result_data rule path region text (end_of path input end)) ≡ false
-ended_plain rule path region text input None = result_plain rule path region text
-ended_plain rule path region text input (Some origin) = related_plain rule path region text (order_region input origin)
+ended_plain : (rule : Rule) (path : List ℕ) (region : Region) (text : List ℕ) (standing : Standing) (end : Option Origin)
+    → has_float (result_data rule path region text (end_of path standing end)) ≡ false
+ended_plain rule path region text standing None = result_plain rule path region text
+ended_plain rule path region text standing (Some origin) = related_plain rule path region text (order_region standing origin)
 
-ended_nests : (rule : Rule) (path : List ℕ) (region : Region) (text input : List ℕ) (end : Option Origin)
-    → depth (result_data rule path region text (end_of path input end)) ≤ 6
-ended_nests rule path region text input None = result_nests rule path region text
-ended_nests rule path region text input (Some origin) = related_nests rule path region text (order_region input origin)
+ended_nests : (rule : Rule) (path : List ℕ) (region : Region) (text : List ℕ) (standing : Standing) (end : Option Origin)
+    → depth (result_data rule path region text (end_of path standing end)) ≤ 6
+ended_nests rule path region text standing None = result_nests rule path region text
+ended_nests rule path region text standing (Some origin) = related_nests rule path region text (order_region standing origin)
 
-finding_is_plain : (path : List ℕ) (layout : Declaration) (input : List ℕ) (traced : Traced) → has_float (finding_result path layout input traced) ≡ false
-finding_is_plain path layout input traced =
-    ended_plain (rule_of traced.finding) path (finding_region input traced) (message_of layout traced.finding) input traced.end
+finding_is_plain : (path : List ℕ) (layout : Declaration) (standing : Standing) (traced : Traced) → has_float (finding_result path layout standing traced) ≡ false
+finding_is_plain path layout standing traced =
+    ended_plain (rule_of traced.finding) path (finding_region standing traced) (message_of layout traced.finding) standing traced.end
 
-finding_is_flat : (path : List ℕ) (layout : Declaration) (input : List ℕ) (traced : Traced) → depth (finding_result path layout input traced) ≤ 6
-finding_is_flat path layout input traced =
-    ended_nests (rule_of traced.finding) path (finding_region input traced) (message_of layout traced.finding) input traced.end
+finding_is_flat : (path : List ℕ) (layout : Declaration) (standing : Standing) (traced : Traced) → depth (finding_result path layout standing traced) ≤ 6
+finding_is_flat path layout standing traced =
+    ended_nests (rule_of traced.finding) path (finding_region standing traced) (message_of layout traced.finding) standing traced.end
 
-pub findings_plain : (path : List ℕ) (layout : Declaration) (input : List ℕ) (findings : List Traced)
-    → has_float (findings_data path layout input findings) ≡ false
-findings_plain path layout input findings = none_floats (finding_result path layout input) (finding_is_plain path layout input) findings
+pub findings_plain : (path : List ℕ) (layout : Declaration) (standing : Standing) (findings : List Traced)
+    → has_float (findings_data path layout standing findings) ≡ false
+findings_plain path layout standing findings = none_floats (finding_result path layout standing) (finding_is_plain path layout standing) findings
 
-pub findings_nest : (path : List ℕ) (layout : Declaration) (input : List ℕ) (findings : List Traced)
-    → depth (findings_data path layout input findings) ≤ 8
-findings_nest path layout input findings =
-    let few : items_depth (items_of (map (finding_result path layout input) findings)) ≤ 6 =
-    all_nest (finding_result path layout input) 6 (finding_is_flat path layout input) findings
+pub findings_nest : (path : List ℕ) (layout : Declaration) (standing : Standing) (findings : List Traced)
+    → depth (findings_data path layout standing findings) ≤ 8
+findings_nest path layout standing findings =
+    let few : items_depth (items_of (map (finding_result path layout standing) findings)) ≤ 6 =
+    all_nest (finding_result path layout standing) 6 (finding_is_flat path layout standing) findings
     in omega (arith, few)
 
 pub refusal_plain : (path : List ℕ) (line : ℕ) (fault : Fault) → has_float (refusal_results path line fault) ≡ false

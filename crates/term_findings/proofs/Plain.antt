@@ -1,6 +1,6 @@
 -- An object of numbers, texts, an order and keys holds no float, and nests three deep at most.
 use Rattle.std.proofs.Common.{◌≡◌, ◌≤◌, ℕ, Bool, true, false, ◌||◌, ◌==◌, List, [], ◌∷◌, ◌++◌, Option, Some, None, option_map, option_and_then, Ordering, Less, Equal, Greater, refl, arith}
-use Rattle.std.specs.Prelude.{codes, if◌then◌else◌}
+use Rattle.std.specs.Prelude.{codes, slice_get, if◌then◌else◌}
 use Rattle.std.specs.Ordering.{match_ordering}
 use Rattle.hex.specs.Hex.{encode_upper}
 use Rattle.serde_json.specs.Data.{Data, number, unsigned, string, array, object, Items, no_items, item, Members, no_members, member, put, depth, items_depth, members_depth}
@@ -17,7 +17,6 @@ use Rattle.scr_check.specs.FindingText.{demo_of, finding_number, finding_text}
 use Rattle.term_findings.specs.Facts.{record_of, byte_of, entry_of, place_of, row_at, column_at, length_of, sizes_of, size_text, sent_from}
 use Rattle.term_findings.specs.Help.{help_of}
 use Rattle.term_findings.specs.Name.{name_of}
-use Rattle.term_findings.specs.RecordLine.{record_line}
 use Rattle.term_findings.specs.Members.{with_some, with_count, with_text, with_words, with_spot, with_end, with_place, with_entry, with_sizes, with_keys, with_help, spot_data, key_data, pressed, keys_data, finding_data}
 
 neither : (a b : Bool) → (a || b) ≡ false → (a ≡ false) × (b ≡ false)
@@ -70,21 +69,21 @@ text_plain n k (Some text) ms old = put_both n k (string text) ms refl (omega ar
 
 -- ---- orders
 
-spot_plain : (n : ℕ) (input : List ℕ) (index byte : Option ℕ) (ms : Members) → IsPlain n ms → IsPlain n (with_spot input index byte ms)
-spot_plain n input index byte ms old =
+spot_plain : (n : ℕ) (numbers : List ℕ) (index byte : Option ℕ) (ms : Members) → IsPlain n ms → IsPlain n (with_spot numbers index byte ms)
+spot_plain n numbers index byte ms old =
     let indexed = count_plain n (codes "record") index ms old in
-    let with_line = count_plain n (codes "line") (option_and_then (record_line input) index) _ indexed in
+    let with_line = count_plain n (codes "line") (option_and_then (slice_get numbers) index) _ indexed in
     count_plain n (codes "byte") byte _ with_line
 
-order_plain : (input : List ℕ) (origin : Origin) → IsPlain 0 (with_spot input (Some origin.index) (Some origin.at) no_members)
-order_plain input origin = spot_plain 0 input (Some origin.index) (Some origin.at) no_members (record { none = refl; flat = omega arith })
+order_plain : (numbers : List ℕ) (origin : Origin) → IsPlain 0 (with_spot numbers (Some origin.index) (Some origin.at) no_members)
+order_plain numbers origin = spot_plain 0 numbers (Some origin.index) (Some origin.at) no_members (record { none = refl; flat = omega arith })
 
-end_plain : (input : List ℕ) (end : Option Origin) (ms : Members) → IsPlain 2 ms → IsPlain 2 (with_end input end ms)
-end_plain input None ms old = old
-end_plain input (Some origin) ms old =
-    let plain = order_plain input origin in
+end_plain : (numbers : List ℕ) (end : Option Origin) (ms : Members) → IsPlain 2 ms → IsPlain 2 (with_end numbers end ms)
+end_plain numbers None ms old = old
+end_plain numbers (Some origin) ms old =
+    let plain = order_plain numbers origin in
     let flat = plain.flat in
-    put_both 2 (codes "end") (spot_data input origin) ms plain.none (omega (arith, flat)) old
+    put_both 2 (codes "end") (spot_data numbers origin) ms plain.none (omega (arith, flat)) old
 
 -- ---- keys
 
@@ -113,20 +112,20 @@ keys_plain (Some demo) ms old =
 -- ---- the object
 
 abbrev members_of : Declaration → List ℕ → Option Picture → Traced → Members
-members_of layout input opened traced =
+members_of layout numbers opened traced =
     with_help layout traced.finding (with_keys opened (demo_of traced.finding)
     (with_sizes (sizes_of traced.finding)
     (with_entry layout.entries traced.finding (with_place layout.size (place_of layout.entries traced.finding)
-    (with_end input traced.end (with_spot input (record_of traced) (byte_of traced) (with_words layout.entries traced.finding no_members)))))))
+    (with_end numbers traced.end (with_spot numbers (record_of traced) (byte_of traced) (with_words layout.entries traced.finding no_members)))))))
 
-plain_finding : (layout : Declaration) (input : List ℕ) (opened : Option Picture) (traced : Traced) → IsPlain 2 (members_of layout input opened traced)
-plain_finding layout input opened traced =
+plain_finding : (layout : Declaration) (numbers : List ℕ) (opened : Option Picture) (traced : Traced) → IsPlain 2 (members_of layout numbers opened traced)
+plain_finding layout numbers opened traced =
     let finding = traced.finding in
     let numbered = count_plain 2 (codes "number") (Some (finding_number finding)) no_members (record { none = refl; flat = omega arith }) in
     let named = text_plain 2 (codes "name") (Some (name_of finding)) _ numbered in
     let worded = text_plain 2 (codes "words") (Some (finding_text layout.entries finding)) _ named in
-    let begun = spot_plain 2 input (record_of traced) (byte_of traced) _ worded in
-    let ended = end_plain input traced.end _ begun in
+    let begun = spot_plain 2 numbers (record_of traced) (byte_of traced) _ worded in
+    let ended = end_plain numbers traced.end _ begun in
     let placed = count_plain 2 (codes "place") (place_of layout.entries finding) _ ended in
     let in_row = count_plain 2 (codes "row") (option_map (row_at layout.size) (place_of layout.entries finding)) _ placed in
     let in_column = count_plain 2 (codes "column") (option_map (column_at layout.size) (place_of layout.entries finding)) _ in_row in
@@ -139,8 +138,8 @@ plain_finding layout input opened traced =
     let sent = text_plain 2 (codes "sends") (option_map encode_upper (sent_from opened (demo_of finding))) _ keyed in
     text_plain 2 (codes "help") (help_of layout finding) _ sent
 
-pub finding_plain : (layout : Declaration) (input : List ℕ) (opened : Option Picture) (traced : Traced) → has_float (finding_data layout input opened traced) ≡ false
-finding_plain layout input opened traced = (plain_finding layout input opened traced).none
+pub finding_plain : (layout : Declaration) (numbers : List ℕ) (opened : Option Picture) (traced : Traced) → has_float (finding_data layout numbers opened traced) ≡ false
+finding_plain layout numbers opened traced = (plain_finding layout numbers opened traced).none
 
-pub finding_nests : (layout : Declaration) (input : List ℕ) (opened : Option Picture) (traced : Traced) → depth (finding_data layout input opened traced) ≤ max_depth
-finding_nests layout input opened traced = let flat = (plain_finding layout input opened traced).flat in omega (arith, flat)
+pub finding_nests : (layout : Declaration) (numbers : List ℕ) (opened : Option Picture) (traced : Traced) → depth (finding_data layout numbers opened traced) ≤ max_depth
+finding_nests layout numbers opened traced = let flat = (plain_finding layout numbers opened traced).flat in omega (arith, flat)

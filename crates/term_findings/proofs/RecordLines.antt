@@ -1,12 +1,13 @@
 -- What passes a test, one after the other, with its number.
-use Rattle.std.proofs.Common.{◌≡◌, ◌≢◌, ◌≤◌, ℕ, zero, suc, ◌+◌, ◌-◌, ◌*◌, ◌==◌, Bool, true, false, not, List, [], ◌∷◌, length, drop, Option, Some, None, refl, arith}
+use Rattle.std.proofs.Common.{◌≡◌, ◌≢◌, ◌≤◌, ℕ, zero, suc, ◌+◌, ◌-◌, ◌*◌, ◌==◌, Bool, true, false, not, List, [], ◌∷◌, length, map, drop, Option, Some, None, refl, arith}
 use Rattle.std.specs.Prelude.{slice_get}
 use Rattle.std.proofs.lemmas.Bool.Decides.{nat_tests}
+use Rattle.std.proofs.lemmas.Option.{slice_get_past}
 use Rattle.term_commands.specs.Records.{without_spaces}
 use Rattle.term_commands.specs.Says.{is_silent, telling}
 use Rattle.term_findings.specs.declared.region.Columns.{Columns}
 use Rattle.term_findings.specs.RecordLine.{numbers_of, telling_from}
-use Rattle.term_findings.specs.Region.{begins, is_table, byte_columns}
+use Rattle.term_findings.specs.Region.{begins, is_table, digit_ends, byte_columns}
 
 -- what fails the test is no number's
 over : {A : Type 0} (test : A → Bool) (number : ℕ) (item : A) (items : List A) (index : ℕ) → test item ≡ false
@@ -46,19 +47,28 @@ pub beyond : (number : ℕ) (line : List ℕ) (lines : List (List ℕ)) (index :
     → slice_get (telling_from number (line ∷ lines)) index ≡ slice_get (telling_from (number + 1) lines) (index - 1)
 beyond number line lines index telling some = past (λ l. not (is_silent l)) number line lines index (passes_not (is_silent line) telling) some
 
-pub text_over : (line : List ℕ) (lines : List (List ℕ)) (index : ℕ) → is_silent line ≡ true
-    → slice_get (telling (line ∷ lines)) index ≡ slice_get (telling lines) index
-text_over line lines index silent = rw silent refl
+none_of : {A : Type 0} (test : A → Bool) (number : ℕ) (item : A) (items : List A) → test item ≡ false
+    → numbers_of test number (item ∷ items) ≡ numbers_of test (number + 1) items
+none_of test number item items fails = rw fails refl
 
-pub text_here : (line : List ℕ) (lines : List (List ℕ)) → is_silent line ≡ false → slice_get (telling (line ∷ lines)) 0 ≡ Some line
-text_here line lines tells = rw tells refl
+one_of : {A : Type 0} (test : A → Bool) (number : ℕ) (item : A) (items : List A) → test item ≡ true
+    → numbers_of test number (item ∷ items) ≡ number ∷ numbers_of test (number + 1) items
+one_of test number item items passes = rw passes refl
 
-pub text_beyond : (line : List ℕ) (lines : List (List ℕ)) (index : ℕ) → is_silent line ≡ false → index ≢ 0
-    → slice_get (telling (line ∷ lines)) index ≡ slice_get (telling lines) (index - 1)
-text_beyond line lines zero tells some = absurd (some refl)
-text_beyond line lines (suc index) tells some =
-    let less : suc index - 1 ≡ index = omega arith in
-    rw (tells, less) refl
+pub none_of_silent : (number : ℕ) (line : List ℕ) (lines : List (List ℕ)) → is_silent line ≡ true
+    → telling_from number (line ∷ lines) ≡ telling_from (number + 1) lines
+none_of_silent number line lines silent = none_of (λ l. not (is_silent l)) number line lines (fails_not (is_silent line) silent)
+
+pub one_of_telling : (number : ℕ) (line : List ℕ) (lines : List (List ℕ)) → is_silent line ≡ false
+    → telling_from number (line ∷ lines) ≡ number ∷ telling_from (number + 1) lines
+one_of_telling number line lines telling = one_of (λ l. not (is_silent l)) number line lines (passes_not (is_silent line) telling)
+
+pub no_ends_of_silent : (line : List ℕ) (lines : List (List ℕ)) → is_silent line ≡ true → map digit_ends (telling (line ∷ lines)) ≡ map digit_ends (telling lines)
+no_ends_of_silent line lines silent = rw silent refl
+
+pub ends_of_telling : (line : List ℕ) (lines : List (List ℕ)) → is_silent line ≡ false
+    → map digit_ends (telling (line ∷ lines)) ≡ digit_ends line ∷ map digit_ends (telling lines)
+ends_of_telling line lines tells = rw tells refl
 
 -- ---- tables
 
@@ -76,40 +86,17 @@ table_beyond number line lines index table some = past is_table number line line
 
 -- ---- digits
 
-abbrev is_digit : ℕ → Bool
-is_digit c = not (c == 0x20)
+pub no_end_of_space : (after c : ℕ) (cs : List ℕ) → c ≡ 0x20
+    → numbers_of (λ b. not (b == 0x20)) after (c ∷ cs) ≡ numbers_of (λ b. not (b == 0x20)) (after + 1) cs
+no_end_of_space after c cs space = none_of (λ b. not (b == 0x20)) after c cs (rw space refl)
 
-pub over_space : (column c : ℕ) (cs : List ℕ) (index : ℕ) → c ≡ 0x20
-    → slice_get (numbers_of (λ b. not (b == 0x20)) column (c ∷ cs)) index ≡ slice_get (numbers_of (λ b. not (b == 0x20)) (column + 1) cs) index
-over_space column c cs index space = over is_digit column c cs index (rw space refl)
+pub end_of_digit : (after c : ℕ) (cs : List ℕ) → (c == 0x20) ≡ false
+    → numbers_of (λ b. not (b == 0x20)) after (c ∷ cs) ≡ after ∷ numbers_of (λ b. not (b == 0x20)) (after + 1) cs
+end_of_digit after c cs other = one_of (λ b. not (b == 0x20)) after c cs (passes_not (c == 0x20) other)
 
-pub digit_here : (column c : ℕ) (cs : List ℕ) → (c == 0x20) ≡ false
-    → slice_get (numbers_of (λ b. not (b == 0x20)) column (c ∷ cs)) 0 ≡ Some column
-digit_here column c cs other = first is_digit column c cs (passes_not (c == 0x20) other)
-
-pub digit_beyond : (column c : ℕ) (cs : List ℕ) (index : ℕ) → (c == 0x20) ≡ false → index ≢ 0
-    → slice_get (numbers_of (λ b. not (b == 0x20)) column (c ∷ cs)) index ≡ slice_get (numbers_of (λ b. not (b == 0x20)) (column + 1) cs) (index - 1)
-digit_beyond column c cs index other some = past is_digit column c cs index (passes_not (c == 0x20) other) some
-
--- ---- the columns of a byte
-
-none_at : {A : Type 0} (test : A → Bool) (number : ℕ) (item : A) (items : List A) (index : ℕ) (b : Bool) → test item ≡ b
-    → slice_get (numbers_of test (number + 1) items) (suc index) ≡ None → slice_get (numbers_of test (number + 1) items) index ≡ None
-    → slice_get (numbers_of test number (item ∷ items)) (suc index) ≡ None
-none_at test number item items index true is later here = rw is here
-none_at test number item items index false is later here = rw is later
-
-none_there : {A : Type 0} (test : A → Bool) (number : ℕ) (items : List A) (index : ℕ) → length items ≤ index
-    → slice_get (numbers_of test number items) index ≡ None
-none_there test number [] index few = refl
-none_there test number (item ∷ items) zero few = absurd (omega (arith, few))
-none_there test number (item ∷ items) (suc index) few =
-    none_at test number item items index (test item) refl (none_there test (number + 1) items (suc index) (omega (arith, few)))
-    (none_there test (number + 1) items index (omega (arith, few)))
-
--- a line that is no longer than this has no such byte
-pub no_columns : (line : List ℕ) (byte : ℕ) → length line ≤ byte → byte_columns line byte ≡ None
-no_columns line byte short = rw (none_there is_digit 1 line (2 * byte) (omega (arith, short))) refl
+-- a record with no more digits than this has no such byte
+pub no_columns : (ends : List ℕ) (byte : ℕ) → length ends ≤ byte → byte_columns ends byte ≡ None
+no_columns ends byte short = rw (slice_get_past ends (2 * byte) (omega (arith, short))) refl
 
 -- ---- the front of a line
 

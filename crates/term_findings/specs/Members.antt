@@ -1,5 +1,5 @@
 -- A finding as a JSON object. Its members are in the order of their keys, and a key that doesn't apply is left out.
-use Rattle.std.specs.Prelude.{ℕ, ◌==◌, List, [], ◌∷◌, ◌++◌, codes, Option, Some, None, option_map, option_and_then, if◌then◌else◌}
+use Rattle.std.specs.Prelude.{ℕ, ◌==◌, List, [], ◌∷◌, ◌++◌, codes, slice_get, Option, Some, None, option_map, option_and_then, if◌then◌else◌}
 use Rattle.serde_json.specs.Data.{Data, number, unsigned, string, array, object, Members, no_members, member, put}
 use Rattle.serde_json.specs.View.{items_of}
 use Rattle.hex.specs.Hex.{encode_upper}
@@ -15,7 +15,6 @@ use Rattle.scr_check.specs.FindingText.{demo_of, finding_number, finding_text}
 use Rattle.term_findings.specs.Facts.{record_of, byte_of, entry_of, place_of, row_at, column_at, length_of, sizes_of, size_text, sent_from}
 use Rattle.term_findings.specs.Help.{help_of}
 use Rattle.term_findings.specs.Name.{name_of}
-use Rattle.term_findings.specs.RecordLine.{record_line}
 
 -- ---- one member
 
@@ -37,19 +36,19 @@ with_words entries finding members =
     with_text (codes "words") (Some (finding_text entries finding))
     (with_text (codes "name") (Some (name_of finding)) (with_count (codes "number") (Some (finding_number finding)) members))
 
--- a record, its line in the input, and a byte of it
+-- a record, its line, of those on which records stand, and a byte of it
 abbrev pub with_spot : List ℕ → Option ℕ → Option ℕ → Members → Members
-with_spot input index byte members =
+with_spot numbers index byte members =
     with_count (codes "byte") byte
-    (with_count (codes "line") (option_and_then (record_line input) index) (with_count (codes "record") index members))
+    (with_count (codes "line") (option_and_then (slice_get numbers) index) (with_count (codes "record") index members))
 
 -- where an order stands
 abbrev pub spot_data : List ℕ → Origin → Data
-spot_data input origin = object (with_spot input (Some origin.index) (Some origin.at) no_members)
+spot_data numbers origin = object (with_spot numbers (Some origin.index) (Some origin.at) no_members)
 
 -- the order that ends the field
 abbrev pub with_end : List ℕ → Option Origin → Members → Members
-with_end input end members = with_some (codes "end") (option_map (spot_data input) end) members
+with_end numbers end members = with_some (codes "end") (option_map (spot_data numbers) end) members
 
 -- where the field begins
 abbrev pub with_place : Size → Option ℕ → Members → Members
@@ -90,10 +89,10 @@ with_help layout finding members = with_text (codes "help") (help_of layout find
 
 -- ---- the object
 
--- a finding of records that leave this picture, in this text
+-- a finding of records on these lines that leave this picture
 abbrev pub finding_data : Declaration → List ℕ → Option Picture → Traced → Data
-finding_data layout input opened traced =
+finding_data layout numbers opened traced =
     object (with_help layout traced.finding (with_keys opened (demo_of traced.finding)
     (with_sizes (sizes_of traced.finding)
     (with_entry layout.entries traced.finding (with_place layout.size (place_of layout.entries traced.finding)
-    (with_end input traced.end (with_spot input (record_of traced) (byte_of traced) (with_words layout.entries traced.finding no_members))))))))
+    (with_end numbers traced.end (with_spot numbers (record_of traced) (byte_of traced) (with_words layout.entries traced.finding no_members))))))))

@@ -17,6 +17,10 @@ numbers_of test number items = map (λ i. i.0) (filter (λ i. test i.1) (numbere
 abbrev pub telling_from : ℕ → List (List ℕ) → List ℕ
 telling_from number lines = numbers_of (λ line. not (is_silent line)) number lines
 
--- the line of the record of this index, counted from 1
+-- the lines on which the records stand, in turn, counted from 1
+abbrev pub record_numbers : List ℕ → List ℕ
+record_numbers text = telling_from 1 (lines_in text)
+
+-- the line of the record of this index
 abbrev pub record_line : List ℕ → ℕ → Option ℕ
-record_line text index = slice_get (telling_from 1 (lines_in text)) index
+record_line text index = slice_get (record_numbers text) index

@@ -1,5 +1,5 @@
 -- Where a finding or a refusal stands in the text of an input: its line, and the columns of a byte where one is known.
-use Rattle.std.specs.Prelude.{ℕ, ◌+◌, ◌*◌, Bool, true, false, not, ◌&&◌, ◌==◌, List, [], ◌∷◌, codes, slice_get, Option, Some, None, option_map, option_and_then, unwrap_or, Result, Ok, Err}
+use Rattle.std.specs.Prelude.{ℕ, ◌+◌, ◌-◌, ◌*◌, Bool, true, false, not, ◌&&◌, ◌==◌, List, [], ◌∷◌, map, codes, slice_get, Option, Some, None, option_map, option_and_then, unwrap_or, Result, Ok, Err}
 use Rattle.scr_check.specs.declared.origins.Origin.{Origin}
 use Rattle.scr_check.specs.declared.traced.Traced.{Traced}
 use Rattle.term_commands.specs.declared.fault.Fault.{Fault}
@@ -10,40 +10,49 @@ use Rattle.term_commands.specs.Says.{telling}
 use Rattle.term_findings.specs.declared.region.Columns.{Columns}
 use Rattle.term_findings.specs.declared.region.Region.{Region}
 use Rattle.term_findings.specs.Facts.{record_of, byte_of}
-use Rattle.term_findings.specs.RecordLine.{numbers_of, record_line}
+use Rattle.term_findings.specs.RecordLine.{numbers_of, record_numbers}
 
 -- ---- a byte of a record
 
--- the line of the record of this index
-abbrev pub record_text : List ℕ → ℕ → Option (List ℕ)
-record_text text index = slice_get (telling (lines_in text)) index
+-- the column after each digit of a line, counted from 1; spaces are no digits
+abbrev pub digit_ends : List ℕ → List ℕ
+digit_ends line = numbers_of (λ c. not (c == 0x20)) 2 line
 
--- the column of the digit of this index; spaces are no digits
-abbrev pub digit_column : List ℕ → ℕ → Option ℕ
-digit_column line index = slice_get (numbers_of (λ c. not (c == 0x20)) 1 line) index
+-- the same of each record
+abbrev pub record_ends : List ℕ → List (List ℕ)
+record_ends text = map digit_ends (telling (lines_in text))
 
 abbrev pub columns_of : Option ℕ → Option ℕ → Option Columns
-columns_of start last = option_and_then (λ column. option_map (λ end_column. record { start = column; after = end_column + 1 }) last) start
+columns_of first second = option_and_then (λ end. option_map (λ after. record { start = end - 1; after = after }) second) first
 
 -- the columns of the byte's two digits
 abbrev pub byte_columns : List ℕ → ℕ → Option Columns
-byte_columns line byte = columns_of (digit_column line (2 * byte)) (digit_column line (2 * byte + 1))
+byte_columns ends byte = columns_of (slice_get ends (2 * byte)) (slice_get ends (2 * byte + 1))
 
-abbrev pub spot_columns : List ℕ → Option ℕ → Option ℕ → Option Columns
-spot_columns input index byte = option_and_then (λ line. option_and_then (byte_columns line) byte) (option_and_then (record_text input) index)
+-- ---- a place
+
+-- where records stand in their text: the line of each, and the column after each of its digits
+pub record Standing : Type 0 where
+  pub numbers : List ℕ
+  pub ends : List (List ℕ)
+
+abbrev pub standing_in : List ℕ → Standing
+standing_in text = record { numbers = record_numbers text; ends = record_ends text }
+
+abbrev pub spot_columns : List (List ℕ) → Option ℕ → Option ℕ → Option Columns
+spot_columns ends index byte = option_and_then (λ digits. option_and_then (byte_columns digits) byte) (option_and_then (slice_get ends) index)
 
 -- the line of a record, or the first, and the columns of a byte of it
-abbrev pub spot_region : List ℕ → Option ℕ → Option ℕ → Region
-spot_region input index byte = record { line = unwrap_or (option_and_then (record_line input) index) 1; columns = spot_columns input index byte }
+abbrev pub spot_region : Standing → Option ℕ → Option ℕ → Region
+spot_region standing index byte =
+    record { line = unwrap_or (option_and_then (slice_get standing.numbers) index) 1; columns = spot_columns standing.ends index byte }
 
--- ---- a finding
-
-abbrev pub finding_region : List ℕ → Traced → Region
-finding_region input traced = spot_region input (record_of traced) (byte_of traced)
+abbrev pub finding_region : Standing → Traced → Region
+finding_region standing traced = spot_region standing (record_of traced) (byte_of traced)
 
 -- where an order begins
-abbrev pub order_region : List ℕ → Origin → Region
-order_region input origin = spot_region input (Some origin.index) (Some origin.at)
+abbrev pub order_region : Standing → Origin → Region
+order_region standing origin = spot_region standing (Some origin.index) (Some origin.at)
 
 -- ---- a refusal
 

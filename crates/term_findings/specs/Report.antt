@@ -17,6 +17,7 @@ use Rattle.term_commands.specs.Lines.{within_limit}
 use Rattle.term_commands.specs.Printed.{Printed, printed}
 use Rattle.term_commands.specs.Records.{records_in}
 use Rattle.term_findings.specs.Members.{finding_data}
+use Rattle.term_findings.specs.RecordLine.{record_numbers}
 use Rattle.term_findings.specs.declared.report.Report.{Report}
 use Rattle.term_findings.specs.declared.report.Report.TheVariants.{Json, Sarif}
 use Rattle.term_findings.specs.Lines.{data_line, found_in, status_of}
@@ -24,9 +25,9 @@ use Rattle.term_findings.specs.Log.{printed_log}
 
 -- ---- lines
 
--- the line of a finding, of records that leave this picture
+-- the line of a finding, of records on these lines that leave this picture
 abbrev pub finding_line : Declaration → List ℕ → Option Picture → Traced → List ℕ
-finding_line layout input opened finding = data_line (finding_data layout input opened finding)
+finding_line layout numbers opened finding = data_line (finding_data layout numbers opened finding)
 
 abbrev pub verdict_word : List Traced → List ℕ
 verdict_word [] = codes "yes"
@@ -48,7 +49,7 @@ refusal_data fault = object (member (codes "verdict") (string (codes "refused"))
 -- a line for each finding, and one for the verdict; keys are pressed on the picture that the records leave
 abbrev pub report_findings : Declaration → List ℕ → List (List ℕ) → List Traced → Printed
 report_findings layout input records findings =
-    printed (flat_map (finding_line layout input (asked Pressed (shown_on layout records))) findings
+    printed (flat_map (finding_line layout (record_numbers input) (asked Pressed (shown_on layout records))) findings
     ++ data_line (verdict_data (length layout.entries) (length records) findings))
     (status_of findings)
 

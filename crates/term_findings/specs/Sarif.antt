@@ -15,7 +15,7 @@ use Rattle.term_findings.specs.declared.region.Region.{Region}
 use Rattle.term_findings.specs.declared.rule.Rule.{Rule}
 use Rattle.term_findings.specs.declared.rule.Rule.TheVariants.{InputRefused}
 use Rattle.term_findings.specs.Help.{help_of}
-use Rattle.term_findings.specs.Region.{finding_region, order_region}
+use Rattle.term_findings.specs.Region.{Standing, standing_in, finding_region, order_region}
 use Rattle.term_findings.specs.Rule.{all_rules, rule_of, rule_index, rule_id, rule_name, brief_of, meaning_of, rule_help}
 use Rattle.term_findings.specs.Uri.{uri_of}
 
@@ -90,16 +90,16 @@ help_end (Some help) = codes ": " ++ help
 abbrev pub message_of : Declaration → Finding → List ℕ
 message_of layout finding = finding_text layout.entries finding ++ help_end (help_of layout finding)
 
-abbrev pub end_of : List ℕ → List ℕ → Option Origin → Option Data
-end_of path input end = option_map (λ origin. end_data path (order_region input origin)) end
+abbrev pub end_of : List ℕ → Standing → Option Origin → Option Data
+end_of path standing end = option_map (λ origin. end_data path (order_region standing origin)) end
 
--- a finding of records in this text, of the file of this path
-abbrev pub finding_result : List ℕ → Declaration → List ℕ → Traced → Data
-finding_result path layout input traced =
-    result_data (rule_of traced.finding) path (finding_region input traced) (message_of layout traced.finding) (end_of path input traced.end)
+-- a finding of records that stand so, of the file of this path
+abbrev pub finding_result : List ℕ → Declaration → Standing → Traced → Data
+finding_result path layout standing traced =
+    result_data (rule_of traced.finding) path (finding_region standing traced) (message_of layout traced.finding) (end_of path standing traced.end)
 
-abbrev pub findings_data : List ℕ → Declaration → List ℕ → List Traced → Data
-findings_data path layout input findings = array (items_of (map (finding_result path layout input) findings))
+abbrev pub findings_data : List ℕ → Declaration → Standing → List Traced → Data
+findings_data path layout standing findings = array (items_of (map (finding_result path layout standing) findings))
 
 -- what is wrong with the input of this path, at a line
 abbrev pub refusal_results : List ℕ → ℕ → Fault → Data
@@ -116,7 +116,7 @@ log_data results =
     (member (codes "runs") (array (item (run_data results) no_items)) (member (codes "version") (string (codes "2.1.0")) no_members)))
 
 abbrev pub findings_log_data : List ℕ → Declaration → List ℕ → List Traced → Data
-findings_log_data path layout input findings = log_data (findings_data path layout input findings)
+findings_log_data path layout input findings = log_data (findings_data path layout (standing_in input) findings)
 
 abbrev pub refusal_log_data : List ℕ → ℕ → Fault → Data
 refusal_log_data path line fault = log_data (refusal_results path line fault)

@@ -11,9 +11,11 @@ ghost use Rattle.term_commands.specs.Printed.{printed};
 ghost use Rattle.term_commands.specs.declared.status.Status.TheVariants.{BadInput};
 ghost use Rattle.term_findings.specs.Lines.{data_line, status_of};
 ghost use Rattle.term_findings.specs.Members.{finding_data};
+ghost use Rattle.term_findings.specs.RecordLine.{record_numbers};
 ghost use Rattle.term_findings.specs.Report.{finding_line, verdict_data, verdict_word, refusal_data, report_findings};
 
 use crate::members::finding_value;
+use crate::record_line::record_numbers;
 use ds_screen::PlaneCells;
 use ds_terminal::Terminal;
 use scr_check::Traced;
@@ -33,8 +35,8 @@ fn push_line(alloc: Global, out: &mut String, value: &Value) -> Result<(), Alloc
     out.push_str("\n")
 }
 
-/// A finding of records, in their text, with the orders that it comes from, as JSON: the keys that it has. Keys of its demo are pressed on the terminal that
-/// the records leave. A parser reads the same value again.
+/// A finding of records, in their text, with the orders that it comes from, as JSON: the keys that it has. Keys of its
+/// demo are pressed on the terminal that the records leave. A parser reads the same value again.
 ///
 /// # Errors
 ///
@@ -48,33 +50,52 @@ pub fn finding_json(
     traced: &Traced,
 ) -> Result<String, AllocError>
     ensures text { IfOk result (λ text. string_bytes text
-        ≡ compact_text (finding_data layout.now input.now (option_map (λ t. t.now) terminal.entry) traced.now)) }
+        ≡ compact_text (finding_data layout.now (record_numbers input.now) (option_map (λ t. t.now) terminal.entry) traced.now)) }
     ensures again { IfOk result (λ text. read (string_bytes text)
-        ≡ Some (finding_data layout.now input.now (option_map (λ t. t.now) terminal.entry) traced.now)) }
+        ≡ Some (finding_data layout.now (record_numbers input.now) (option_map (λ t. t.now) terminal.entry) traced.now)) }
 {
-    let value = finding_value(alloc, layout, input, terminal, traced)?;
+    let numbers = record_numbers(alloc, input)?;
+    let value = finding_value(alloc, layout, numbers.as_slice(), terminal, traced)?;
     value.to_string(alloc)
 }
 
 /// The line of a finding.
+#[tactic(auto, using(crate::proofs::Plain::finding_plain))]
 fn push_finding(
     alloc: Global,
     out: &mut String,
     layout: &Layout,
-    input: &[u8],
+    numbers: &[usize],
     terminal: Option<&Terminal<PlaneCells>>,
     traced: &Traced,
 ) -> Result<(), AllocError>
     ensures { OnOk result (string_bytes out.new ≡ string_bytes out.old
-        ++ finding_line layout.now input.now (option_map (λ t. t.now) terminal.entry) traced.now) }
+        ++ finding_line layout.now numbers.now (option_map (λ t. t.now) terminal.entry) traced.now) }
 {
-    let text = finding_json(alloc, layout, input, terminal, traced)?;
-    out.push_str(text.as_str())?;
-    out.push_str("\n")
+    let value = finding_value(alloc, layout, numbers, terminal, traced)?;
+    push_line(alloc, out, &value)
 }
 
-/// The lines of findings, in their order.
+/// The lines of findings of records on these lines, in their order.
 fn push_findings(
+    alloc: Global,
+    out: &mut String,
+    layout: &Layout,
+    numbers: &[usize],
+    terminal: Option<&Terminal<PlaneCells>>,
+    findings: &[Traced],
+) -> Result<(), AllocError>
+    ensures { OnOk result (string_bytes out.new ≡ string_bytes out.old
+        ++ flat_map (finding_line layout.now numbers.now (option_map (λ t. t.now) terminal.entry)) findings.now) }
+{
+    for finding in findings {
+        push_finding(alloc, out, layout, numbers, terminal, finding)?;
+    }
+    Ok(())
+}
+
+/// The same of records in their text, which isn't looked at where there is no finding.
+fn push_all(
     alloc: Global,
     out: &mut String,
     layout: &Layout,
@@ -83,12 +104,13 @@ fn push_findings(
     findings: &[Traced],
 ) -> Result<(), AllocError>
     ensures { OnOk result (string_bytes out.new ≡ string_bytes out.old
-        ++ flat_map (finding_line layout.now input.now (option_map (λ t. t.now) terminal.entry)) findings.now) }
+        ++ flat_map (finding_line layout.now (record_numbers input.now) (option_map (λ t. t.now) terminal.entry)) findings.now) }
 {
-    for finding in findings {
-        push_finding(alloc, out, layout, input, terminal, finding)?;
+    if findings.is_empty() {
+        return Ok(());
     }
-    Ok(())
+    let numbers = record_numbers(alloc, input)?;
+    push_findings(alloc, out, layout, numbers.as_slice(), terminal, findings)
 }
 
 fn verdict_word(findings: &[Traced]) -> &'static str
@@ -174,7 +196,7 @@ pub(crate) fn findings_answer(
 {
     let mut text = String::new(alloc);
     let terminal = demo_terminal(alloc, layout, records, Demos::Printed)?;
-    push_findings(alloc, &mut text, layout, input, terminal.as_ref(), findings)?;
+    push_all(alloc, &mut text, layout, input, terminal.as_ref(), findings)?;
     push_verdict(
         alloc,
         &mut text,

@@ -1,11 +1,10 @@
 //! A finding as a JSON object.
 
-ghost use Rattle.std.specs.Prelude.{◌≡◌, ◌≤◌, ◌++◌, map, option_map, option_and_then, IfOk, OnOk, Some};
+ghost use Rattle.std.specs.Prelude.{◌≡◌, ◌≤◌, ◌++◌, map, option_map, option_and_then, slice_get, IfOk, OnOk, Some};
 ghost use Rattle.std.specs.String.{string_bytes};
 ghost use Rattle.hex.specs.Hex.{encode_upper};
 ghost use Rattle.serde_json.specs.View.{view, members_view};
 ghost use Rattle.term_findings.specs.Facts.{sent_from};
-ghost use Rattle.term_findings.specs.RecordLine.{record_line};
 ghost use Rattle.term_findings.specs.Members.{with_count, with_text, with_words, with_spot, with_end, with_place, with_entry, with_sizes, with_keys, with_help, spot_data, pressed, keys_data, finding_data};
 
 use crate::facts::{
@@ -13,7 +12,6 @@ use crate::facts::{
 };
 use crate::help::help_text;
 use crate::names::name_of;
-use crate::record_line::line_of_record;
 use ds_codec::Size;
 use ds_screen::PlaneCells;
 use ds_terminal::Terminal;
@@ -84,38 +82,38 @@ fn put_words(
     put_text(alloc, members, "words", words)
 }
 
-/// The line of a record, where there is one.
-fn line_of(input: &[u8], index: Option<usize>) -> Option<usize>
-    ensures { result ≡ option_and_then (record_line input.now) index }
+/// The line of a record, of those on which records stand, where there is one.
+fn line_of(numbers: &[usize], index: Option<usize>) -> Option<usize>
+    ensures { result ≡ option_and_then (slice_get numbers.now) index }
 {
-    line_of_record(input, index?)
+    numbers.get(index?).copied()
 }
 
-/// A record, its line in the input, and a byte of it, where there are such.
+/// A record, its line and a byte of it, where there are such.
 fn put_spot(
     alloc: Global,
     members: &mut Members,
-    input: &[u8],
+    numbers: &[usize],
     index: Option<usize>,
     byte: Option<usize>,
 ) -> Result<(), AllocError>
     ensures { OnOk result (members_view members.new.entries
-        ≡ with_spot input.now index byte (members_view members.old.entries)) }
+        ≡ with_spot numbers.now index byte (members_view members.old.entries)) }
 {
     put_count(alloc, members, "record", index)?;
-    put_count(alloc, members, "line", line_of(input, index))?;
+    put_count(alloc, members, "line", line_of(numbers, index))?;
     put_count(alloc, members, "byte", byte)
 }
 
 /// Where an order stands.
-fn spot_value(alloc: Global, input: &[u8], origin: Origin) -> Result<Value, AllocError>
-    ensures { IfOk result (λ value. view value ≡ spot_data input.now origin) }
+fn spot_value(alloc: Global, numbers: &[usize], origin: Origin) -> Result<Value, AllocError>
+    ensures { IfOk result (λ value. view value ≡ spot_data numbers.now origin) }
 {
     let mut members = Map::new(alloc);
     put_spot(
         alloc,
         &mut members,
-        input,
+        numbers,
         Some(origin.index),
         Some(origin.at),
     )?;
@@ -126,14 +124,14 @@ fn spot_value(alloc: Global, input: &[u8], origin: Origin) -> Result<Value, Allo
 fn put_end(
     alloc: Global,
     members: &mut Members,
-    input: &[u8],
+    numbers: &[usize],
     end: Option<Origin>,
 ) -> Result<(), AllocError>
     ensures { OnOk result (members_view members.new.entries
-        ≡ with_end input.now end (members_view members.old.entries)) }
+        ≡ with_end numbers.now end (members_view members.old.entries)) }
 {
     match end {
-        Some(origin) => put(members, alloc, "end", spot_value(alloc, input, origin)?),
+        Some(origin) => put(members, alloc, "end", spot_value(alloc, numbers, origin)?),
         None => Ok(()),
     }
 }
@@ -261,18 +259,18 @@ fn put_help(
     }
 }
 
-/// A finding as a JSON object: its number, its name and its words, and each of the others that it has: `record`, `line` and
+/// A finding of records on these lines as a JSON object: its number, its name and its words, and each of the others that it has: `record`, `line` and
 /// `byte`, `end`, `place`, `row` and `column`, `length`, `declared` and `entry`, `size` and `layout`, `keys` and `sends`,
 /// and `help`.
 pub(crate) fn finding_value(
     alloc: Global,
     layout: &Layout,
-    input: &[u8],
+    numbers: &[usize],
     terminal: Option<&Terminal<PlaneCells>>,
     traced: &Traced,
 ) -> Result<Value, AllocError>
     ensures { IfOk result (λ value. view value
-        ≡ finding_data layout.now input.now (option_map (λ t. t.now) terminal.entry) traced.now) }
+        ≡ finding_data layout.now numbers.now (option_map (λ t. t.now) terminal.entry) traced.now) }
 {
     let entries = layout.entries();
     let finding = &traced.finding;
@@ -282,11 +280,11 @@ pub(crate) fn finding_value(
     put_spot(
         alloc,
         &mut members,
-        input,
+        numbers,
         record_of(traced),
         byte_of(traced),
     )?;
-    put_end(alloc, &mut members, input, traced.end)?;
+    put_end(alloc, &mut members, numbers, traced.end)?;
     put_place(alloc, &mut members, layout.size(), place)?;
     put_entry(alloc, &mut members, entries, finding)?;
     put_sizes(alloc, &mut members, sizes_of(finding))?;

@@ -1,13 +1,14 @@
 //! The line on which a record stands.
 
-ghost use Rattle.std.specs.Prelude.{◌≡◌};
+ghost use Rattle.std.specs.Prelude.{◌≡◌, IfOk};
 ghost use Rattle.term_commands.specs.Lines.{is_ignored};
 ghost use Rattle.term_commands.specs.Records.{without_spaces};
 ghost use Rattle.term_commands.specs.Says.{is_silent};
 ghost use Rattle.std.specs.Str.{is_utf8};
-ghost use Rattle.term_findings.specs.RecordLine.{record_line};
+ghost use Rattle.term_findings.specs.RecordLine.{record_numbers, record_line};
 
 use bstr::ByteSlice;
+use std::alloc::{AllocError, Global};
 
 /// Whether a line is empty but for spaces, or a comment.
 fn is_ignored(line: &[u8]) -> bool
@@ -55,4 +56,20 @@ pub fn line_of_record(text: &[u8], index: usize) -> Option<usize>
         number += 1;
     }
     None
+}
+
+/// The lines on which the records stand, in turn, counted from 1.
+#[tactic(auto, using(crate::proofs::RecordLines::none_of_silent, crate::proofs::RecordLines::one_of_telling))]
+pub(crate) fn record_numbers(alloc: Global, text: &[u8]) -> Result<Vec<usize>, AllocError>
+    ensures { IfOk result (λ numbers. numbers.items ≡ record_numbers text.now) }
+{
+    let mut numbers = Vec::new(alloc);
+    let mut line_number = 1;
+    for line in text.lines() {
+        if !is_silent(line) {
+            numbers.push(line_number)?;
+        }
+        line_number += 1;
+    }
+    Ok(numbers)
 }

@@ -1,14 +1,16 @@
 //! Where a finding or a refusal stands in the text of an input.
 
-ghost use Rattle.std.specs.Prelude.{◌≡◌, ◌≤◌, codes, option_map, IfSome, length};
+ghost use Rattle.std.specs.Prelude.{◌≡◌, ◌≤◌, codes, map, option_and_then, slice_get, unwrap_or, IfOk, length};
 ghost use Rattle.term_commands.specs.Lines.{within_limit};
-ghost use Rattle.term_findings.specs.Region.{record_text, digit_column, byte_columns, begins, is_table, table_line, spot_columns, spot_region, finding_region, order_region, fault_table, line_in, line_of_fault};
+ghost use Rattle.term_findings.specs.Region.{digit_ends, record_ends, standing_in, byte_columns, begins, is_table, table_line, spot_columns, spot_region, finding_region, order_region, fault_table, line_in, line_of_fault};
 ghost use Rattle.term_commands.specs.Records.{without_spaces};
 
 use crate::facts::{byte_of, record_of};
-use crate::record_line::{is_silent, line_of_record};
+use crate::record_line::{is_silent, record_numbers};
 use bstr::ByteSlice;
 use scr_check::{Origin, Traced};
+use std::alloc::{AllocError, Global};
+use std::marker::Model;
 use term_commands::Fault;
 
 /// The most bytes of a text that is looked at.
@@ -32,91 +34,120 @@ pub(crate) struct Region {
     pub columns: Option<Columns>,
 }
 
-/// The line of the record of an index, counted from 0.
-#[tactic(auto, using(crate::proofs::RecordLines::text_over, crate::proofs::RecordLines::text_here, crate::proofs::RecordLines::text_beyond))]
-fn record_text(text: &[u8], index: usize) -> Option<&[u8]>
-    ensures { option_map (λ line. line.now) result ≡ record_text text.now index }
-{
-    let mut left = index;
-    for line in text.lines() {
-        if !is_silent(line) {
-            if left == 0 {
-                return Some(line);
-            }
-            left -= 1;
-        }
-    }
-    None
+/// Where records stand in their text: the line of each, counted from 1, and the column after each of its digits.
+#[derive(Debug, Drop)]
+pub(crate) struct Standing {
+    numbers: Vec<usize>,
+    ends: Vec<Vec<usize>>,
 }
 
-/// The column of a digit, counted from 1; digits are counted from 0, and spaces are none.
-#[tactic(auto, using(crate::proofs::RecordLines::over_space, crate::proofs::RecordLines::digit_here, crate::proofs::RecordLines::digit_beyond))]
-fn digit_column(line: &[u8], index: usize) -> Option<usize>
-    ensures column { result ≡ digit_column line.now index }
-    ensures inside { IfSome result (λ column. column ≤ length line.now) }
+impl Model for Standing {
+    ghost use Rattle.std.specs.Prelude.{map};
+    ghost use Rattle.term_findings.specs.Region.{Standing as AStanding};
+
+    ghost Value = { AStanding };
+
+    ghost view = { λ s. record {
+      numbers = s.numbers.items;
+      ends = map (λ ends. ends.items) s.ends.items;
+    } };
+}
+
+/// The column after each digit of a line, counted from 1; spaces are no digits.
+#[tactic(auto, using(crate::proofs::RecordLines::no_end_of_space, crate::proofs::RecordLines::end_of_digit))]
+fn digit_ends(alloc: Global, line: &[u8]) -> Result<Vec<usize>, AllocError>
+    ensures { IfOk result (λ ends. ends.items ≡ digit_ends line.now) }
 {
-    let mut left = index;
-    let mut column = 1;
+    let mut ends = Vec::new(alloc);
+    let mut after = 2;
     for byte in line {
         if *byte != b' ' {
-            if left == 0 {
-                return Some(column);
-            }
-            left -= 1;
+            ends.push(after)?;
         }
-        column += 1;
+        after += 1;
     }
-    None
+    Ok(ends)
 }
 
-/// The columns of a byte in a line of hexadecimal, counted from 0; none where it has no two digits there.
-#[tactic(auto, using(crate::proofs::RecordLines::no_columns))]
-fn byte_columns(line: &[u8], byte: usize) -> Option<Columns>
-    ensures { result ≡ byte_columns line.now byte }
+/// The same of each record.
+#[tactic(auto, using(crate::proofs::RecordLines::no_ends_of_silent, crate::proofs::RecordLines::ends_of_telling))]
+fn record_ends(alloc: Global, text: &[u8]) -> Result<Vec<Vec<usize>>, AllocError>
+    ensures { IfOk result (λ all. map (λ ends. ends.items) all.items ≡ record_ends text.now) }
 {
-    if line.len() <= byte {
+    let mut all = Vec::new(alloc);
+    for line in text.lines() {
+        if !is_silent(line) {
+            all.push(digit_ends(alloc, line)?)?;
+        }
+    }
+    Ok(all)
+}
+
+/// Where the records of a text stand.
+pub(crate) fn standing_in(alloc: Global, text: &[u8]) -> Result<Standing, AllocError>
+    ensures { IfOk result (λ standing. standing ≡ standing_in text.now) }
+{
+    let numbers = record_numbers(alloc, text)?;
+    let ends = record_ends(alloc, text)?;
+    Ok(Standing { numbers, ends })
+}
+
+/// The columns of a byte, counted from 0, of a record whose digits end there; none where it has no two digits.
+#[tactic(auto, using(crate::proofs::RecordLines::no_columns))]
+fn byte_columns(ends: &[usize], byte: usize) -> Option<Columns>
+    ensures { result ≡ byte_columns ends.now byte }
+{
+    if ends.len() <= byte {
         return None;
     }
-    let start = digit_column(line, 2 * byte)?;
-    let last = digit_column(line, 2 * byte + 1)?;
+    let end = *ends.get(2 * byte)?;
+    let after = *ends.get(2 * byte + 1)?;
     Some(Columns {
-        start,
-        after: last + 1,
+        start: end.saturating_sub(1),
+        after,
     })
 }
 
-fn spot_columns(input: &[u8], index: Option<usize>, byte: Option<usize>) -> Option<Columns>
-    ensures { result ≡ spot_columns input.now index byte }
+fn spot_columns(ends: &[Vec<usize>], index: Option<usize>, byte: Option<usize>) -> Option<Columns>
+    ensures { result ≡ spot_columns (map (λ ends. ends.items) ends.now) index byte }
 {
-    let line = record_text(input, index?)?;
-    byte_columns(line, byte?)
+    let digits = ends.get(index?)?;
+    byte_columns(digits.as_slice(), byte?)
+}
+
+/// The line of a record, or the first.
+fn line_at(numbers: &[usize], index: Option<usize>) -> usize
+    ensures { result ≡ unwrap_or (option_and_then (slice_get numbers.now) index) 1 }
+{
+    match index {
+        Some(index) => numbers.get(index).copied().unwrap_or(1),
+        None => 1,
+    }
 }
 
 /// The line of a record, or the first, and the columns of a byte of it.
-fn spot_region(input: &[u8], index: Option<usize>, byte: Option<usize>) -> Region
-    ensures { result ≡ spot_region input.now index byte }
+fn spot_region(standing: &Standing, index: Option<usize>, byte: Option<usize>) -> Region
+    ensures { result ≡ spot_region standing.now index byte }
 {
-    let columns = spot_columns(input, index, byte);
-    let line = match index {
-        Some(index) => line_of_record(input, index).unwrap_or(1),
-        None => 1,
-    };
-    Region { line, columns }
+    Region {
+        line: line_at(standing.numbers.as_slice(), index),
+        columns: spot_columns(standing.ends.as_slice(), index, byte),
+    }
 }
 
 /// The line of the record that a finding is about, or the first; and the byte at which the record is refused, or where
 /// the order begins from which the finding comes.
-pub(crate) fn finding_region(input: &[u8], traced: &Traced) -> Region
-    ensures { result ≡ finding_region input.now traced.now }
+pub(crate) fn finding_region(standing: &Standing, traced: &Traced) -> Region
+    ensures { result ≡ finding_region standing.now traced.now }
 {
-    spot_region(input, record_of(traced), byte_of(traced))
+    spot_region(standing, record_of(traced), byte_of(traced))
 }
 
 /// Where an order begins.
-pub(crate) fn order_region(input: &[u8], origin: Origin) -> Region
-    ensures { result ≡ order_region input.now origin }
+pub(crate) fn order_region(standing: &Standing, origin: Origin) -> Region
+    ensures { result ≡ order_region standing.now origin }
 {
-    spot_region(input, Some(origin.index), Some(origin.at))
+    spot_region(standing, Some(origin.index), Some(origin.at))
 }
 
 /// Whether a line begins with these bytes, where spaces don't count.

@@ -7,11 +7,12 @@ ghost use Rattle.serde_json.specs.Read.{read};
 ghost use Rattle.serde_json.specs.View.{view, items_of};
 ghost use Rattle.serde_json.specs.Written.{compact_text, has_float};
 ghost use Rattle.term_commands.specs.Fault.{fault_text};
+ghost use Rattle.term_findings.specs.Region.{standing_in};
 ghost use Rattle.term_findings.specs.Rule.{rule_help};
 ghost use Rattle.term_findings.specs.Sarif.{message_data, rule_data, tool_data, region_data, physical_data, location_data, end_data, result_data, help_end, message_of, end_of, finding_result, findings_data, refusal_results, refusal_log_data, log_data, findings_log_data};
 
 use crate::help::help_text;
-use crate::region::{Region, finding_region, order_region};
+use crate::region::{Region, Standing, finding_region, order_region, standing_in};
 use crate::rule::{Rule, all_rules, rule_of};
 use crate::uri::uri_of;
 use scr_check::{Finding, Origin, Traced};
@@ -180,13 +181,13 @@ fn message_of(alloc: Global, layout: &Layout, finding: &Finding) -> Result<Strin
 fn end_of(
     alloc: Global,
     path: &str,
-    input: &[u8],
+    standing: &Standing,
     end: Option<Origin>,
 ) -> Result<Option<Value>, AllocError>
-    ensures { IfOk result (λ value. option_map view value ≡ end_of path.now input.now end) }
+    ensures { IfOk result (λ value. option_map view value ≡ end_of path.now standing.now end) }
 {
     match end {
-        Some(origin) => Ok(Some(end_value(alloc, path, order_region(input, origin))?)),
+        Some(origin) => Ok(Some(end_value(alloc, path, order_region(standing, origin))?)),
         None => Ok(None),
     }
 }
@@ -195,16 +196,16 @@ fn finding_result(
     alloc: Global,
     path: &str,
     layout: &Layout,
-    input: &[u8],
+    standing: &Standing,
     traced: &Traced,
 ) -> Result<Value, AllocError>
     ensures { IfOk result (λ value. view value
-        ≡ finding_result path.now layout.now input.now traced.now) }
+        ≡ finding_result path.now layout.now standing.now traced.now) }
 {
     let finding = &traced.finding;
     let text = message_of(alloc, layout, finding)?;
-    let end = end_of(alloc, path, input, traced.end)?;
-    let region = finding_region(input, traced);
+    let end = end_of(alloc, path, standing, traced.end)?;
+    let region = finding_region(standing, traced);
     result_value(alloc, rule_of(finding), path, region, text.as_str(), end)
 }
 
@@ -212,17 +213,35 @@ fn findings_value(
     alloc: Global,
     path: &str,
     layout: &Layout,
+    standing: &Standing,
+    findings: &[Traced],
+) -> Result<Value, AllocError>
+    ensures { IfOk result (λ value. view value
+        ≡ findings_data path.now layout.now standing.now findings.now) }
+{
+    let mut values = Vec::new(alloc);
+    for finding in findings {
+        values.push(finding_result(alloc, path, layout, standing, finding)?)?;
+    }
+    Ok(Value::Array(values))
+}
+
+/// The results of findings of records in their text, which isn't looked at where there is none.
+fn results_value(
+    alloc: Global,
+    path: &str,
+    layout: &Layout,
     input: &[u8],
     findings: &[Traced],
 ) -> Result<Value, AllocError>
     ensures { IfOk result (λ value. view value
-        ≡ findings_data path.now layout.now input.now findings.now) }
+        ≡ findings_data path.now layout.now (standing_in input.now) findings.now) }
 {
-    let mut values = Vec::new(alloc);
-    for finding in findings {
-        values.push(finding_result(alloc, path, layout, input, finding)?)?;
+    if findings.is_empty() {
+        return Ok(Value::Array(Vec::new(alloc)));
     }
-    Ok(Value::Array(values))
+    let standing = standing_in(alloc, input)?;
+    findings_value(alloc, path, layout, &standing, findings)
 }
 
 /// A log of one run, with these results.
@@ -270,7 +289,7 @@ pub fn findings_log(
     ensures again { IfOk result (λ text. read (string_bytes text)
         ≡ Some (findings_log_data path.now layout.now input.now findings.now)) }
 {
-    let results = findings_value(alloc, path, layout, input, findings)?;
+    let results = results_value(alloc, path, layout, input, findings)?;
     log_text(alloc, results)
 }
 

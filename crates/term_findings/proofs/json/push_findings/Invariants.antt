@@ -7,5 +7,5 @@ use Rattle.term_findings.proofs.json.push_findings.Given as goal
 
 abbrev pub invariant-loop-finding : goal.invariant-loop-finding
 invariant-loop-finding l =
-    string_bytes l.out ++ flat_map (finding_line l.layout l.input (option_map (λ t. t.now) l.terminal)) (drop l.finding-index l.findings)
-    ≡ string_bytes l.fn.out ++ flat_map (finding_line l.layout l.input (option_map (λ t. t.now) l.terminal)) l.findings
+    string_bytes l.out ++ flat_map (finding_line l.layout l.numbers (option_map (λ t. t.now) l.terminal)) (drop l.finding-index l.findings)
+    ≡ string_bytes l.fn.out ++ flat_map (finding_line l.layout l.numbers (option_map (λ t. t.now) l.terminal)) l.findings
