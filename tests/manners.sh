@@ -1,6 +1,7 @@
 #!/bin/sh
 # Compares the commands and long options that --help prints with those of the manual page and the completions, and
-# tries what a stream that fails prints. Where python3 is installed, the golden logs of SARIF are looked at too.
+# tries what a stream that fails prints. Where python3 is installed, the golden logs of SARIF are looked at too, and findings of
+# records drawn at random.
 # The last line is 'N passed, M failed'.
 program=$(cd "$(dirname "$1")" && pwd)/$(basename "$1")
 root=$(cd "$(dirname "$0")/.." && pwd)
@@ -58,9 +59,11 @@ compare 'a write that fails' 'term3270: standard output: No space left on device
 compare 'a read that fails' 'term3270: standard input: Is a directory (os error 21) 3' "$("$program" 2>&1 < /; echo " $?")"
 compare 'help that is not written' 'term3270: No space left on device (os error 28) 3' \
   "$("$program" --help 2>&1 > /dev/full; echo " $?")"
-# The golden logs of SARIF have what services ask for, and the version that the program prints.
+# The golden logs of SARIF have what services ask for, and the version that the program prints. Findings come from where
+# a reading of their records by another program says.
 if command -v python3 > /dev/null; then
   compare 'the logs of SARIF' '0 failed' "$(PYTHONDONTWRITEBYTECODE=1 python3 "$root/tests/sarif.py" "$program" | tail -n 1 | sed 's/.*, //')"
+  compare 'where findings come from' '300 passed, 0 failed' "$(PYTHONDONTWRITEBYTECODE=1 python3 "$root/tests/origins.py" "$program" | tail -n 1)"
 fi
 echo "$passed passed, $failed failed"
 [ "$failed" -eq 0 ]

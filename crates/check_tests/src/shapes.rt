@@ -39,14 +39,34 @@ fn shape_of(alloc: Global, screen: &Screen<PlaneCells>) -> Result<String, AllocE
     Ok(shape)
 }
 
-/// The shape of the setup's screen, and whether keys keep it; else the shape that they leave.
+/// The shape of a screen after keys, beside the one before them.
+fn push_after(
+    alloc: Global,
+    screen: &Screen<PlaneCells>,
+    out: &mut String,
+    before: &str,
+) -> Result<(), AllocError> {
+    let after = shape_of(alloc, screen)?;
+    push_both(out, before, after.as_str())
+}
+
+/// Whether keys keep the shape of a screen; else the shape that they leave.
+fn push_pressed(
+    alloc: Global,
+    screen: &mut Screen<PlaneCells>,
+    out: &mut String,
+    keys: &str,
+) -> Result<()> {
+    let before = shape_of(alloc, screen)?;
+    press_lines(screen, keys)?;
+    Ok(push_after(alloc, screen, out, before.as_str())?)
+}
+
+/// The same of the setup's screen.
 fn push_kept(alloc: Global, setup: &Setup, out: &mut String, keys: &str) -> Result<()> {
     let layout = layout_of(alloc, setup)?;
     let mut screen = opened_after(alloc, setup, &layout)?;
-    let before = shape_of(alloc, &screen)?;
-    press_lines(&mut screen, keys)?;
-    let after = shape_of(alloc, &screen)?;
-    Ok(push_both(out, before.as_str(), after.as_str())?)
+    push_pressed(alloc, &mut screen, out, keys)
 }
 
 fn push_both(out: &mut String, before: &str, after: &str) -> Result<(), AllocError> {

@@ -11,7 +11,7 @@ use test_words::{push_bytes, push_words};
 use tn_session::{Device, Stop};
 
 /// How a host's line ends a flush.
-#[derive(Clone, Copy, PartialEq, Eq)]
+#[derive(Clone, Copy)]
 pub(crate) enum Flush {
     Done,
     Failed,

@@ -99,20 +99,31 @@ fn is_alike_after(alloc: Global, pair: &mut Pair, seed: &mut u32) -> Result<bool
 }
 
 /// After how many of so many generated records, each with some keys, both are alike.
+fn count_alike(alloc: Global, pair: &mut Pair, count: u32) -> Result<u32> {
+    let mut seed = 19_990u32;
+    let mut alike = 0u32;
+    for _ in 0..count {
+        if is_alike_after(alloc, pair, &mut seed)? {
+            alike = alike.saturating_add(1);
+        }
+    }
+    Ok(alike)
+}
+
 fn push_both(alloc: Global, setup: &Setup, out: &mut String, words: &str) -> Result<()> {
+    let count = number(words)?;
     let mut pair = Pair {
         plain: opened(alloc, setup)?,
         planes: opened(alloc, setup)?,
     };
-    let mut seed = 19_990u32;
-    let mut alike = 0u32;
-    for _ in 0..number(words)? {
-        if is_alike_after(alloc, &mut pair, &mut seed)? {
-            alike = alike.saturating_add(1);
-        }
-    }
-    push_number(out, alike)?;
-    Ok(out.push_str(" alike")?)
+    let alike = count_alike(alloc, &mut pair, count)?;
+    Ok(push_alike_count(out, alike)?)
+}
+
+/// How many are alike.
+pub(crate) fn push_alike_count(out: &mut String, count: u32) -> Result<(), AllocError> {
+    push_number(out, count)?;
+    out.push_str(" alike")
 }
 
 /// Planes of so many positions, with an attribute at each so manieth.

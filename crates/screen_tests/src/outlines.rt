@@ -1,6 +1,7 @@
 //! What records leave of an outline.
 
 use crate::Setup;
+use crate::both::push_alike_count;
 use crate::generated::count_alike;
 use crate::refusals::push_apply_refused;
 use crate::screens::{opened, push_field, push_state};
@@ -9,7 +10,7 @@ use anyhow::Result;
 use ds_codec::{Geometry, Record, last_attr};
 use ds_screen::{Outline, PlainCells};
 use std::alloc::{AllocError, Global};
-use test_words::{number, push_hex, push_number};
+use test_words::{number, push_hex};
 
 /// A new outline of the setup's sizes.
 fn blank(alloc: Global, setup: &Setup) -> Result<Outline> {
@@ -57,12 +58,11 @@ fn push_after(alloc: Global, setup: &Setup, out: &mut String, records: &str) -> 
 
 /// After how many generated records an outline and a screen are alike.
 fn push_alike(alloc: Global, setup: &Setup, out: &mut String, words: &str) -> Result<()> {
+    let count = number(words)?;
     let mut outline = blank(alloc, setup)?;
     let mut screen = opened::<PlainCells>(alloc, setup)?;
-    let count = number(words)?;
     let alike = count_alike(alloc, &mut outline, &mut screen, count)?;
-    push_number(out, alike)?;
-    Ok(out.push_str(" alike")?)
+    Ok(push_alike_count(out, alike)?)
 }
 
 /// The bits of the last attribute among pairs.

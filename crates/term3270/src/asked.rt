@@ -12,7 +12,7 @@ use term_traces::Source;
 use tn_traces::Side;
 
 /// When the looks of a screen's cells are printed.
-#[derive(Clone, Copy, Debug, PartialEq, Eq)]
+#[derive(Clone, Copy)]
 pub(crate) enum When {
     /// Where standard output is a terminal, and the environment doesn't say `NO_COLOR`.
     Auto,
@@ -21,14 +21,14 @@ pub(crate) enum When {
 }
 
 /// A form of `check` that tools read.
-#[derive(Clone, Copy, Debug, PartialEq, Eq)]
+#[derive(Clone, Copy)]
 pub(crate) enum ReportForm {
     Json,
     Sarif,
 }
 
 /// A command, with the files, the options and the place on the net that it was given.
-#[derive(Clone, Copy, Debug, PartialEq, Eq)]
+#[derive(Clone, Copy)]
 pub(crate) enum Asked<'a> {
     Show {
         color: When,

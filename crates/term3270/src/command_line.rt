@@ -190,23 +190,32 @@ fn format<'a>(alloc: Global, forms: &'a [&'a str], help: &'a str) -> Arg<'a> {
         .help(help)
 }
 
-fn show<'a>(alloc: Global) -> Result<Command<'a>, AllocError> {
-    let color = Arg::new(alloc, "color")
+/// When text has the looks of its cells.
+fn color<'a>(alloc: Global) -> Arg<'a> {
+    Arg::new(alloc, "color")
         .long("color")
         .value_name("WHEN")
         .value_parser(WHEN)
         .default_value("auto")
-        .help("When the text has the looks of its cells");
+        .help("When the text has the looks of its cells")
+}
+
+/// The layout that a picture shows too.
+fn drawn_layout<'a>(alloc: Global) -> Result<Arg<'a>, AllocError> {
     let layout = Arg::new(alloc, "layout")
         .long("layout")
         .value_name("FILE")
-        .conflicts_with("color")?
-        .help("With svg and html: name the fields of this layout, and mark what check finds");
+        .conflicts_with("color")?;
+    Ok(layout.help("With svg and html: name the fields of this layout, and mark what check finds"))
+}
+
+fn show<'a>(alloc: Global) -> Result<Command<'a>, AllocError> {
+    let layout = drawn_layout(alloc)?;
     Command::new(alloc, "show")
         .about("Print the screen that the records leave (the default command)")
         .after_help(SHOW)
         .arg(format(alloc, SCREEN_FORMS, "How the screen is printed"))?
-        .arg(color)?
+        .arg(color(alloc))?
         .arg(layout)
 }
 
