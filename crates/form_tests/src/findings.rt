@@ -48,7 +48,7 @@ fn all_findings(layout: &Layout) -> [Finding; 14] {
     ]
 }
 
-/// The name of a finding that comes from no order, and from two; and what to do.
+/// A finding from these orders, of its attribute and of its field's end: as JSON, and as a result of a log.
 fn push_finding(
     alloc: Global,
     out: &mut String,
@@ -73,7 +73,7 @@ fn push_finding(
     Ok(())
 }
 
-/// Each finding by itself.
+/// Each finding by its name, what to do, and both forms, as it comes from no order.
 pub(crate) fn push_all(alloc: Global, out: &mut String) -> Result<()> {
     let layout = Layout::from_text(alloc, CODE).ok().context("a layout")?;
     for finding in all_findings(&layout) {
@@ -86,7 +86,7 @@ pub(crate) fn push_all(alloc: Global, out: &mut String) -> Result<()> {
     Ok(())
 }
 
-/// A finding with the orders that it comes from, and another whose field ends where it begins.
+/// A finding from orders of two records, from one order alone, and from one past the end of its record.
 pub(crate) fn push_traced(alloc: Global, out: &mut String) -> Result<()> {
     let layout = Layout::from_text(alloc, CODE).ok().context("a layout")?;
     let early = Some(Origin { index: 0, at: 1 });
