@@ -17,6 +17,7 @@ const SIX_BIT_CODES: [u8; 64] = [
 
 /// The address that two bytes spell. In the mode of 14 bits: of 14 bits where the first begins with 00, of 12 bits where
 /// it begins with 01 or 11; `None` exactly for the reserved form, which begins with 10. In the mode of 16 bits: both bytes.
+#[inline(always)]
 pub fn decode_address(mode: Mode, first: u8, second: u8) -> Option<u32>
     ensures spelled { IfSome result (λ address. SpellsAddress mode address first second) }
     ensures only { (address : ℕ) → SpellsAddress mode address first second → result ≡ Some address }

@@ -7,13 +7,17 @@ use std::marker::Model;
 
 /// Whether a byte of a record is text: 40 to FF, or a control that is stored: NUL (00), FF (0C), CR (0D), NL (15), EM
 /// (19), DUP (1C), FM (1E) and SUB (3F).
+#[inline(always)]
 #[tactic(auto, unfolding(crate::specs::Character::is_text))]
 pub fn is_text_byte(byte: u8) -> bool
     ensures { result ≡ is_text byte }
 {
+    if 0x40 <= byte {
+        return true;
+    }
     match byte {
         0x00 | 0x0C | 0x0D | 0x15 | 0x19 | 0x1C | 0x1E | 0x3F => true,
-        _ => 0x40 <= byte,
+        _ => false,
     }
 }
 
@@ -61,6 +65,7 @@ impl Char {
 
     /// The character of a code, `None` where there is no such character: plain characters are the text
     /// bytes, those of the alternate set 40 to FE.
+    #[inline(always)]
     pub fn new(code: u8, alt: bool) -> Option<Char>
         ensures { result ≡ (if is_glyph (glyph code alt) then Some (glyph code alt) else None) }
     {

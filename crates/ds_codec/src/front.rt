@@ -69,6 +69,7 @@ pub fn last_attr(pairs: &[u8]) -> Option<Attr>
 const STEP: usize = 8;
 
 /// Whether all bytes are 40 or above, told at once for all of them.
+#[inline(always)]
 fn are_graphic(bytes: &[u8]) -> bool
     ensures { (result ≡ true) → (k : ℕ) → k < length bytes.now
         → is_text (get_or bytes.now k 0) ≡ true }
@@ -81,6 +82,7 @@ fn are_graphic(bytes: &[u8]) -> bool
 }
 
 /// How many bytes at the front are 40 or above, in whole steps.
+#[inline(always)]
 fn graphic_steps(bytes: &[u8]) -> usize
     ensures within { result ≤ length bytes.now }
     ensures text { (k : ℕ) → k < result → is_text (get_or bytes.now k 0) ≡ true }
@@ -93,6 +95,7 @@ fn graphic_steps(bytes: &[u8]) -> usize
 }
 
 /// How long the run of text at the front is.
+#[inline(always)]
 pub fn text_length(bytes: &[u8]) -> usize
     ensures { result ≡ prefix_len is_text bytes.now }
 {
@@ -105,6 +108,7 @@ pub fn text_length(bytes: &[u8]) -> usize
     bytes.len()
 }
 
+#[inline(always)]
 #[tactic(auto, unfolding(crate::specs::Reading::start_field_at))]
 fn start_field(more: &[u8]) -> Result<(Order<'_>, usize), Why>
     ensures { Reads result (start_field_at more.now) }
@@ -139,6 +143,7 @@ fn pairs(more: &[u8]) -> Result<(&[u8], usize), Why>
 }
 
 /// The address of an order that consists of one.
+#[inline(always)]
 #[tactic(auto, unfolding(crate::specs::Reading::address_order_at))]
 fn address(mode: Mode, more: &[u8]) -> Result<u32, Why>
     ensures { (make : ℕ → Item) → Gives (λ a. (make a, 3)) result
@@ -150,6 +155,7 @@ fn address(mode: Mode, more: &[u8]) -> Result<u32, Why>
     }
 }
 
+#[inline(always)]
 #[tactic(auto, unfolding(crate::specs::Reading::set_attribute_at))]
 fn set_attribute(more: &[u8]) -> Result<(Order<'_>, usize), Why>
     ensures { Reads result (set_attribute_at more.now) }
@@ -167,6 +173,7 @@ fn set_attribute(more: &[u8]) -> Result<(Order<'_>, usize), Why>
 }
 
 /// Repeat to Address, of so many bytes in all.
+#[inline(always)]
 fn repeat<'a>(
     address: Option<u32>,
     code: u8,
@@ -184,6 +191,7 @@ fn repeat<'a>(
     }
 }
 
+#[inline(always)]
 #[tactic(auto, unfolding(crate::specs::Reading::repeat_at))]
 fn repeat_to_address(mode: Mode, more: &[u8]) -> Result<(Order<'_>, usize), Why>
     ensures { Reads result (repeat_at mode more.now) }
@@ -201,6 +209,7 @@ fn repeat_to_address(mode: Mode, more: &[u8]) -> Result<(Order<'_>, usize), Why>
     }
 }
 
+#[inline(always)]
 #[tactic(auto, unfolding(crate::specs::Reading::graphic_escape_at))]
 fn graphic_escape(more: &[u8]) -> Result<(Order<'_>, usize), Why>
     ensures { Reads result (graphic_escape_at more.now) }
@@ -218,6 +227,7 @@ fn graphic_escape(more: &[u8]) -> Result<(Order<'_>, usize), Why>
 }
 
 /// The order of a code, of which these bytes follow.
+#[inline(always)]
 fn order_of(mode: Mode, code: OrderCode, more: &[u8]) -> Result<(Order<'_>, usize), Why>
     ensures { Reads result (order_after mode (Some code) more.now) }
 {
@@ -243,6 +253,7 @@ fn order_of(mode: Mode, code: OrderCode, more: &[u8]) -> Result<(Order<'_>, usiz
 
 /// The order at the front of bytes that are not empty, and how many of them it takes; or what is
 /// wrong with it.
+#[inline(always)]
 #[tactic(auto, unfolding(crate::specs::Reading::front))]
 pub fn front_order(mode: Mode, bytes: &[u8]) -> Result<(Order<'_>, usize), Why>
     requires { 0 < length bytes.now }

@@ -76,6 +76,7 @@ impl OrderCode {
     }
 
     /// The order of a code.
+    #[inline(always)]
     #[tactic(auto, unfolding(crate::specs::Order::order_code_at))]
     pub fn from_byte(byte: u8) -> Option<OrderCode>
         ensures { result ≡ order_code_at byte }

@@ -100,6 +100,7 @@ impl<'a> Iterator for Orders<'a> {
 
     ghost remaining = { item_count (λ rest. rest) };
 
+    #[inline(always)]
     fn next(&mut self) -> Option<Placed<'a>> {
         let rest = self.rest;
         if rest.is_empty() {
@@ -128,6 +129,7 @@ pub fn one_reading()
 {}
 
 /// Looks at every order.
+#[inline(always)]
 fn check_orders(mode: Mode, bytes: &[u8]) -> Result<(), Refused>
     ensures { refusal_in result ≡ refusal_in (orders_from mode 0 2 bytes.now) }
 {

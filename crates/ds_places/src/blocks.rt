@@ -11,6 +11,7 @@ use crate::search::{ends_before, rank, rank_from};
 use std::alloc::{AllocError, Global};
 
 /// The entries of a block, none where there is no such block.
+#[inline(always)]
 pub(crate) fn block<T: Placed>(blocks: &[Vec<T>], number: u32) -> &[T]
     ensures { result.now ≡ list_at (lists_of blocks.now) number }
 {
@@ -37,6 +38,7 @@ pub(crate) fn reserved<T: Placed>(alloc: Global, count: u32) -> Result<Vec<Vec<T
 }
 
 /// Lists the number of a block that gets an entry.
+#[inline(always)]
 pub(crate) fn note<T: Placed>(used: &mut Vec<u32>, number: u32, entries: &[T])
     requires rising { IsRising itself used.old.items }
     requires listed { at_place itself used.old.items number ≡ listed_if number entries.now }
@@ -53,6 +55,7 @@ pub(crate) fn note<T: Placed>(used: &mut Vec<u32>, number: u32, entries: &[T])
 }
 
 /// Stores an entry in the block of its place, over the one that its place held.
+#[inline(always)]
 pub(crate) fn store_in<T: Placed>(blocks: &mut Vec<Vec<T>>, entry: T)
     requires own { IsBlock T.place_of (T.place_of entry / 256)
         (list_at (lists_of blocks.old.items) (T.place_of entry / 256)) }
@@ -72,6 +75,7 @@ pub(crate) fn store_in<T: Placed>(blocks: &mut Vec<Vec<T>>, entry: T)
 
 /// Whether an entry can stand from a place on, up to another: not where these places are none, or in one block and past
 /// its last entry.
+#[inline(always)]
 pub(crate) fn can_hold<T: Placed>(blocks: &[Vec<T>], from: u32, to: u32) -> bool
     requires { (k : ℕ) → IsBlock T.place_of k (list_at (lists_of blocks.now) k) }
     ensures order { result ≡ true → from < to }
@@ -109,6 +113,7 @@ fn cut_blocks<T: Placed>(blocks: &mut Vec<Vec<T>>, used: &[u32], from: u32, to: 
 }
 
 /// The same, without a look at what is listed where all these places are of one block.
+#[inline(always)]
 pub(crate) fn cut_places<T: Placed>(blocks: &mut Vec<Vec<T>>, used: &[u32], from: u32, to: u32)
     requires each { (k : ℕ) → IsBlock T.place_of k (list_at (lists_of blocks.old.items) k) }
     requires rising { IsRising itself used.now }

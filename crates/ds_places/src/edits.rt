@@ -8,6 +8,7 @@ use crate::search::{rank, rank_from, slot};
 use std::alloc::AllocError;
 
 /// Stores an entry at its place, over the one that it held, where there is room for one more if it held none.
+#[inline(always)]
 pub(crate) fn store<T: Placed>(entries: &mut Vec<T>, entry: T)
     requires rising { IsRising T.place_of entries.old.items }
     requires room { at_place T.place_of entries.old.items (T.place_of entry) ≡ None
@@ -43,6 +44,7 @@ pub fn add<T: Placed>(entries: &mut Vec<T>, entry: T) -> Result<(), AllocError>
 }
 
 /// Takes out the entries from a place on, up to another, which is none of them.
+#[inline(always)]
 pub(crate) fn cut<T: Placed>(entries: &mut Vec<T>, from: u32, to: u32)
     requires rising { IsRising T.place_of entries.old.items }
     requires order { from ≤ to }

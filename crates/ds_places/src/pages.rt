@@ -125,6 +125,7 @@ impl<T: Placed> Pages<T> {
     }
 
     /// Stores an entry at its place, over the one that it held.
+    #[inline(always)]
     pub fn store(&mut self, entry: T)
         requires below { T.place_of entry < self.old.room }
         ensures stored { (q : ℕ) → at_place T.place_of self.new.entries q
@@ -140,6 +141,7 @@ impl<T: Placed> Pages<T> {
     }
 
     /// Takes out the entries from a place on, up to another, which is none of them.
+    #[inline(always)]
     pub fn cut(&mut self, from: u32, to: u32)
         requires { from ≤ to }
         ensures cut { (q : ℕ) → at_place T.place_of self.new.entries q
@@ -183,6 +185,7 @@ impl<T: Placed> Pages<T> {
     }
 
     /// Takes out the entries at so many places from one on, round a ring of places.
+    #[inline(always)]
     pub fn cut_round(&mut self, places: u32, from: u32, steps: u32)
         requires inside { IsWithin T.place_of places self.old.entries }
         requires below { from < places }

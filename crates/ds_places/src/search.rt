@@ -9,6 +9,7 @@ ghost use Rattle.ds_places.specs.Nearest.{IsSlot, IsLastBelow, IsFirstFrom};
 use crate::placed::Placed;
 
 /// How many entries have a place below this one: the index of the first that has not.
+#[inline(always)]
 pub(crate) fn rank<T: Placed>(entries: &[T], place: u32) -> usize
     requires { IsRising T.place_of entries.now }
     ensures parts { IsPartitionPoint (λ entry. T.place_of entry < place)
@@ -26,6 +27,7 @@ pub(crate) fn rank<T: Placed>(entries: &[T], place: u32) -> usize
 }
 
 /// Whether each entry has a place below this one.
+#[inline(always)]
 pub(crate) fn ends_before<T: Placed>(entries: &[T], place: u32) -> bool
     requires { IsRising T.place_of entries.now }
     ensures { result ≡ true → (q : ℕ) → place ≤ q → at_place T.place_of entries.now q ≡ None }
@@ -57,6 +59,7 @@ pub(crate) fn rank_from<T: Placed>(entries: &[T], start: usize, place: u32) -> u
 }
 
 /// Where the entry of a place stands, or where one is to be inserted.
+#[inline(always)]
 pub(crate) fn slot<T: Placed>(entries: &[T], place: u32) -> Result<usize, usize>
     requires { IsRising T.place_of entries.now }
     ensures { IsSlot T.place_of entries.now place result }

@@ -255,6 +255,15 @@ copied_more old now run at from i lt so p d =
           ∙ ap (λ t. cond t y (get_or old p d)) (sym (both_ends at (at + i) p (omega arith) apart) ∙ ap (λ e. leb at p && ltb p e) (sym next))
     ]
 
+pub copied_one : (xs run : List ℕ) (at from : ℕ) → at < length xs
+    → (p d : ℕ) → get_or (set xs at (get_or run from 0)) p d ≡ cond (leb at p && ltb p (at + 1)) (get_or run (from + (p - at)) 0) (get_or xs p d)
+copied_one xs run at from lt p d =
+    let here : at ≡ at + 0 = omega arith in
+    let first : from ≡ from + 0 = omega arith in
+    ap (λ k. get_or (set xs k (get_or run from 0)) p d) here
+    ∙ ap (λ k. get_or (set xs (at + 0) (get_or run k 0)) p d) first
+    ∙ copied_more xs xs run at from 0 (omega (arith, lt)) (λ q e. copied_none xs run at from q e) p d
+
 pub written_each : (codes now_codes run : List ℕ) (kinds now_kinds : List Kind) (at from count p : ℕ)
     → ((q d : ℕ) → get_or now_codes q d ≡ cond (leb at q && ltb q (at + count)) (get_or run (from + (q - at)) 0) (get_or codes q d))
     → ((q : ℕ) (d : Kind) → get_or now_kinds q d ≡ cond (leb at q && ltb q (at + count)) Plain (get_or kinds q d))

@@ -15,6 +15,7 @@ use crate::tab::program_tab;
 use ds_codec::{Attr, Cell, Char, Order, last_attr};
 
 /// An address, if it is that of a position.
+#[inline(always)]
 fn position(n: u32, address: u32) -> Result<u32, Why>
     ensures inside { IfOk result (λ p. (p ≡ address) × (p < n) × (outside_of n address ≡ None)) }
     ensures outside { IfErr result (λ why. outside_of n address ≡ Some why) }
@@ -27,6 +28,7 @@ fn position(n: u32, address: u32) -> Result<u32, Why>
 }
 
 /// Stores a cell at the buffer address, and goes on by one. A Program Tab that comes next nulls nothing.
+#[inline(always)]
 fn stored<S: Surface>(surface: &mut S, state: State, cell: Cell) -> State
     requires { state.address < S.size surface.old }
     ensures stores { Makes S.shows surface.old surface.new (λ cells later. writing later result
@@ -59,6 +61,7 @@ fn stored_as_text<S: Surface>(surface: &mut S, state: State, character: Char) ->
 }
 
 /// Stores text from the buffer address on, and goes on behind it.
+#[inline(always)]
 #[tactic(auto, unfolding(crate::specs::Orders::effect_of, crate::specs::Orders::fault_of))]
 fn put_text<S: Surface>(surface: &mut S, state: State, run: &[u8]) -> State
     requires inside { IsOn (S.size surface.old) state }
@@ -143,6 +146,7 @@ fn erase_unprotected_to_address<S: Surface>(
 }
 
 /// Goes on at an address.
+#[inline(always)]
 #[tactic(auto, unfolding(crate::specs::Orders::effect_of, crate::specs::Orders::fault_of))]
 fn set_buffer_address<S: Surface>(surface: &S, state: State, address: u32) -> Result<State, Why>
     requires inside { IsOn (S.size surface.now) state }
@@ -156,6 +160,7 @@ fn set_buffer_address<S: Surface>(surface: &S, state: State, address: u32) -> Re
 }
 
 /// Does one order.
+#[inline(always)]
 #[tactic(auto, unfolding(crate::specs::Orders::effect_of, crate::specs::Orders::fault_of))]
 pub(crate) fn act<S: Surface>(
     surface: &mut S,

@@ -44,6 +44,7 @@ impl Model for PlaneCells {
 }
 
 /// Notes whether a position holds an attribute from now on, where it is known whether it held one.
+#[inline(always)]
 fn note(index: &mut Pages<u32>, places: u32, p: u32, was: bool, is: bool)
     requires rising { IsRising itself index.old.entries }
     requires below { p < places }
@@ -80,6 +81,7 @@ fn fill_round(planes: &mut Planes, b: u32, steps: u32, character: Char)
 }
 
 /// Stores a run of text round the buffer, and gives the position after it.
+#[inline(always)]
 fn write_round(planes: &mut Planes, b: u32, run: &[u8]) -> u32
     requires inside { b < length planes.old.cells }
     requires characters { list_all is_text run.now ≡ true }
@@ -256,6 +258,7 @@ impl Cells for PlaneCells {
         self.planes.cell(p)
     }
 
+    #[inline(always)]
     fn put(&mut self, p: u32, cell: Cell) {
         let was = self.planes.has_attribute(p);
         self.planes.put(p, cell);
@@ -283,6 +286,7 @@ impl Cells for PlaneCells {
         self.planes.copy_from(&other.planes);
     }
 
+    #[inline(always)]
     fn put_text(&mut self, b: u32, run: &[u8]) -> u32 {
         let n = self.planes.len();
         let steps = run.len().min(n as usize) as u32;

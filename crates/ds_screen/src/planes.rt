@@ -41,6 +41,10 @@ fn fill_part<T: Copy>(items: &mut [T], from: usize, to: usize, value: T)
         ≡ (if nat_le from p && nat_lt p to then value else slice_index_or items.old p d) }
     ensures whole { length items.new ≡ length items.old }
 {
+    if to - from == 1 {
+        items[from] = value;
+        return;
+    }
     'indexes: for i in from..to {
         items[i] = value;
     }
@@ -48,6 +52,7 @@ fn fill_part<T: Copy>(items: &mut [T], from: usize, to: usize, value: T)
 
 /// Stores a kind from one index up to another, and tells whether all kinds are plain. Where they were and this one is, nothing
 /// has to be stored.
+#[inline(always)]
 fn fill_kinds(kinds: &mut [Kind], plain: bool, from: usize, to: usize, kind: Kind) -> bool
     requires order { from ≤ to }
     requires inside { to ≤ length kinds.old }
@@ -65,6 +70,7 @@ fn fill_kinds(kinds: &mut [Kind], plain: bool, from: usize, to: usize, kind: Kin
 }
 
 /// Stores so many bytes of a run, from one of its indexes on, in order.
+#[inline(always)]
 fn copy_part(items: &mut [u8], at: usize, run: &[u8], from: usize, count: usize)
     requires inside { at + count ≤ length items.old }
     requires within { from + count ≤ length run.now }
@@ -72,6 +78,10 @@ fn copy_part(items: &mut [u8], at: usize, run: &[u8], from: usize, count: usize)
         ≡ (if nat_le at p && nat_lt p (at + count) then slice_index run.now (from + (p - at)) else slice_index_or items.old p d) }
     ensures whole { length items.new ≡ length items.old }
 {
+    if count == 1 {
+        items[at] = run[from];
+        return;
+    }
     'indexes: for i in 0..count {
         items[at + i] = run[from + i];
     }
@@ -174,6 +184,7 @@ impl Planes {
     }
 
     /// Stores so many characters of a run of text from a position on, never round the end.
+    #[inline(always)]
     pub(crate) fn write(&mut self, at: u32, run: &[u8], from: usize, count: u32)
         requires inside { at + count ≤ length self.old.cells }
         requires within { from + count ≤ length run.now }

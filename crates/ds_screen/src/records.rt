@@ -21,6 +21,7 @@ use crate::wcc::resets_modified;
 use ds_codec::{Attr, Cell, Command, Geometry, Record, Size};
 
 /// Does the orders in turn, up to the first that is at fault.
+#[inline(always)]
 fn run_orders<S: Surface>(
     surface: &mut S,
     start: State,

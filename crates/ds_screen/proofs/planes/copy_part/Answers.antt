@@ -1,5 +1,5 @@
 use Rattle.std.proofs.Common.{◌+◌, ◌-◌, ◌&&◌, cond, leb, ltb, get_or, ◌∙◌, ap, arith}
-use Rattle.ds_screen.proofs.PlaneLaws.{copied_none, copied_more}
+use Rattle.ds_screen.proofs.PlaneLaws.{copied_none, copied_more, copied_one}
 use Rattle.ds_screen.proofs.planes.copy_part.Goals as goal
 
 pub indexes-init : goal.indexes-init
@@ -13,3 +13,8 @@ pub returns-clause-each : goal.returns-clause-each
 returns-clause-each c = λ p d.
     c.indexes.invariant p d
     ∙ ap (λ k. cond (leb c.args.at p && ltb p (c.args.at + k)) (get_or c.args.run.now (c.args.from + (p - c.args.at)) 0) (get_or c.args.items.now p d)) (omega (arith, c.indexes.auto.i-end, c.indexes-test.false))
+
+pub returns-then-count-eq1-clause-each : goal.returns-then-count-eq1-clause-each
+returns-then-count-eq1-clause-each c = λ p d.
+    copied_one c.args.items.now c.args.run.now c.args.at c.args.from (omega (arith, c.if-count-eq1.true)) p d
+    ∙ ap (λ k. cond (leb c.args.at p && ltb p (c.args.at + k)) (get_or c.args.run.now (c.args.from + (p - c.args.at)) 0) (get_or c.args.items.now p d)) (omega (arith, c.if-count-eq1.true))
