@@ -15,7 +15,7 @@ use std::alloc::{AllocError, Global};
 use std::marker::Model;
 
 /// Entries in the rising order of their places, which are below a number that is set once. They are kept in blocks
-/// of 256 places, so an entry that is put in or taken out moves no more than those of its block; the numbers of the
+/// of 64 places, so an entry that is put in or taken out moves no more than those of its block; the numbers of the
 /// blocks that hold entries are listed. Only `reserved` takes memory.
 #[derive(Drop)]
 pub struct Pages<T: Placed> {
@@ -48,7 +48,7 @@ impl<T: Placed> Pages<T> {
         ensures empty { IfOk result (λ pages. pages.entries ≡ []) }
         ensures room { IfOk result (λ pages. pages.room ≡ room) }
     {
-        let count = room / 256 + 1;
+        let count = room / 64 + 1;
         let blocks = reserved(alloc, count)?;
         let used = Vec::with_capacity(alloc, count as usize)?;
         Ok(Pages { blocks, used, room })
@@ -92,14 +92,14 @@ impl<T: Placed> Pages<T> {
     pub fn held(&self, place: u32) -> Option<T>
         ensures { result ≡ at_place T.place_of self.now.entries place }
     {
-        held(block(&self.blocks, place / 256), place)
+        held(block(&self.blocks, place / 64), place)
     }
 
     /// The entry at the greatest place below this one.
     pub fn last_below(&self, place: u32) -> Option<T>
         ensures { IsLastBelow T.place_of self.now.entries place result }
     {
-        let number = place / 256;
+        let number = place / 64;
         if let Some(entry) = last_below(block(&self.blocks, number), place) {
             return Some(entry);
         }
@@ -114,7 +114,7 @@ impl<T: Placed> Pages<T> {
     pub fn first_from(&self, place: u32) -> Option<T>
         ensures { IsFirstFrom T.place_of self.now.entries place result }
     {
-        let number = place / 256;
+        let number = place / 64;
         if let Some(entry) = first_from(block(&self.blocks, number), place) {
             return Some(entry);
         }
@@ -135,7 +135,7 @@ impl<T: Placed> Pages<T> {
             → IsWithin T.place_of places self.old.entries → IsWithin T.place_of places self.new.entries }
         ensures room { self.new.room ≡ self.old.room }
     {
-        let number = entry.place() / 256;
+        let number = entry.place() / 64;
         note(&mut self.used, number, block(&self.blocks, number));
         store_in(&mut self.blocks, entry);
     }
@@ -167,8 +167,8 @@ impl<T: Placed> Pages<T> {
         ensures room { self.new.room ≡ self.old.room }
     {
         cut_places(&mut self.blocks, &self.used, from, to);
-        let first = from / 256;
-        let last = (to - 1) / 256;
+        let first = from / 64;
+        let last = (to - 1) / 64;
         let low = if block(&self.blocks, first).is_empty() {
             first
         } else {

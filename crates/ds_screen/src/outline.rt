@@ -128,7 +128,7 @@ impl Outline {
     /// Does what a record says to the attributes, the cursor and the lock, with the refusals of a screen, and
     /// changes nothing where it refuses. Takes no memory. The copy that a Write begins with and a reset of
     /// modified data tags go over all attributes; each order finds its place by halving, and
-    /// moves no more than the attributes of the 256 positions round the one that it puts in or takes out.
+    /// moves no more than the attributes of the 64 positions round the one that it puts in or takes out.
     pub fn apply(&mut self, outbound: &Record<'_>) -> Result<Effect, Refused>
         ensures shows { OnOk result (OutlinesShown self.old outbound.now self.new) }
         ensures told { IfOk result (λ effect. effect ≡ told_of outbound.now.command) }
