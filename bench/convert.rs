@@ -1,6 +1,5 @@
 //! The work of `term3270 convert` and `convert --back` in plain Rust, to measure beside them:
 //! Erase/Write records of text, Start Field, Set Buffer Address and Insert Cursor.
-use std::fmt::Write as _;
 use std::io::{self, Read, Write};
 
 fn is_text(byte: u8) -> bool {
@@ -24,15 +23,26 @@ fn six_bit_code(value: u8) -> u8 {
     }
 }
 
-fn push_hex(out: &mut String, bytes: &[u8]) {
-    const DIGITS: &[u8; 16] = b"0123456789ABCDEF";
-    for byte in bytes {
-        out.push(char::from(DIGITS[usize::from(byte / 16)]));
-        out.push(char::from(DIGITS[usize::from(byte % 16)]));
+/// Each byte in hexadecimal.
+const SPELLED: [[u8; 2]; 256] = {
+    let mut spelled = [[0; 2]; 256];
+    let mut byte = 0;
+    while byte < 256 {
+        spelled[byte] = [b"0123456789ABCDEF"[byte / 16], b"0123456789ABCDEF"[byte % 16]];
+        byte += 1;
+    }
+    spelled
+};
+
+fn push_hex(out: &mut Vec<u8>, bytes: &[u8]) {
+    let from = out.len();
+    out.resize(from + 2 * bytes.len(), 0);
+    for (digits, byte) in out[from..].chunks_exact_mut(2).zip(bytes) {
+        digits.copy_from_slice(&SPELLED[usize::from(*byte)]);
     }
 }
 
-fn lines(out: &mut String, bytes: &[u8]) -> Option<()> {
+fn lines(out: &mut Vec<u8>, bytes: &[u8]) -> Option<()> {
     let [0x05 | 0xF5, wcc, orders @ ..] = bytes else { return None };
     let _ = writeln!(out, "EW {wcc:02X}");
     let mut rest = orders;
@@ -43,7 +53,7 @@ fn lines(out: &mut String, bytes: &[u8]) -> Option<()> {
                 others
             }
             (0x13, others) => {
-                out.push_str("IC\n");
+                out.extend_from_slice(b"IC\n");
                 others
             }
             (0x11, [high, low, others @ ..]) => {
@@ -55,26 +65,49 @@ fn lines(out: &mut String, bytes: &[u8]) -> Option<()> {
                 if count == 0 {
                     return None;
                 }
-                out.push_str("TEXT ");
+                out.extend_from_slice(b"TEXT ");
                 push_hex(out, &rest[..count]);
-                out.push('\n');
+                out.push(b'\n');
                 &rest[count..]
             }
         };
     }
-    out.push('\n');
+    out.push(b'\n');
     Some(())
 }
 
-fn digit(byte: u8) -> Option<u8> {
-    char::from(byte).to_digit(16).map(|value| value as u8)
-}
+/// The value of each hexadecimal digit, and 16 for every other byte.
+const VALUES: [u8; 256] = {
+    let mut values = [16; 256];
+    let mut value = 0;
+    while value < 16 {
+        values[b"0123456789ABCDEF"[value] as usize] = value as u8;
+        values[b"0123456789abcdef"[value] as usize] = value as u8;
+        value += 1;
+    }
+    values
+};
 
 fn decoded(digits: &[u8]) -> Option<Vec<u8>> {
     if digits.len() % 2 != 0 {
         return None;
     }
-    digits.chunks(2).map(|pair| Some(digit(pair[0])? * 16 + digit(pair[1])?)).collect()
+    let mut bytes = vec![0; digits.len() / 2];
+    let mut worst = 0;
+    for (byte, pair) in bytes.iter_mut().zip(digits.chunks_exact(2)) {
+        let (high, low) = (VALUES[usize::from(pair[0])], VALUES[usize::from(pair[1])]);
+        worst |= high | low;
+        *byte = high % 16 * 16 + low % 16;
+    }
+    (worst < 16).then_some(bytes)
+}
+
+fn record(line: &str) -> Option<Vec<u8>> {
+    if line.contains(' ') {
+        let digits: Vec<u8> = line.bytes().filter(|byte| *byte != b' ').collect();
+        return decoded(&digits);
+    }
+    decoded(line.as_bytes())
 }
 
 enum Order {
@@ -113,7 +146,7 @@ fn bytes_of(wcc: u8, orders: &[Order]) -> Option<Vec<u8>> {
     Some(bytes)
 }
 
-fn back(text: &str) -> Option<String> {
+fn back(text: &str) -> Option<Vec<u8>> {
     let mut records: Vec<(u8, Vec<Order>)> = Vec::new();
     let mut open = false;
     for line in text.lines() {
@@ -128,10 +161,10 @@ fn back(text: &str) -> Option<String> {
             open = true;
         }
     }
-    let mut out = String::new();
+    let mut out = Vec::new();
     for (wcc, orders) in &records {
         push_hex(&mut out, &bytes_of(*wcc, orders)?);
-        out.push('\n');
+        out.push(b'\n');
     }
     Some(out)
 }
@@ -143,12 +176,11 @@ fn main() -> io::Result<()> {
     let out = if std::env::args().any(|word| word == "--back") {
         back(text).expect("good lines")
     } else {
-        let mut out = String::new();
+        let mut out = Vec::new();
         for line in text.lines().filter(|line| !line.is_empty()) {
-            let digits: Vec<u8> = line.bytes().filter(|byte| *byte != b' ').collect();
-            lines(&mut out, &decoded(&digits).expect("digits")).expect("a good record");
+            lines(&mut out, &record(line).expect("digits")).expect("a good record");
         }
         out
     };
-    io::stdout().write_all(out.as_bytes())
+    io::stdout().write_all(&out)
 }
