@@ -11,7 +11,7 @@ use Rattle.term_commands.specs.declared.fault.CommandError.TheVariants.{Fault as
 use Rattle.term_commands.specs.declared.output.answer.Answer.{Answer}
 use Rattle.term_commands.specs.declared.status.Status.{Status}
 use Rattle.term_commands.specs.declared.status.Status.TheVariants.{Done, Findings, BadInput, Failed, NoMemory}
-use Rattle.term_commands.specs.Fault.{Gives, fault_line}
+use Rattle.term_commands.specs.Fault.{Gives, GivesOrFails, fault_line}
 use Rattle.term_commands.specs.Held.{answer_seen}
 use Rattle.term_commands.specs.Lines.{at_most, within_limit}
 use Rattle.term_commands.specs.Printed.{Printed, printed, printed_or_fault}
@@ -40,19 +40,26 @@ alike (Some input) text is = same_limit input text is
 
 -- ---- one step after another
 
+-- what reads nothing gives what may fail to read
+pub or_fails : {A T : Type 0} (view : T → A) (result : Result T CommandError) (due : Result A Fault) → Gives view result due → GivesOrFails view result due
+or_fails view (Ok found) due is = is
+or_fails view (Err (Told fault)) due is = is
+or_fails view (Err ReadFailed) due is = tt
+or_fails view (Err OutOfMemory) due is = tt
+
 pub goes_on : {A B T : Type 0} (view : T → B) (known : Option (List ℕ)) (first : List ℕ → Result A Fault) (value : A) (rest : A → Result B Fault) (result : Result T CommandError)
-    → IfSome known (λ input. first input ≡ Ok value) → Gives view result (rest value) → IfSome known (λ input. Gives view result (first input >>= rest))
+    → IfSome known (λ input. first input ≡ Ok value) → GivesOrFails view result (rest value) → IfSome known (λ input. GivesOrFails view result (first input >>= rest))
 goes_on view None first value rest result is gives = tt
 goes_on view (Some input) first value rest result is gives = rw is gives
 
 fails : {A B S T : Type 0} (seen : S → A) (view : T → B) (first : Result A Fault) (rest : A → Result B Fault) (error : CommandError)
-    → Gives seen (Err error) first → Gives view (Err error) (first >>= rest)
+    → GivesOrFails seen (Err error) first → GivesOrFails view (Err error) (first >>= rest)
 fails seen view first rest (Told fault) is = rw is refl
 fails seen view first rest ReadFailed is = tt
 fails seen view first rest OutOfMemory is = tt
 
 pub ends : {A B S T : Type 0} (seen : S → A) (view : T → B) (known : Option (List ℕ)) (first : List ℕ → Result A Fault) (rest : A → Result B Fault) (error : CommandError)
-    → IfSome known (λ input. Gives seen (Err error) (first input)) → IfSome known (λ input. Gives view (Err error) (first input >>= rest))
+    → IfSome known (λ input. GivesOrFails seen (Err error) (first input)) → IfSome known (λ input. GivesOrFails view (Err error) (first input >>= rest))
 ends seen view None first rest error is = tt
 ends seen view (Some input) first rest error is = fails seen view (first input) rest error is
 
@@ -87,7 +94,7 @@ out_of_memory old new due status (same, kept) = rw (same, kept) (no_front old du
 
 -- what was answered is printed, or the fault
 pub finishes : (due : Result Printed Fault) (old new : Option (List ℕ)) (answer : Result Answer CommandError) (status : Status)
-    → Gives answer_seen answer due → Finishes old new answer status → Prints old new status (printed_or_fault due)
+    → GivesOrFails answer_seen answer due → Finishes old new answer status → Prints old new status (printed_or_fault due)
 finishes due old new (Ok answer) status is written = rw is (prints_written old new (answer_seen answer) status written)
 finishes due old new (Err (Told fault)) status is (inl written) = rw is (prints_written old new (printed (fault_line fault) BadInput) status written)
 finishes due old new (Err (Told fault)) status is (inr stopped) = out_of_memory old new (printed_or_fault due) status stopped
@@ -95,12 +102,12 @@ finishes due old new (Err ReadFailed) status is stopped = prints_nothing old new
 finishes due old new (Err OutOfMemory) status is stopped = out_of_memory old new (printed_or_fault due) status stopped
 
 pub finished : (due : List ℕ → Result Printed Fault) (known old new : Option (List ℕ)) (answer : Result Answer CommandError) (status : Status)
-    → IfSome known (λ input. Gives answer_seen answer (due input)) → Finishes old new answer status → IfSome known (λ input. Prints old new status (printed_or_fault (due input)))
+    → IfSome known (λ input. GivesOrFails answer_seen answer (due input)) → Finishes old new answer status → IfSome known (λ input. Prints old new status (printed_or_fault (due input)))
 finished due None old new answer status is written = tt
 finished due (Some input) old new answer status is written = finishes (due input) old new answer status is written
 
 pub both_finished : (due : List ℕ → List ℕ → Result Printed Fault) (known other old new : Option (List ℕ)) (answer : Result Answer CommandError) (status : Status)
-    → IfSome known (λ input. IfSome other (λ more. Gives answer_seen answer (due input more))) → Finishes old new answer status
+    → IfSome known (λ input. IfSome other (λ more. GivesOrFails answer_seen answer (due input more))) → Finishes old new answer status
     → IfSome known (λ input. IfSome other (λ more. Prints old new status (printed_or_fault (due input more))))
 both_finished due None other old new answer status is written = tt
 both_finished due (Some input) other old new answer status is written = finished (due input) other old new answer status is written

@@ -21,7 +21,7 @@ joined_assoc (Ok text) (Ok more) (Ok rest) = let good : List ℕ → Result (Lis
 pub joined_ends : {S T : Type 0} (seen : S → List ℕ) (view : T → List ℕ) (first second others all : Result (List ℕ) Fault) (error : CommandError)
     → joined first (joined second others) ≡ all → Gives seen (Err error) (joined first second) → Gives view (Err error) all
 joined_ends seen view first second others all (Told fault) is fails = sym is ∙ sym (joined_assoc first second others) ∙ rw fails refl
-joined_ends seen view first second others all ReadFailed is fails = tt
+joined_ends seen view first second others all ReadFailed is fails = fails
 joined_ends seen view first second others all OutOfMemory is fails = tt
 
 -- the first two are this text

@@ -10,7 +10,7 @@ use Rattle.term_commands.specs.Taking.{taken, TakesAll}
 ends_there : {T A : Type 0} (view : T → A) (take : ℕ → A → List ℕ → Result A Fault) (number : ℕ) (told : A) (line : List ℕ) (lines : List (List ℕ)) (error : CommandError)
     → Gives view (Err error) (take number told line) → Gives view (Err error) (taken take number told (line ∷ lines))
 ends_there view take number told line lines (Told fault) fails = rw fails refl
-ends_there view take number told line lines ReadFailed fails = tt
+ends_there view take number told line lines ReadFailed fails = fails
 ends_there view take number told line lines OutOfMemory fails = tt
 
 pub gives_taken : {T A : Type 0} (view : T → A) (take : ℕ → A → List ℕ → Result A Fault) (number : ℕ) (told : T) (lines : List (List ℕ)) (result : Result T CommandError)

@@ -24,7 +24,7 @@ use Rattle.term_commands.specs.Talk.{turn_layout_or_fault, turn_layout_in, layou
 use Rattle.term_commands.specs.TurnsHeld.{lent_held, both_known, all_remaining}
 use Rattle.term_commands.specs.declared.fault.CommandError.{CommandError}
 use Rattle.term_commands.specs.declared.fault.CommandError.TheVariants.{Fault as Told, ReadFailed, OutOfMemory}
-use Rattle.term_commands.specs.Fault.{Gives}
+use Rattle.term_commands.specs.Fault.{Gives, GivesOrFails}
 use Rattle.term_commands.specs.declared.status.Status.{Status}
 use Rattle.term_commands.specs.declared.output.answer.Answer.{Answer}
 use Rattle.term_commands.specs.Held.{answer_seen}
@@ -179,7 +179,7 @@ pub layout_stops : (text : List ℕ) (rest : List (List ℕ)) (before : List Dec
     → Gives {A = Vec Declaration} (λ v. v.items) (Err error) (layouts_from (length before) before (text ∷ rest))
 unfolding layouts_from
 layout_stops text rest before (Told fault) fails = ap (λ r. r >>= λ l. layouts_from (length before + 1) (before ++ l ∷ []) rest) fails
-layout_stops text rest before ReadFailed fails = tt
+layout_stops text rest before ReadFailed fails = fails
 layout_stops text rest before OutOfMemory fails = tt
 
 -- one more layout was read
@@ -191,9 +191,9 @@ layout_read remaining reader text turn rest before after layout known reads here
 
 -- a layout was refused, or could not be read
 pub layout_fails : {L : Type 0} (remaining : L → Option (List ℕ)) (reader : L) (text : List ℕ) (turn : ℕ) (rest texts : List (List ℕ)) (before : List Declaration) (error : CommandError)
-    → remaining reader ≡ Some text → IfSome (remaining reader) (λ input. Gives {A = Declaration} (λ l. l) (Err error) (turn_layout_in turn input)) → turn ≡ length before
+    → remaining reader ≡ Some text → IfSome (remaining reader) (λ input. GivesOrFails {A = Declaration} (λ l. l) (Err error) (turn_layout_in turn input)) → turn ≡ length before
     → layouts_from (length before) before (text ∷ rest) ≡ layouts_from 0 [] texts
-    → Gives {A = Vec Declaration} (λ v. v.items) (Err error) (layouts_from 0 [] texts)
+    → GivesOrFails {A = Vec Declaration} (λ v. v.items) (Err error) (layouts_from 0 [] texts)
 unfolding layouts_from
 layout_fails remaining reader text turn rest texts before (Told fault) known fails here before_is =
     sym before_is
@@ -211,7 +211,7 @@ into_some None leads = tt
 into_some (Some x) leads = leads x refl
 
 pub talk_finished : (due : List (List ℕ) → List ℕ → Result Printed Fault) (known : Option (List (List ℕ))) (other old new : Option (List ℕ)) (answer : Result Answer CommandError) (status : Status)
-    → IfSome known (λ texts. IfSome other (λ input. Gives answer_seen answer (due texts input))) → Finishes old new answer status
+    → IfSome known (λ texts. IfSome other (λ input. GivesOrFails answer_seen answer (due texts input))) → Finishes old new answer status
     → IfSome known (λ texts. IfSome other (λ input. Prints old new status (printed_or_fault (due texts input))))
 talk_finished due None other old new answer status is written = tt
 talk_finished due (Some texts) None old new answer status is written = tt

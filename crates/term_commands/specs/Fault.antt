@@ -27,12 +27,17 @@ fault_text (OtherCount turns layouts) = decimal turns ++ (codes " turns, " ++ (d
 abbrev pub fault_line : Fault → List ℕ
 fault_line fault = fault_text fault ++ codes "\n"
 
--- What was returned, seen by view, is what is due, unless a read failed or memory was refused.
+-- What was returned, seen by view, is what is due, unless memory was refused: nothing is read.
 abbrev pub Gives : {A B : Type 0} → (A → B) → Result A CommandError → Result B Fault → Type 0
 Gives view (Ok found) due = due ≡ Ok (view found)
 Gives view (Err (Told fault)) due = due ≡ Err fault
-Gives view (Err ReadFailed) due = Unit {0}
+Gives view (Err ReadFailed) due = ⊥
 Gives view (Err OutOfMemory) due = Unit {0}
+
+-- the same of what reads: a read may fail too
+abbrev pub GivesOrFails : {A B : Type 0} → (A → B) → Result A CommandError → Result B Fault → Type 0
+GivesOrFails view (Err ReadFailed) due = Unit {0}
+GivesOrFails view result due = Gives view result due
 
 -- a read failed, or memory was refused
 abbrev pub IsNoFault : CommandError → Type 0

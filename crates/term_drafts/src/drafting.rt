@@ -1,7 +1,7 @@
 //! The command `draft`.
 
 ghost use Rattle.std.specs.Prelude.{◌≡◌, IfSome};
-ghost use Rattle.term_commands.specs.Fault.{Gives};
+ghost use Rattle.term_commands.specs.Fault.{Gives, GivesOrFails};
 ghost use Rattle.term_commands.specs.Held.{answer_seen};
 ghost use Rattle.term_commands.specs.Streams.{Prints};
 ghost use Rattle.scr_draft.specs.Draft.{drafted};
@@ -44,7 +44,8 @@ pub fn draft_text(alloc: Global, records: &[u8]) -> Result<Answer, CommandError>
 }
 
 fn draft_records<R: Read>(alloc: Global, reader: &mut R) -> Result<Answer, CommandError>
-    ensures { IfSome (R.remaining reader.old) (λ input. Gives answer_seen result (draft input)) }
+    ensures { IfSome (R.remaining reader.old)
+        (λ input. GivesOrFails answer_seen result (draft input)) }
 {
     let records = read_text(alloc, reader)?;
     draft_text(alloc, records.as_slice())

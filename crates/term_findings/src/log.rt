@@ -1,7 +1,7 @@
 //! The command `check`, reported as a log.
 
 ghost use Rattle.std.specs.Prelude.{◌≡◌, IfErr, IfOk, IfSome, Ok};
-ghost use Rattle.term_commands.specs.Fault.{Gives};
+ghost use Rattle.term_commands.specs.Fault.{Gives, GivesOrFails};
 ghost use Rattle.term_commands.specs.Held.{answer_seen, records_held};
 ghost use Rattle.term_commands.specs.LayoutText.{layout_in};
 ghost use Rattle.term_commands.specs.Lines.{within_limit};
@@ -124,7 +124,7 @@ fn log_with<R: Read>(
     layout: &Layout,
     reader: &mut R,
 ) -> Result<Answer, CommandError>
-    ensures { IfSome (R.remaining reader.old) (λ input. Gives answer_seen result
+    ensures { IfSome (R.remaining reader.old) (λ input. GivesOrFails answer_seen result
         (Ok (or_refused paths.entry.records.now (log_records paths.entry layout.now (within_limit input))))) }
 {
     let input = read_text(alloc, reader)?;
@@ -138,7 +138,7 @@ fn log_over<R: Read>(
     text: &[u8],
     reader: &mut R,
 ) -> Result<Answer, CommandError>
-    ensures answer { IfSome (R.remaining reader.old) (λ input. Gives answer_seen result
+    ensures answer { IfSome (R.remaining reader.old) (λ input. GivesOrFails answer_seen result
         (Ok (log_layout paths.entry (within_limit text.now) (layout_in text.now) (within_limit input)))) }
     ensures unread { IfErr (layout_in text.now) (λ fault. reader.new ≡ reader.old) }
 {
@@ -160,7 +160,7 @@ pub(crate) fn log_read<L: Read, R: Read>(
     reader: &mut R,
 ) -> Result<Answer, CommandError>
     ensures answer { IfSome (L.remaining layout.old) (λ text. IfSome (R.remaining
-        reader.old) (λ input. Gives answer_seen result (Ok (printed_log paths.entry text input)))) }
+        reader.old) (λ input. GivesOrFails answer_seen result (Ok (printed_log paths.entry text input)))) }
     ensures unread { IfSome (L.remaining layout.old) (λ text. IfErr (layout_in text) (λ fault.
         reader.new ≡ reader.old)) }
 {

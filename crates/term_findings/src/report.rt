@@ -1,7 +1,7 @@
 //! The command `check`, reported for tools.
 
 ghost use Rattle.std.specs.Prelude.{◌≡◌, Ok, Result, IfErr, IfOk, IfSome};
-ghost use Rattle.term_commands.specs.Fault.{Gives};
+ghost use Rattle.term_commands.specs.Fault.{Gives, GivesOrFails};
 ghost use Rattle.term_commands.specs.Held.{answer_seen, records_held};
 ghost use Rattle.term_commands.specs.LayoutText.{layout_in};
 ghost use Rattle.term_commands.specs.Printed.{Printed};
@@ -68,8 +68,10 @@ fn report_both(alloc: Global, layout: &[u8], records: &[u8]) -> Result<Answer, C
 
 /// What is reported: the answer, or in its place what is wrong with an input.
 fn or_refusal(alloc: Global, answer: Result<Answer, CommandError>) -> Result<Answer, CommandError>
-    ensures { (due : Result Printed AFault) → Gives answer_seen answer due
+    ensures texts { (due : Result Printed AFault) → Gives answer_seen answer due
         → Gives answer_seen result (Ok (or_refusal due)) }
+    ensures readers { (due : Result Printed AFault) → GivesOrFails answer_seen answer due
+        → GivesOrFails answer_seen result (Ok (or_refusal due)) }
 {
     match answer {
         Ok(answer) => Ok(answer),
@@ -105,7 +107,7 @@ fn report_read<L: Read, R: Read>(
     reader: &mut R,
 ) -> Result<Answer, CommandError>
     ensures answer { IfSome (L.remaining layout.old) (λ text. IfSome (R.remaining
-        reader.old) (λ input. Gives answer_seen result (report text input))) }
+        reader.old) (λ input. GivesOrFails answer_seen result (report text input))) }
     ensures unread { IfSome (L.remaining layout.old) (λ text. IfErr (layout_in text) (λ fault.
         reader.new ≡ reader.old)) }
 {
@@ -120,7 +122,7 @@ fn report_lines<L: Read, R: Read>(
     reader: &mut R,
 ) -> Result<Answer, CommandError>
     ensures answer { IfSome (L.remaining layout.old) (λ text. IfSome (R.remaining
-        reader.old) (λ input. Gives answer_seen result (Ok (or_refusal (report text input))))) }
+        reader.old) (λ input. GivesOrFails answer_seen result (Ok (or_refusal (report text input))))) }
     ensures unread { IfSome (L.remaining layout.old) (λ text. IfErr (layout_in text) (λ fault.
         reader.new ≡ reader.old)) }
 {
@@ -136,7 +138,7 @@ fn report_streams<L: Read, R: Read>(
     reader: &mut R,
 ) -> Result<Answer, CommandError>
     ensures answer { IfSome (L.remaining layout.old) (λ text. IfSome (R.remaining
-        reader.old) (λ input. Gives answer_seen result (Ok (printed_report report.entry text input)))) }
+        reader.old) (λ input. GivesOrFails answer_seen result (Ok (printed_report report.entry text input)))) }
     ensures unread { IfSome (L.remaining layout.old) (λ text. IfErr (layout_in text) (λ fault.
         reader.new ≡ reader.old)) }
 {

@@ -2,7 +2,7 @@
 
 ghost use Rattle.std.specs.Prelude.{◌≡◌, IfErr, IfOk, IfSome, string_bytes};
 ghost use Rattle.scr_check.specs.Findings.{answer_of};
-ghost use Rattle.term_commands.specs.Fault.{Gives};
+ghost use Rattle.term_commands.specs.Fault.{Gives, GivesOrFails};
 ghost use Rattle.term_commands.specs.Held.{answer_seen, records_held};
 ghost use Rattle.term_commands.specs.LayoutText.{layout_in};
 ghost use Rattle.term_commands.specs.Streams.{Prints};
@@ -122,7 +122,7 @@ fn annotated_read<L: Read, R: Read>(
     reader: &mut R,
 ) -> Result<Answer, CommandError>
     ensures answer { IfSome (L.remaining layout.old) (λ text. IfSome (R.remaining
-        reader.old) (λ input. Gives answer_seen result (annotated form text input))) }
+        reader.old) (λ input. GivesOrFails answer_seen result (annotated form text input))) }
     ensures unread { IfSome (L.remaining layout.old) (λ text. IfErr (layout_in text) (λ fault.
         reader.new ≡ reader.old)) }
 {

@@ -1,7 +1,7 @@
 //! The command `show` in the further forms.
 
 ghost use Rattle.std.specs.Prelude.{◌≡◌, IfOk, IfSome, string_bytes};
-ghost use Rattle.term_commands.specs.Fault.{Gives};
+ghost use Rattle.term_commands.specs.Fault.{Gives, GivesOrFails};
 ghost use Rattle.term_commands.specs.Held.{answer_seen};
 ghost use Rattle.term_commands.specs.Streams.{Prints};
 ghost use Rattle.term_pictures.specs.Picture.{drawn, pictured, printed_picture};
@@ -56,7 +56,7 @@ fn picture_records<R: Read>(
     reader: &mut R,
 ) -> Result<Answer, CommandError>
     ensures { IfSome (R.remaining reader.old) (λ input.
-        Gives answer_seen result (pictured drawing input)) }
+        GivesOrFails answer_seen result (pictured drawing input)) }
 {
     let records = read_text(alloc, reader)?;
     picture_text(alloc, drawing, records.as_slice())

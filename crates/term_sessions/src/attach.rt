@@ -2,7 +2,7 @@
 
 ghost use Rattle.std.specs.Prelude.{◌≡◌, ◌++◌, Ok, OnOk};
 ghost use Rattle.std.specs.String.{string_bytes};
-ghost use Rattle.term_commands.specs.Fault.{Gives};
+ghost use Rattle.term_commands.specs.Fault.{GivesOrFails};
 ghost use Rattle.term_commands.specs.Held.{answer_seen};
 ghost use Rattle.term_commands.specs.Streams.{Prints};
 ghost use Rattle.term_sessions.specs.Session.{CanRun, begun, fresh};
@@ -65,7 +65,7 @@ fn push_fault(out: &mut String, why: RunFault) -> Result<(), AllocError>
 
 /// What is printed of a session.
 fn session_answer(alloc: Global, session: Result<Report, RunFault>) -> Result<Answer, CommandError>
-    ensures { Gives answer_seen result (Ok (printed_attach session)) }
+    ensures { GivesOrFails answer_seen result (Ok (printed_attach session)) }
 {
     let mut text = String::new(alloc);
     match session {

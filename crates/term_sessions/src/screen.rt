@@ -1,7 +1,7 @@
 //! What a host serves: a checked screen.
 
 ghost use Rattle.std.specs.Prelude.{◌≡◌, IfErr, IfOk, IfSome};
-ghost use Rattle.term_commands.specs.Fault.{Gives};
+ghost use Rattle.term_commands.specs.Fault.{GivesOrFails};
 ghost use Rattle.term_commands.specs.Held.{records_held};
 ghost use Rattle.term_commands.specs.LayoutText.{layout_in};
 ghost use Rattle.term_sessions.specs.Prepare.{has_model, no_model, prepared, prepare};
@@ -77,7 +77,7 @@ pub fn prepare_serve<L: Read, R: Read>(
     reader: &mut R,
 ) -> Result<Prepared, CommandError>
     ensures prepared { IfSome (L.remaining layout.old) (λ text. IfSome (R.remaining
-        reader.old) (λ input. Gives prepared_seen result (prepare text input))) }
+        reader.old) (λ input. GivesOrFails prepared_seen result (prepare text input))) }
     ensures unread { IfSome (L.remaining layout.old) (λ text. IfErr (layout_in text) (λ fault.
         reader.new ≡ reader.old)) }
 {

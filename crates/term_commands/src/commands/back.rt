@@ -4,7 +4,7 @@ ghost use Rattle.std.specs.Prelude.{◌≡◌, ◌≤◌, IfSome, Ok, None, leng
 ghost use Rattle.std.specs.String.{string_bytes};
 ghost use Rattle.ds_codec.specs.Geometry.{Sizes, IsGood, cells_of};
 ghost use Rattle.order_lines.specs.Draft.{draft_held, written_of};
-ghost use Rattle.term_commands.specs.Fault.{Gives};
+ghost use Rattle.term_commands.specs.Fault.{Gives, GivesOrFails};
 ghost use Rattle.order_lines.specs.Told.{item_held, told_held};
 ghost use Rattle.term_commands.specs.declared.input.sizes.SizeLine.TheVariants.{Refused};
 ghost use Rattle.term_commands.specs.Held.{answer_seen, size_in_use, backward_seen, order_line_seen};
@@ -260,7 +260,8 @@ pub fn convert_back_text(alloc: Global, lines: &[u8]) -> Result<Answer, CommandE
 }
 
 fn back<R: Read>(alloc: Global, reader: &mut R) -> Result<Answer, CommandError>
-    ensures { IfSome (R.remaining reader.old) (λ input. Gives answer_seen result (back input)) }
+    ensures { IfSome (R.remaining reader.old)
+        (λ input. GivesOrFails answer_seen result (back input)) }
 {
     let lines = read_text(alloc, reader)?;
     convert_back_text(alloc, lines.as_slice())

@@ -7,7 +7,7 @@ ghost use Rattle.term_commands.specs.declared.status.Status.TheVariants.{Finding
 ghost use Rattle.term_commands.specs.declared.output.demo.Demos.TheVariants.{Omitted};
 ghost use Rattle.term_commands.specs.Check.{printed_verdict, printed_answer, check_records, check, printed_check};
 ghost use Rattle.term_commands.specs.DemoLines.{finding_lines, has_keys, asked, shown_on};
-ghost use Rattle.term_commands.specs.Fault.{Gives};
+ghost use Rattle.term_commands.specs.Fault.{Gives, GivesOrFails};
 ghost use Rattle.term_commands.specs.Held.{answer_seen, records_held};
 ghost use Rattle.term_commands.specs.LayoutText.{layout_in};
 ghost use Rattle.term_commands.specs.Printed.{printed};
@@ -161,7 +161,7 @@ fn check_read<L: Read, R: Read>(
     demos: Demos,
 ) -> Result<Answer, CommandError>
     ensures answer { IfSome (L.remaining layout.old) (λ text. IfSome (R.remaining
-        reader.old) (λ input. Gives answer_seen result (check demos text input))) }
+        reader.old) (λ input. GivesOrFails answer_seen result (check demos text input))) }
     ensures unread { IfSome (L.remaining layout.old) (λ text. IfErr (layout_in text) (λ fault.
         reader.new ≡ reader.old)) }
 {

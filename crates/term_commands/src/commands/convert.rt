@@ -2,7 +2,7 @@
 
 ghost use Rattle.std.specs.Prelude.{◌≡◌, ◌≤◌, IfSome, Ok, None, length};
 ghost use Rattle.std.specs.String.{string_bytes};
-ghost use Rattle.term_commands.specs.Fault.{Gives};
+ghost use Rattle.term_commands.specs.Fault.{Gives, GivesOrFails};
 ghost use Rattle.term_commands.specs.Held.{answer_seen, line_seen};
 ghost use Rattle.term_commands.specs.Convert.{lines_or_refusal, convert, printed_convert};
 ghost use Rattle.term_commands.specs.ForwardHeld.{forward_seen};
@@ -147,7 +147,8 @@ pub fn convert_text(alloc: Global, records: &[u8]) -> Result<Answer, CommandErro
 }
 
 fn convert<R: Read>(alloc: Global, reader: &mut R) -> Result<Answer, CommandError>
-    ensures { IfSome (R.remaining reader.old) (λ input. Gives answer_seen result (convert input)) }
+    ensures { IfSome (R.remaining reader.old)
+        (λ input. GivesOrFails answer_seen result (convert input)) }
 {
     let records = read_text(alloc, reader)?;
     convert_text(alloc, records.as_slice())

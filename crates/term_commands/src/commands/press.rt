@@ -5,7 +5,7 @@ ghost use Rattle.std.specs.String.{string_bytes};
 ghost use Rattle.ds_terminal.specs.Seen.{key_reply_seen};
 ghost use Rattle.ds_terminal.specs.Terminal.{pressed};
 ghost use Rattle.term_commands.specs.declared.input.sizes.SizeLine.TheVariants.{Allowed};
-ghost use Rattle.term_commands.specs.Fault.{Gives};
+ghost use Rattle.term_commands.specs.Fault.{Gives, GivesOrFails};
 ghost use Rattle.term_commands.specs.Held.{answer_seen, records_seen};
 ghost use Rattle.term_commands.specs.Press.{reply_line, turn_line, pressed_text, press_keys, press, printed_press};
 ghost use Rattle.term_commands.specs.Records.{records_in};
@@ -103,7 +103,7 @@ fn press_read<R: Read, K: Read>(
     keys: &mut K,
 ) -> Result<Answer, CommandError>
     ensures answer { IfSome (R.remaining reader.old) (λ input. IfSome (K.remaining
-        keys.old) (λ lines. Gives answer_seen result (press input lines))) }
+        keys.old) (λ lines. GivesOrFails answer_seen result (press input lines))) }
     ensures unread { IfSome (R.remaining reader.old) (λ input.
         IfErr (records_in Allowed input) (λ fault. keys.new ≡ keys.old)) }
 {

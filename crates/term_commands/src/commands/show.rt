@@ -1,7 +1,7 @@
 //! The command `show`: the screen that records leave.
 
 ghost use Rattle.std.specs.Prelude.{◌≡◌, IfSome};
-ghost use Rattle.term_commands.specs.Fault.{Gives};
+ghost use Rattle.term_commands.specs.Fault.{Gives, GivesOrFails};
 ghost use Rattle.term_commands.specs.Held.{answer_seen};
 ghost use Rattle.term_commands.specs.Show.{show, printed_show};
 ghost use Rattle.term_commands.specs.Streams.{Prints};
@@ -37,7 +37,8 @@ pub fn show_text(alloc: Global, records: &[u8]) -> Result<Answer, CommandError>
 }
 
 fn show<R: Read>(alloc: Global, reader: &mut R) -> Result<Answer, CommandError>
-    ensures { IfSome (R.remaining reader.old) (λ input. Gives answer_seen result (show input)) }
+    ensures { IfSome (R.remaining reader.old)
+        (λ input. GivesOrFails answer_seen result (show input)) }
 {
     let records = read_text(alloc, reader)?;
     show_text(alloc, records.as_slice())

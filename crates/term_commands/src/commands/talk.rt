@@ -5,7 +5,7 @@ ghost use Rattle.std.specs.Fmt.{decimal};
 ghost use Rattle.std.specs.String.{string_bytes};
 ghost use Rattle.scr_check.specs.TalkSeen.{rounds_of, stop_in};
 ghost use Rattle.scr_check.specs.Walk.{walk_of};
-ghost use Rattle.term_commands.specs.Fault.{Gives};
+ghost use Rattle.term_commands.specs.Fault.{Gives, GivesOrFails};
 ghost use Rattle.term_commands.specs.Held.{answer_seen};
 ghost use Rattle.term_commands.specs.Printed.{printed};
 ghost use Rattle.term_commands.specs.Streams.{Prints};
@@ -229,7 +229,7 @@ fn talk_read<L: Read + Drop, R: Read>(
 ) -> Result<Answer, CommandError>
     ensures answer { IfSome (all_remaining L.remaining layouts.items)
         (λ texts. IfSome (R.remaining reader.old)
-        (λ input. Gives answer_seen result (talk texts input))) }
+        (λ input. GivesOrFails answer_seen result (talk texts input))) }
     ensures unread { IfSome (all_remaining L.remaining layouts.items)
         (λ texts. IfErr (layouts_from 0 [] texts) (λ fault. reader.new ≡ reader.old)) }
 {

@@ -2,7 +2,7 @@
 
 ghost use Rattle.std.specs.Prelude.{◌≡◌, IfSome, ◌≤◌, length};
 ghost use Rattle.ds_keys.specs.Lines.{key_of};
-ghost use Rattle.term_commands.specs.Fault.{Gives};
+ghost use Rattle.term_commands.specs.Fault.{Gives, GivesOrFails};
 ghost use Rattle.term_commands.specs.Keys.{key_or_bad, key_told, after_key_line, take_key, keys_in};
 ghost use Rattle.term_commands.specs.Lines.{lines_in};
 ghost use Rattle.term_commands.specs.Taking.{taken};
@@ -97,7 +97,8 @@ pub fn keys_in(alloc: Global, text: &[u8]) -> Result<Keys, CommandError>
 
 /// The keys of an input, or the first fault of its lines.
 pub fn read_keys<R: Read>(alloc: Global, reader: &mut R) -> Result<Keys, CommandError>
-    ensures { IfSome (R.remaining reader.old) (λ input. Gives keys_seen result (keys_in input)) }
+    ensures { IfSome (R.remaining reader.old)
+        (λ input. GivesOrFails keys_seen result (keys_in input)) }
 {
     let text = read_text(alloc, reader)?;
     keys_in(alloc, text.as_slice())

@@ -2,7 +2,7 @@
 
 ghost use Rattle.std.specs.Prelude.{◌≡◌, IfSome};
 ghost use Rattle.scr_layout.specs.Results.{Gives as GivesLayout};
-ghost use Rattle.term_commands.specs.Fault.{Gives};
+ghost use Rattle.term_commands.specs.Fault.{Gives, GivesOrFails};
 ghost use Rattle.term_commands.specs.LayoutText.{layout_said, layout_in};
 
 use crate::fault::CommandError;
@@ -36,7 +36,8 @@ pub fn layout_in(alloc: Global, text: &[u8]) -> Result<Layout, CommandError>
 
 /// The layout of an input, or its first fault.
 pub fn read_layout<R: Read>(alloc: Global, reader: &mut R) -> Result<Layout, CommandError>
-    ensures { IfSome (R.remaining reader.old) (λ input. Gives (λ l. l) result (layout_in input)) }
+    ensures { IfSome (R.remaining reader.old)
+        (λ input. GivesOrFails (λ l. l) result (layout_in input)) }
 {
     let text = read_text(alloc, reader)?;
     layout_in(alloc, text.as_slice())

@@ -1,7 +1,7 @@
 //! The layouts of the turns of a dialogue.
 
 ghost use Rattle.std.specs.Prelude.{◌≡◌, [], IfSome, map};
-ghost use Rattle.term_commands.specs.Fault.{Gives};
+ghost use Rattle.term_commands.specs.Fault.{Gives, GivesOrFails};
 ghost use Rattle.term_commands.specs.Talk.{turn_layout_in, layouts_from};
 ghost use Rattle.term_commands.specs.TurnsHeld.{all_remaining};
 
@@ -46,7 +46,7 @@ fn read_turn_layout<L: Read>(
     reader: &mut L,
 ) -> Result<Layout, CommandError>
     ensures { IfSome (L.remaining reader.old)
-        (λ input. Gives (λ l. l) result (turn_layout_in turn input)) }
+        (λ input. GivesOrFails (λ l. l) result (turn_layout_in turn input)) }
 {
     let text = read_text(alloc, reader)?;
     turn_layout_in(alloc, turn, text.as_slice())
@@ -58,7 +58,7 @@ pub fn read_layouts<L: Read + Drop>(
     readers: Vec<L>,
 ) -> Result<Vec<Layout>, CommandError>
     ensures { IfSome (all_remaining L.remaining readers.items)
-        (λ texts. Gives (λ v. v.items) result (layouts_from 0 [] texts)) }
+        (λ texts. GivesOrFails (λ v. v.items) result (layouts_from 0 [] texts)) }
 {
     let mut layouts = Vec::new(alloc);
     for reader in readers {

@@ -3,7 +3,7 @@
 ghost use Rattle.std.specs.Prelude.{◌≡◌, ◌==◌, not, IfOk, IfSome, OnOk, ◌≤◌, length, false};
 ghost use Rattle.std.specs.List.{filter};
 ghost use Rattle.hex.specs.Hex.{decode_of};
-ghost use Rattle.term_commands.specs.Fault.{Gives};
+ghost use Rattle.term_commands.specs.Fault.{Gives, GivesOrFails};
 ghost use Rattle.term_commands.specs.Records.{line_told, digits_told, record_told, without_spaces, one_more, after_line, take_record, records_in};
 ghost use Rattle.term_commands.specs.Lines.{lines_in};
 ghost use Rattle.term_commands.specs.Taking.{taken};
@@ -180,7 +180,7 @@ pub fn read_records<R: Read>(
     reader: &mut R,
     size_line: SizeLine,
 ) -> Result<Records, CommandError>
-    ensures { IfSome (R.remaining reader.old) (λ input. Gives records_seen result
+    ensures { IfSome (R.remaining reader.old) (λ input. GivesOrFails records_seen result
         (records_in size_line input)) }
 {
     let text = read_text(alloc, reader)?;

@@ -4,7 +4,7 @@ ghost use Rattle.std.specs.Prelude.{◌≡◌, IfOk, Err, Result};
 ghost use Rattle.std.specs.Bool.{OnTrue};
 ghost use Rattle.std.specs.Io.KnownBytes.{Appends};
 ghost use Rattle.std.specs.String.{string_bytes};
-ghost use Rattle.term_commands.specs.Fault.{fault_line, Gives};
+ghost use Rattle.term_commands.specs.Fault.{fault_line, GivesOrFails};
 ghost use Rattle.term_commands.specs.Held.{answer_seen};
 ghost use Rattle.term_commands.specs.Printed.{Printed, printed, printed_or_fault};
 ghost use Rattle.term_commands.specs.declared.fault.Fault.{Fault as AFault};
@@ -76,7 +76,7 @@ fn fault_answer(alloc: Global, fault: Fault) -> Result<Answer, AllocError>
 ///
 /// Where a read failed, or memory was refused.
 pub fn printed(alloc: Global, answer: Result<Answer, CommandError>) -> Result<Answer, CommandError>
-    ensures { (due : Result Printed AFault) → Gives answer_seen answer due
+    ensures { (due : Result Printed AFault) → GivesOrFails answer_seen answer due
         → IfOk result (λ told. answer_seen told ≡ printed_or_fault due) }
 {
     match answer {

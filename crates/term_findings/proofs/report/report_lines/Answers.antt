@@ -1,4 +1,4 @@
-use Rattle.term_commands.specs.Fault.{Gives}
+use Rattle.term_commands.specs.Fault.{GivesOrFails}
 use Rattle.term_commands.specs.Held.{answer_seen}
 use Rattle.std.specs.Prelude.{Ok}
 use Rattle.term_findings.specs.Report.{report, or_refusal}
@@ -7,6 +7,6 @@ use Rattle.term_findings.proofs.report.report_lines.Goals as goal
 
 pub returns-clause-answer : goal.returns-clause-answer
 returns-clause-answer g c =
-    under (g.L.Read.remaining c.args.layout.now) (g.R.Read.remaining c.args.reader.now) (λ text input. Gives answer_seen c.report_read-answer.result (report text input))
-    (λ text input. Gives answer_seen c.or_refusal.result (Ok (or_refusal (report text input)))) (λ text input is. c.or_refusal.ensures (report text input) is)
+    under (g.L.Read.remaining c.args.layout.now) (g.R.Read.remaining c.args.reader.now) (λ text input. GivesOrFails answer_seen c.report_read-answer.result (report text input))
+    (λ text input. GivesOrFails answer_seen c.or_refusal.result (Ok (or_refusal (report text input)))) (λ text input is. c.or_refusal.ensures.readers (report text input) is)
     c.report_read-answer.ensures.answer
