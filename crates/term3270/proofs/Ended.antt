@@ -7,7 +7,7 @@ use Rattle.term_commands.specs.declared.fault.CommandError.{CommandError}
 use Rattle.term_commands.specs.declared.fault.CommandError.TheVariants.{Fault as Told, ReadFailed, OutOfMemory}
 use Rattle.term_commands.specs.declared.status.Status.{Status}
 use Rattle.term_commands.specs.declared.status.Status.TheVariants.{BadInput, Failed, NoMemory}
-use Rattle.term_commands.specs.Fault.{Gives, fault_line}
+use Rattle.term_commands.specs.Fault.{GivesOrFails, fault_line}
 use Rattle.term_commands.specs.Printed.{Printed, printed}
 use Rattle.term_commands.specs.Streams.{AppendsFront, Finishes, IsStopped, IsWantOrFailure, IsWritten, Prints}
 use Rattle.tn_cores.specs.declared.device.Device.{Device}
@@ -43,7 +43,7 @@ told_prints old new status text (inl (inr part)) = subst (λ s. Prints old new s
 told_prints old new status text (inr stopped) = wanting_prints old new status (printed text BadInput) stopped
 
 pub serve_ends : {H : Type 0} (view : H → Prepared) (count : ℕ) (old new : Option (List ℕ)) (status : Status) (error : CommandError) (due : Result Prepared Fault)
-    → Gives view (Err error) due → Finishes old new (Err error) status → ServesPrepared count old new status due
+    → GivesOrFails view (Err error) due → Finishes old new (Err error) status → ServesPrepared count old new status due
 serve_ends view count old new status (Told fault) due gives ends =
     subst (ServesPrepared count old new status) (sym gives) (told_prints old new status (fault_line fault) ends)
 serve_ends view count old new status ReadFailed (Err fault) gives ends = failed_prints old new status (printed (fault_line fault) BadInput) ends
@@ -54,7 +54,7 @@ serve_ends view count old new status OutOfMemory (Ok (stops answer)) gives ends 
 serve_ends view count old new status OutOfMemory (Ok (ready layout records)) gives ends = inr (wanting_fails old new status ends)
 
 pub attach_ends : {H : Type 0} (view : H → List Key) (device : Device) (old new : Option (List ℕ)) (status : Status) (error : CommandError) (due : Result (List Key) Fault)
-    → Gives view (Err error) due → Finishes old new (Err error) status → AttachesNamed device old new status due
+    → GivesOrFails view (Err error) due → Finishes old new (Err error) status → AttachesNamed device old new status due
 attach_ends view device old new status (Told fault) due gives ends =
     subst (AttachesNamed device old new status) (sym gives) (told_prints old new status (fault_line fault) ends)
 attach_ends view device old new status ReadFailed (Err fault) gives ends = failed_prints old new status (printed (fault_line fault) BadInput) ends
