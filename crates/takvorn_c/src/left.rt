@@ -2,7 +2,7 @@
 
 ghost use Rattle.std.specs.Prelude.{◌≡◌, pos, Result};
 ghost use Rattle.term_commands.specs.declared.fault.Fault.{Fault};
-ghost use Rattle.term_commands.specs.Fault.{Gives};
+ghost use Rattle.term_commands.specs.Fault.{Gives, GivesOrFails};
 ghost use Rattle.term_commands.specs.Held.{answer_seen};
 ghost use Rattle.term_commands.specs.Printed.{Printed, printed_or_fault};
 ghost use Rattle.takvorn_c.specs.Left.{laid_over, IsTold, Leaves};
@@ -39,7 +39,9 @@ pub fn leave(
     out: &mut [u8],
     needed: &mut usize,
 ) -> u8
-    ensures { (due : Result Printed Fault) → Gives answer_seen answer due
+    ensures texts { (due : Result Printed Fault) → Gives answer_seen answer due
+        → Leaves (printed_or_fault due) out.old out.new needed.new (pos result) }
+    ensures readers { (due : Result Printed Fault) → GivesOrFails answer_seen answer due
         → Leaves (printed_or_fault due) out.old out.new needed.new (pos result) }
 {
     match printed(alloc, answer) {
