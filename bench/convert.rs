@@ -1,5 +1,8 @@
 //! The work of `term3270 convert` and `convert --back` in plain Rust, to measure beside them:
 //! Erase/Write records of text, Start Field, Set Buffer Address and Insert Cursor.
+mod digits;
+
+use digits::{decoded, record};
 use std::io::{self, Read, Write};
 
 fn is_text(byte: u8) -> bool {
@@ -74,40 +77,6 @@ fn lines(out: &mut Vec<u8>, bytes: &[u8]) -> Option<()> {
     }
     out.push(b'\n');
     Some(())
-}
-
-/// The value of each hexadecimal digit, and 16 for every other byte.
-const VALUES: [u8; 256] = {
-    let mut values = [16; 256];
-    let mut value = 0;
-    while value < 16 {
-        values[b"0123456789ABCDEF"[value] as usize] = value as u8;
-        values[b"0123456789abcdef"[value] as usize] = value as u8;
-        value += 1;
-    }
-    values
-};
-
-fn decoded(digits: &[u8]) -> Option<Vec<u8>> {
-    if digits.len() % 2 != 0 {
-        return None;
-    }
-    let mut bytes = vec![0; digits.len() / 2];
-    let mut worst = 0;
-    for (byte, pair) in bytes.iter_mut().zip(digits.chunks_exact(2)) {
-        let (high, low) = (VALUES[usize::from(pair[0])], VALUES[usize::from(pair[1])]);
-        worst |= high | low;
-        *byte = high % 16 * 16 + low % 16;
-    }
-    (worst < 16).then_some(bytes)
-}
-
-fn record(line: &str) -> Option<Vec<u8>> {
-    if line.contains(' ') {
-        let digits: Vec<u8> = line.bytes().filter(|byte| *byte != b' ').collect();
-        return decoded(&digits);
-    }
-    decoded(line.as_bytes())
 }
 
 enum Order {

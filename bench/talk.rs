@@ -1,5 +1,8 @@
 //! The work of `term3270 talk` in plain Rust, to measure beside it: turns of one Erase/Write record of text and Start Field
 //! each on a screen of 24 rows of 80 columns, and layouts of inputs as the benchmark writes them.
+mod digits;
+
+use digits::record;
 use std::io::{self, Read, Write};
 
 const COLS: usize = 80;
@@ -108,14 +111,6 @@ fn leave(cells: &mut [Cell]) {
             }
         }
     }
-}
-
-fn digit(byte: u8) -> Option<u8> {
-    char::from(byte).to_digit(16).map(|value| value as u8)
-}
-
-fn record(line: &str) -> Option<Vec<u8>> {
-    line.as_bytes().chunks(2).map(|pair| Some(digit(pair[0])? * 16 + digit(pair[1])?)).collect()
 }
 
 fn main() -> io::Result<()> {
