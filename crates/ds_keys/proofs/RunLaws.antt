@@ -1,15 +1,19 @@
 -- Loops that store cells one after the other.
-use Rattle.std.proofs.Common.{◌≡◌, ℕ, ◌+◌, ◌-◌, ◌<◌, ◌≤◌, true, false, cond, eqb, ltb, List, length, set, Some, None, refl, sym, ◌∙◌, ap, arith, inl, inr}
+use Rattle.std.proofs.Common.{◌≡◌, ◌≢◌, ℕ, ◌+◌, ◌-◌, ◌%◌, ◌<◌, ◌≤◌, true, false, cond, eqb, ltb, List, length, set, Some, None, refl, sym, ◌∙◌, ap, arith, inl, inr}
 use Rattle.std.specs.Option.{unwrap_or}
-use Rattle.std.proofs.lemmas.Bool.{cond-true, cond-false, cases_eq, le-ltb, eq-eqb, ne_eqb}
+use Rattle.std.proofs.lemmas.List.{set-get_or}
+use Rattle.std.proofs.lemmas.Bool.{eqb-true, cond-true, cond-false, cases_eq, cases_lt, le-ltb, eq-eqb, ne_eqb}
 use Rattle.ds_codec.specs.declared.cell.Cell.{Cell}
-use Rattle.ds_codec.specs.declared.cell.Cell.TheVariants.{Field}
-use Rattle.ds_codec.specs.Attribute.{with_modified}
+use Rattle.ds_codec.specs.declared.cell.Cell.TheVariants.{Field, Char}
+use Rattle.ds_codec.specs.Character.{Glyph}
+use Rattle.ds_codec.specs.Attribute.{is_modified, with_modified}
 use Rattle.ds_screen.specs.Ring.{ring_on, ring_distance, least}
 use Rattle.ds_screen.specs.Picture.{Picture, blank, cell_at, ruled}
 use Rattle.ds_screen.specs.Fields.{is_attribute, is_at, attribute_before}
 use Rattle.ds_screen.proofs.RingLaws.{least_at, least_none, on_cases, distance_ahead}
-use Rattle.ds_screen.proofs.RuledLaws.{as_ruled, cell_at-ruled, length-ruled, set-ruled, walk_step, walk_none}
+use Rattle.ds_screen.specs.Orders.{repeated_cell}
+use Rattle.ds_screen.proofs.EraseLaws.{repeat_done}
+use Rattle.ds_screen.proofs.RuledLaws.{distance_on, as_ruled, cell_at-ruled, length-ruled, set-ruled, walk_step, walk_none}
 use Rattle.ds_keys.specs.Moves.{row_end}
 use Rattle.ds_keys.specs.KeyStep.{modified, marked_cell, run_end}
 use Rattle.ds_keys.specs.Kept.{so_far, moved_back}
@@ -31,6 +35,29 @@ store_more v now new b k at f x inside few here stored says writes =
 
 pub length_stored : (v now : Picture) (rule : ℕ → Cell) → now ≡ with_cells v (ruled (length v.cells) rule) → length now.cells ≡ length v.cells
 length_stored v now rule stored = ap (λ (w : Picture). length w.cells) stored ∙ length-ruled (length v.cells) rule
+
+-- so many steps, one at least, reach the position that stands as many on, and all where that is where they began
+reach_on : (n b k : ℕ) → b < n → 0 < k → k ≤ n → k ≡ cond (eqb b (ring_on n b k)) n (ring_distance n b (ring_on n b k))
+reach_on n b k inside some few =
+    elim (cases_lt k n) [
+      | inl less ↦
+          let apart : b ≢ ring_on n b k = elim (on_cases n b k) [ inl a ↦ λ same. absurd (omega arith) | inr a ↦ λ same. absurd (omega arith) ] in
+          sym (cond-false (eqb b (ring_on n b k)) _ _ (ne_eqb b (ring_on n b k) apart) ∙ distance_on n b k inside less)
+      | inr past ↦
+          let whole : k ≡ n = omega arith in
+          let same : b ≡ ring_on n b k = elim (on_cases n b k) [ inl a ↦ absurd (omega arith) | inr a ↦ omega arith ] in
+          whole ∙ sym (cond-true (eqb b (ring_on n b k)) _ _ (eq-eqb b (ring_on n b k) same))
+    ]
+
+-- a character that is repeated up to the position that stands so many on
+pub filled_far : (v new : Picture) (b k stop : ℕ) (character : Glyph) → b < length v.cells → 0 < k → k ≤ length v.cells → stop ≡ ring_on (length v.cells) b k
+    → new ≡ with_cells v (ruled (length v.cells) (repeated_cell v.cells b stop character))
+    → new ≡ with_cells v (ruled (length v.cells) (so_far v.cells b k (λ p. Char character)))
+filled_far v new b k stop character inside some few there writes =
+    let n : ℕ = length v.cells in
+    let steps : k ≡ cond (eqb b stop) n (ring_distance n b stop) =
+    reach_on n b k inside some few ∙ ap (λ q. cond (eqb b q) n (ring_distance n b q)) (sym there) in
+    writes ∙ sym (ap (with_cells v) (repeat_done v.cells b stop k character inside steps))
 
 -- from b on, not round the end
 pub on_from : (n b p : ℕ) → b ≤ p → p < n → p ≡ ring_on n b (p - b)
@@ -87,3 +114,10 @@ mark_some cells c q bits lt found there =
     ∙ cond-true (eqb q q) _ _ (eq-eqb q q refl) ∙ ap modified there)
     (λ p below apart. ap (λ o. cond (is_at o p) (modified (cell_at cells p)) (cell_at cells p)) (sym found)
     ∙ cond-false (eqb q p) _ _ (ne_eqb q p (λ same. apart (sym same))))
+
+pub mark_kept : (cells : List Cell) (c q bits : ℕ) → q < length cells → Some q ≡ attribute_before cells c → cell_at cells q ≡ Field bits → is_modified bits ≡ true
+    → cells ≡ ruled (length cells) (marked_cell cells c)
+mark_kept cells c q bits lt found there already =
+    let odd : bits % 2 ≡ 1 = eqb-true (bits % 2) 1 already in
+    let same : bits ≡ with_modified bits true = omega arith in
+    sym (set-get_or cells q blank) ∙ ap (set cells q) (there ∙ ap (λ b. Field b) same) ∙ mark_some cells c q bits lt found there

@@ -45,8 +45,11 @@ last_functions =
     word (codes "pf17") (Attention (function_aid 17)) ∷ word (codes "pf18") (Attention (function_aid 18)) ∷ word (codes "pf19") (Attention (function_aid 19)) ∷ word (codes "pf20") (Attention (function_aid 20))
     ∷ word (codes "pf21") (Attention (function_aid 21)) ∷ word (codes "pf22") (Attention (function_aid 22)) ∷ word (codes "pf23") (Attention (function_aid 23)) ∷ word (codes "pf24") (Attention (function_aid 24)) ∷ []
 
+abbrev pub sending_words : List Word
+sending_words = attention_words ++ (first_functions ++ (middle_functions ++ last_functions))
+
 abbrev pub words : List Word
-words = cursor_words ++ (edit_words ++ (attention_words ++ (first_functions ++ (middle_functions ++ last_functions))))
+words = cursor_words ++ (edit_words ++ sending_words)
 
 -- the key of a text, by a table of words
 abbrev pub key_in : List ℕ → List Word → Option Key

@@ -30,7 +30,9 @@ fn mark<C: Cells>(screen: &mut Screen<C>, p: u32)
 {
     if let Some(q) = screen.attr_before(p) {
         if let Cell::Field(attribute) = screen.cell(q) {
-            screen.set_attr(q, attribute.with_modified(true));
+            if !attribute.modified() {
+                screen.set_attr(q, attribute.with_modified(true));
+            }
         }
     }
 }

@@ -1,7 +1,7 @@
 //! Keys by their words, as key lines name them (our own).
 
 ghost use Rattle.std.specs.Prelude.{◌≡◌, ◌<◌, true, IfSome};
-ghost use Rattle.ds_keys.specs.Lines.{cursor_words, edit_words, attention_words, first_functions, middle_functions, last_functions, words, key_in, is_typing, typed_key, key_of};
+ghost use Rattle.ds_keys.specs.Lines.{cursor_words, edit_words, attention_words, first_functions, middle_functions, last_functions, sending_words, words, key_in, is_typing, typed_key, key_of};
 
 use crate::key::Key;
 use ds_codec::{Aid, byte_of_digits, is_graphic_code};
@@ -122,12 +122,25 @@ fn typed(line: &[u8]) -> Option<Key>
     }
 }
 
-/// The key of a word.
+/// A key that sends.
+fn sending_key(word: &str) -> Option<Key>
+    ensures { result ≡ key_in word.now sending_words }
+{
+    let functions = first_function(word).or(middle_function(word).or(last_function(word)));
+    attention_key(word).or(functions)
+}
+
+/// The key of a word. Those that are pressed most are looked for first, and the others only where it is none of them.
 fn named(word: &str) -> Option<Key>
     ensures { result ≡ key_in word.now words }
 {
-    let functions = first_function(word).or(middle_function(word).or(last_function(word)));
-    cursor_key(word).or(edit_key(word).or(attention_key(word).or(functions)))
+    if let Some(key) = cursor_key(word) {
+        return Some(key);
+    }
+    if let Some(key) = edit_key(word) {
+        return Some(key);
+    }
+    sending_key(word)
 }
 
 /// The key that a line names: `type XX` (two hexadecimal digits of either case, 40 to FE), `left`, `right`,

@@ -38,11 +38,10 @@ pub(crate) fn null_on<C: Cells>(screen: &mut Screen<C>, from: u32, count: u32)
     } }
 {
     let n = position_count(screen);
-    let mut at = from;
-    'steps: for steps in 0..count {
-        screen.put_char(at, Char::null());
-        at = forward(n, at, 1);
+    if count == 0 {
+        return;
     }
+    screen.repeat_char(from, forward(n, from, count), Char::null());
 }
 
 /// The position behind the last one of a row.

@@ -96,6 +96,7 @@ impl<T: Placed> Pages<T> {
     }
 
     /// The entry at the greatest place below this one.
+    #[inline(always)]
     pub fn last_below(&self, place: u32) -> Option<T>
         ensures { IsLastBelow T.place_of self.now.entries place result }
     {
@@ -111,6 +112,7 @@ impl<T: Placed> Pages<T> {
     }
 
     /// The entry at the least place from this one on.
+    #[inline(always)]
     pub fn first_from(&self, place: u32) -> Option<T>
         ensures { IsFirstFrom T.place_of self.now.entries place result }
     {

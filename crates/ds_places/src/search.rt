@@ -88,6 +88,7 @@ pub fn held<T: Placed>(entries: &[T], place: u32) -> Option<T>
 }
 
 /// The entry at the greatest place below this one.
+#[inline(always)]
 pub(crate) fn last_below<T: Placed>(entries: &[T], place: u32) -> Option<T>
     requires { IsRising T.place_of entries.now }
     ensures { IsLastBelow T.place_of entries.now place result }
@@ -101,6 +102,7 @@ pub(crate) fn last_below<T: Placed>(entries: &[T], place: u32) -> Option<T>
 }
 
 /// The entry at the least place from this one on.
+#[inline(always)]
 pub(crate) fn first_from<T: Placed>(entries: &[T], place: u32) -> Option<T>
     requires { IsRising T.place_of entries.now }
     ensures { IsFirstFrom T.place_of entries.now place result }

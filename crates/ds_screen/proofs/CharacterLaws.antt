@@ -155,5 +155,12 @@ pub stored_all_real : (before after : List Cell) (p : ℕ) (cell : Cell) → is_
     → list_all is_real after ≡ true
 stored_all_real before after p cell real all is = ap (list_all is_real) is ∙ set_real before p cell real all
 
+pub repeated_all_real : (before after : List Cell) (b stop : ℕ) (character : Glyph) → is_glyph character ≡ true → list_all is_real before ≡ true
+    → after ≡ ruled (length before) (repeated_cell before b stop character) → list_all is_real after ≡ true
+repeated_all_real before after b stop character real all is =
+    ap (list_all is_real) is
+    ∙ all_real (ruled (length before) (repeated_cell before b stop character))
+    (ruled_real (length before) (repeated_cell before b stop character) (repeated_real before b stop character real (each_real before all)))
+
 pub clear_all_real : (before after : List Cell) → list_all is_real before ≡ true → after ≡ ruled (length before) (cleared_cell before) → list_all is_real after ≡ true
 clear_all_real before after all is = ap (list_all is_real) is ∙ cleared_real before all

@@ -266,6 +266,7 @@ impl Cells for PlaneCells {
         note(&mut self.index, self.planes.len(), p, was, is);
     }
 
+    #[inline(always)]
     fn attr_before(&self, p: u32) -> Option<u32> {
         let n = self.planes.len();
         if let Some(q) = self.index.last_below(p + 1) {

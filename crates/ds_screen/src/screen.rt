@@ -64,8 +64,9 @@ impl<C: Cells> Screen<C> {
     ghost use Rattle.std.specs.Prelude.{◌≡◌, ◌<◌, true, false, length, slice_set, string_bytes, IfOk, IfErr, OnOk, OnErr, IfSome};
     ghost use Rattle.ds_codec.specs.declared.cell.Cell.{Cell};
     ghost use Rattle.ds_codec.specs.Geometry.{cells_of};
-    ghost use Rattle.ds_screen.specs.Picture.{Picture, IsSound, cell_at};
+    ghost use Rattle.ds_screen.specs.Picture.{Picture, IsSound, cell_at, ruled};
     ghost use Rattle.ds_screen.specs.Fields.{is_attribute, attribute_before, attribute_from, is_open, first_open, fields_of};
+    ghost use Rattle.ds_screen.specs.Orders.{repeated_cell};
     ghost use Rattle.ds_screen.specs.Shown.{printed_row};
     ghost use Rattle.ds_screen.specs.Records.{new_picture, erased, cleared, all_cleared, told_of, RecordShows, IsRefusedBy};
 
@@ -227,6 +228,19 @@ impl<C: Cells> Screen<C> {
         ensures sound { IsSound self.new }
     {
         self.cells.put(p, Cell::Char(character));
+    }
+
+    /// Stores a character in each position from one on up to the stop, round the buffer; in all where they are one.
+    pub fn repeat_char(&mut self, p: u32, stop: u32, character: Char)
+        requires inside { p < length self.old.cells }
+        requires stop_inside { stop < length self.old.cells }
+        ensures changed { self.new ≡ record self.old {
+          cells = ruled (length self.old.cells)
+              (repeated_cell self.old.cells p stop character);
+        } }
+        ensures sound { IsSound self.new }
+    {
+        self.cells.repeat(p, stop, character);
     }
 
     /// Changes an attribute, where one stands.

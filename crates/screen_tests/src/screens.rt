@@ -221,6 +221,25 @@ fn push_put<C: Cells>(alloc: Global, setup: &Setup, out: &mut String, words: &st
     Ok(push_all(alloc, out, &screen)?)
 }
 
+/// The screen once a character was put at each place from one up to another.
+fn push_repeated<C: Cells>(
+    alloc: Global,
+    setup: &Setup,
+    out: &mut String,
+    words: &str,
+) -> Result<()> {
+    let (place, words) = cut_word(words)?;
+    let (stop, code) = cut_word(words)?;
+    let (place, stop, code) = (number(place)?, number(stop)?, byte(code)?);
+    let character = Char::new(code, false).context("a character")?;
+    let mut screen = opened::<C>(alloc, setup)?;
+    let cells = screen.size().cells();
+    if place < cells && stop < cells {
+        screen.repeat_char(place, stop, character);
+    }
+    Ok(push_all(alloc, out, &screen)?)
+}
+
 /// The fields once the attribute before a place was set.
 fn push_set<C: Cells>(alloc: Global, setup: &Setup, out: &mut String, words: &str) -> Result<()> {
     let (place, bits) = cut_word(words)?;
@@ -269,6 +288,7 @@ fn push_changed<C: Cells>(
 ) -> Result<bool> {
     match verb {
         "put" => push_put::<C>(alloc, setup, out, words)?,
+        "repeat" => push_repeated::<C>(alloc, setup, out, words)?,
         "set" => push_set::<C>(alloc, setup, out, words)?,
         "erase" => push_erased::<C>(alloc, setup, out)?,
         "clear" => push_cleared::<C>(alloc, setup, out, words)?,
