@@ -1,6 +1,7 @@
 //! The command `press`: the operator's keys on a screen, with the bytes that go out.
 
-ghost use Rattle.std.specs.Prelude.{◌≡◌, ◌++◌, IfErr, IfSome, OnOk};
+ghost use Rattle.std.specs.Prelude.{◌≡◌, ◌++◌, IfErr, IfSome, OnOk, codes};
+ghost use Rattle.std.specs.Fmt.{decimal};
 ghost use Rattle.std.specs.String.{string_bytes};
 ghost use Rattle.ds_terminal.specs.Seen.{key_reply_seen};
 ghost use Rattle.ds_terminal.specs.Terminal.{pressed};
@@ -23,8 +24,20 @@ use crate::status::Status;
 use ds_keys::Key;
 use ds_screen::PlaneCells;
 use ds_terminal::{KeyReply, Terminal};
+use itoa::Buffer;
 use std::alloc::{AllocError, Global};
 use std::io::{Read, Write};
+
+/// A line of a word and the cursor.
+fn push_cursor(out: &mut String, word: &str, cursor: u32) -> Result<(), AllocError>
+    ensures { OnOk result (string_bytes out.new ≡ string_bytes out.old
+        ++ (word.now ++ (decimal cursor ++ codes "\n"))) }
+{
+    let mut digits = Buffer::new();
+    out.push_str(word)?;
+    out.push_str(digits.format(cursor))?;
+    out.push_str("\n")
+}
 
 /// The line of a reply; the key leaves the cursor there.
 fn push_reply(out: &mut String, cursor: u32, reply: &KeyReply) -> Result<(), AllocError>
@@ -32,9 +45,9 @@ fn push_reply(out: &mut String, cursor: u32, reply: &KeyReply) -> Result<(), All
         (string_bytes out.new ≡ string_bytes out.old ++ reply_line cursor (key_reply_seen reply.now)) }
 {
     match reply {
-        KeyReply::Done => write!(out, "done {cursor}\n"),
-        KeyReply::Inhibited => write!(out, "inhibited {cursor}\n"),
-        KeyReply::Ignored => write!(out, "ignored {cursor}\n"),
+        KeyReply::Done => push_cursor(out, "done ", cursor),
+        KeyReply::Inhibited => push_cursor(out, "inhibited ", cursor),
+        KeyReply::Ignored => push_cursor(out, "ignored ", cursor),
         KeyReply::Sent(bytes) => push_sent(out, "sent ", bytes.as_slice()),
     }
 }
