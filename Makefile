@@ -44,7 +44,7 @@ peers: bin/term3270
 
 edits:
 	$(need_toolchain)
-	@sh tests/edits $(CRATE)
+	@python3 tests/edits $(CRATE)
 
 bench: bin/term3270 $(WIRE) $(LIBRARY)
 	@sh bench/run
