@@ -1,5 +1,5 @@
-//! The work of `term3270 talk` in plain Rust, to measure beside it: turns of one Erase/Write record of text and Start Field
-//! each on a screen of 24 rows of 80 columns, and layouts of inputs as the benchmark writes them.
+//! The work of `term3270 talk` and `check` in plain Rust, to measure beside them: Erase/Write records of text and Start Field
+//! on a screen of 24 rows of 80 columns, of `talk` one a turn, and layouts of inputs as the benchmark writes them.
 mod digits;
 
 use digits::record;
@@ -113,10 +113,33 @@ fn leave(cells: &mut [Cell]) {
     }
 }
 
+/// The records in turn on one screen, and then its fields beside the layout.
+fn check(text: &str, path: &str) -> io::Result<&'static str> {
+    let layout = entries(&std::fs::read_to_string(path)?).expect("a layout");
+    let records: Vec<Vec<u8>> = text.lines().map(|line| record(line).expect("hexadecimal")).collect();
+    let mut cells = vec![Cell::Char; CELLS];
+    let mut is_free = false;
+    for bytes in &records {
+        is_free |= shown(&mut cells, bytes).expect("a good record");
+    }
+    assert!(is_free);
+    if !cells.iter().any(|cell| matches!(cell, Cell::Field(_))) {
+        return Ok("F7 no field\n");
+    }
+    assert!(conforms(&cells, &layout, &mut vec![None; CELLS]));
+    Ok("yes\n")
+}
+
 fn main() -> io::Result<()> {
     let mut input = Vec::new();
     io::stdin().read_to_end(&mut input)?;
     let text = std::str::from_utf8(&input).expect("text");
+    if std::env::args().nth(1).as_deref() == Some("check") {
+        let path = std::env::args().nth(2).expect("a layout");
+        let words = check(text, &path)?;
+        io::stdout().write_all(words.as_bytes())?;
+        std::process::exit(i32::from(words != "yes\n"));
+    }
     let turns: Vec<Vec<u8>> = text.split("turn\n").map(|turn| record(turn.trim_end()).expect("hexadecimal")).collect();
     let mut cells = vec![Cell::Char; CELLS];
     let mut at_place = vec![None; CELLS];

@@ -30,6 +30,11 @@ use test_words::is_row;
 fn push_laws(out: &mut String) -> Result<(), AllocError> {
     term_commands::convert_law();
     term_commands::lines_law();
+    term_pictures::drawing_law();
+    term_pictures::looks_law();
+    term_pictures::names_law();
+    term_traces::pieces_law();
+    term_traces::text_law();
     out.push_str("done")
 }
 

@@ -141,20 +141,34 @@ fn planes_of(alloc: Global, count: u32, apart: u32) -> Result<PlaneCells, AllocE
     Ok(cells)
 }
 
+/// The first attribute that is listed.
+fn first_listed(cells: &PlaneCells) -> Option<u32> {
+    let mut probed = cells.probed();
+    if probed.len() == 0 {
+        return None;
+    }
+    Some(probed.item(0))
+}
+
 /// The attribute before a place, and how many were looked at to find it.
+fn push_looked(out: &mut String, cells: &PlaneCells, place: u32) -> Result<(), AllocError> {
+    let mut probed = cells.probed();
+    push_word_number(out, "among ", probed.len())?;
+    match attr_before_counted(&mut probed, place) {
+        Some(q) => push_word_number(out, " at ", q)?,
+        None => out.push_str(" none")?,
+    }
+    let looks = probed.probes();
+    write!(out, " looks {looks}")
+}
+
 fn push_looks(alloc: Global, out: &mut String, words: &str) -> Result<()> {
     let (count, rest) = cut_word(words)?;
     let (apart, place) = cut_word(rest)?;
     let cells = planes_of(alloc, number(count)?, number(apart)?)?;
-    let mut probed = cells.probed();
-    push_word_number(out, "among ", probed.len())?;
-    match attr_before_counted(&mut probed, number(place)?) {
-        Some(q) => push_word_number(out, " at ", q)?,
-        None => out.push_str(" none")?,
-    }
-    push_word_number(out, " looks ", u32::try_from(probed.probes())?)?;
-    if probed.len() > 0 {
-        push_word_number(out, " first ", probed.item(0))?;
+    push_looked(out, &cells, number(place)?)?;
+    if let Some(first) = first_listed(&cells) {
+        push_word_number(out, " first ", first)?;
     }
     Ok(())
 }

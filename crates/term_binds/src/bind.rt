@@ -14,7 +14,8 @@ use scr_layout::Layout;
 use std::alloc::{AllocError, Global};
 use std::io::{Read, Write};
 use term_commands::{
-    Answer, CommandError, SizeLine, Status, finish, layout_in, read_layout, read_text, records_in,
+    Answer, CommandError, SizeLine, Status, finish, layout_in, read_layout, read_records,
+    records_in,
 };
 
 /// The lines of answers in turn; whether all of them are bound.
@@ -74,6 +75,20 @@ fn bind_answers(
     Ok(answers_text(alloc, form, layout, told.records.as_slice())?)
 }
 
+/// What `bind` answers to a layout and to answers that are read.
+fn bind_read_answers<R: Read>(
+    alloc: Global,
+    layout: &Layout,
+    reader: &mut R,
+    form: Form,
+) -> Result<Answer, CommandError>
+    ensures { IfSome (R.remaining reader.old)
+        (λ input. GivesOrFails answer_seen result (bind_answers form layout.now input)) }
+{
+    let told = read_records(alloc, reader, SizeLine::Refused)?;
+    Ok(answers_text(alloc, form, layout, told.records.as_slice())?)
+}
+
 /// What `bind` answers to the texts of a layout and of answers.
 ///
 /// # Errors
@@ -103,8 +118,7 @@ fn bind_read<L: Read, R: Read>(
         reader.new ≡ reader.old)) }
 {
     let layout = read_layout(alloc, layout)?;
-    let answers = read_text(alloc, reader)?;
-    bind_answers(alloc, &layout, answers.as_slice(), form)
+    bind_read_answers(alloc, &layout, reader, form)
 }
 
 /// Reads a layout and then answers in hexadecimal, one a line, and prints for each, counted from 0, its attention

@@ -173,7 +173,7 @@ by_lines (Ok drafts) told (is, first) = rw is (ap text_in (ended_follows drafts 
 by_lines (Err fault) told is = rw is refl
 
 by_text : (room : Result (List ℕ) Fault)
-    → (room >>= λ text. taken take_line 1 nothing (lines_in text) >>= text_after) ≡ ((room >>= λ text. drafts_in_lines (lines_in text)) >>= written_in)
+    → ((room >>= λ text. taken take_line 1 nothing (lines_in text)) >>= text_after) ≡ ((room >>= λ text. drafts_in_lines (lines_in text)) >>= written_in)
 by_text (Ok text) =
     by_lines (taken take_order_line 1 no_drafts (lines_in text)) (taken take_line 1 nothing (lines_in text)) (all_follow (lines_in text) 1 no_drafts (λ allowed. (refl, refl)))
 by_text (Err fault) = refl

@@ -119,7 +119,7 @@ by_lines (Ok told) forward (is, first) = rw is refl
 by_lines (Err fault) forward is = rw is refl
 
 by_text : (room : Result (List ℕ) Fault)
-    → (room >>= λ text. taken take_line 1 nothing (lines_in text) >>= λ told. told.text) ≡ ((room >>= λ text. taken take_record 1 (no_records Allowed) (lines_in text)) >>= printed_in)
+    → ((room >>= λ text. taken take_line 1 nothing (lines_in text)) >>= λ told. told.text) ≡ ((room >>= λ text. taken take_record 1 (no_records Allowed) (lines_in text)) >>= printed_in)
 by_text (Ok text) =
     by_lines (taken take_record 1 (no_records Allowed) (lines_in text)) (taken take_line 1 nothing (lines_in text)) (all_follow (lines_in text) 1 (no_records Allowed) (λ allowed. refl))
 by_text (Err fault) = refl

@@ -1,6 +1,9 @@
 pub mod Rows
 pub mod Prefixes
+pub mod Parts
+pub mod NextLines
 pub mod Taking
+pub mod InTurn
 pub mod Joined
 pub mod Backward
 pub mod Forward

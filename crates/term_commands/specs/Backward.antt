@@ -11,9 +11,9 @@ use Rattle.term_commands.specs.declared.fault.Fault.{Fault}
 use Rattle.term_commands.specs.declared.fault.Fault.TheVariants.{BadLine}
 use Rattle.term_commands.specs.declared.input.sizes.SizeLine.{SizeLine}
 use Rattle.term_commands.specs.declared.input.sizes.SizeLine.TheVariants.{Allowed, Refused}
-use Rattle.term_commands.specs.Lines.{lines_in, at_most, within_limit}
+use Rattle.term_commands.specs.Lines.{at_most}
 use Rattle.term_commands.specs.Sizes.{usual_sizes}
-use Rattle.term_commands.specs.Taking.{taken}
+use Rattle.term_commands.specs.Taking.{taken_in}
 use Rattle.term_commands.specs.declared.status.Status.TheVariants.{Done}
 use Rattle.term_commands.specs.Printed.{Printed, printed, joined}
 use Rattle.term_commands.specs.Drafts.{OrderLine, empty, comment, sizes, words, bad, line_told}
@@ -70,9 +70,13 @@ take_line number told line = after_line number told (line_told told.size_line li
 abbrev pub text_after : Backward → Result (List ℕ) Fault
 text_after told = (ended told told.current).text
 
+-- what all lines add, or the first fault
+abbrev pub backward_in : List ℕ → Result Backward Fault
+backward_in input = taken_in take_line nothing input
+
 -- the lines of all records, or the first fault
 abbrev pub text_of : List ℕ → Result (List ℕ) Fault
-text_of input = within_limit input >>= λ text. taken take_line 1 nothing (lines_in text) >>= text_after
+text_of input = backward_in input >>= text_after
 
 -- the same as it is printed
 abbrev pub answer_to : List ℕ → Result Printed Fault

@@ -7,9 +7,9 @@ use Rattle.term_commands.specs.declared.fault.Fault.TheVariants.{BadLine}
 use Rattle.term_commands.specs.declared.input.sizes.SizeLine.{SizeLine}
 use Rattle.term_commands.specs.declared.input.sizes.SizeLine.TheVariants.{Allowed, Refused}
 use Rattle.term_commands.specs.declared.status.Status.TheVariants.{Done}
-use Rattle.term_commands.specs.Lines.{lines_in, at_most, within_limit}
+use Rattle.term_commands.specs.Lines.{at_most}
 use Rattle.term_commands.specs.Sizes.{usual_sizes}
-use Rattle.term_commands.specs.Taking.{taken}
+use Rattle.term_commands.specs.Taking.{taken_in}
 use Rattle.term_commands.specs.Printed.{Printed, printed, joined}
 use Rattle.term_commands.specs.Records.{Line, ignored, sizes, outbound, bad, line_told}
 use Rattle.term_commands.specs.Convert.{lines_or_refusal}
@@ -46,9 +46,13 @@ after_line number told bad = Err (BadLine number)
 abbrev pub take_line : ℕ → Forward → List ℕ → Result Forward Fault
 take_line number told line = after_line number told (line_told told.size_line line)
 
--- the lines of all records, or the first fault
+-- what all lines add, or the first fault
+abbrev pub forward_in : List ℕ → Result Forward Fault
+forward_in input = taken_in take_line nothing input
+
+-- the lines of all records
 abbrev pub text_of : List ℕ → Result (List ℕ) Fault
-text_of input = within_limit input >>= λ text. taken take_line 1 nothing (lines_in text) >>= λ told. told.text
+text_of input = forward_in input >>= λ told. told.text
 
 -- the same as it is printed
 abbrev pub answer_to : List ℕ → Result Printed Fault

@@ -6,8 +6,8 @@ use Rattle.ds_keys.specs.declared.key.Key.{Key}
 use Rattle.ds_keys.specs.Lines.{key_of}
 use Rattle.term_commands.specs.declared.fault.Fault.{Fault}
 use Rattle.term_commands.specs.declared.fault.Fault.TheVariants.{BadKeyLine}
-use Rattle.term_commands.specs.Lines.{lines_in, is_ignored, at_most, within_limit}
-use Rattle.term_commands.specs.Taking.{taken}
+use Rattle.term_commands.specs.Lines.{is_ignored, at_most}
+use Rattle.term_commands.specs.Taking.{taken_in}
 
 -- ---- one line
 
@@ -37,4 +37,4 @@ take_key number keys line = after_key_line number keys (key_told line)
 
 -- the keys of an input, or its first fault
 abbrev pub keys_in : List ℕ → Result (List Key) Fault
-keys_in input = within_limit input >>= λ text. taken take_key 1 [] (lines_in text)
+keys_in input = taken_in take_key [] input

@@ -29,11 +29,11 @@ abbrev pub pressed_text : Picture → List Key → List ℕ
 pressed_text v [] = []
 pressed_text v (key ∷ keys) = turn_line (pressed v key) ++ pressed_text (pressed v key).after keys
 
+abbrev pub press_told : Records → List Key → Result Printed Fault
+press_told told keys = shown_on told.geometry told.records >>= λ v. Ok (printed (pressed_text v keys) Done)
+
 abbrev pub press_keys : Records → List ℕ → Result Printed Fault
-press_keys told lines = do
-  keys ← keys_in lines
-  v ← shown_on told.geometry told.records
-  Ok (printed (pressed_text v keys) Done)
+press_keys told lines = keys_in lines >>= press_told told
 
 abbrev pub press : List ℕ → List ℕ → Result Printed Fault
 press records lines = records_in Allowed records >>= λ told. press_keys told lines

@@ -10,9 +10,9 @@ use Rattle.term_commands.specs.declared.fault.Fault.{Fault}
 use Rattle.term_commands.specs.declared.fault.Fault.TheVariants.{BadLine}
 use Rattle.term_commands.specs.declared.input.sizes.SizeLine.{SizeLine}
 use Rattle.term_commands.specs.declared.input.sizes.SizeLine.TheVariants.{Refused}
-use Rattle.term_commands.specs.Lines.{lines_in, is_ignored, at_most, within_limit}
+use Rattle.term_commands.specs.Lines.{is_ignored, at_most}
 use Rattle.term_commands.specs.Sizes.{usual_sizes, sizes_told}
-use Rattle.term_commands.specs.Taking.{taken}
+use Rattle.term_commands.specs.Taking.{taken_in}
 
 -- ---- one line
 
@@ -73,4 +73,4 @@ take_record number told line = after_line number told (line_told told.size_line 
 
 -- The sizes and the records of an input, or its first fault. Sizes may be told elsewhere.
 abbrev pub records_in : SizeLine → List ℕ → Result Records Fault
-records_in size_line input = within_limit input >>= λ text. taken take_record 1 (no_records size_line) (lines_in text)
+records_in size_line input = taken_in take_record (no_records size_line) input

@@ -5,15 +5,16 @@ use Rattle.term_commands.specs.declared.fault.Fault.{Fault}
 use Rattle.term_commands.specs.declared.input.sizes.SizeLine.TheVariants.{Allowed}
 use Rattle.term_commands.specs.declared.status.Status.TheVariants.{Done}
 use Rattle.term_commands.specs.Printed.{Printed, printed, printed_or_fault}
-use Rattle.term_commands.specs.Records.{records_in}
+use Rattle.term_commands.specs.Records.{Records, records_in}
 use Rattle.term_commands.specs.Screen.{screen_text}
 use Rattle.term_commands.specs.Shown.{shown_on}
 
+-- the screen that records leave
+abbrev pub show_told : Records → Result Printed Fault
+show_told told = shown_on told.geometry told.records >>= λ v. Ok (printed (screen_text v) Done)
+
 abbrev pub show : List ℕ → Result Printed Fault
-show input = do
-  told ← records_in Allowed input
-  v ← shown_on told.geometry told.records
-  Ok (printed (screen_text v) Done)
+show input = records_in Allowed input >>= show_told
 
 -- what `show` prints for an input, and its status
 abbrev pub printed_show : List ℕ → Printed

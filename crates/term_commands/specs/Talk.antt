@@ -91,12 +91,13 @@ abbrev pub printed_stop : List Declaration → Option Stop → Printed
 printed_stop layouts None = printed (codes "yes\n") Done
 printed_stop layouts (Some stop) = printed (stop_text layouts stop) Findings
 
--- the faults of the lines; then that the numbers differ
+-- that the numbers differ, or what stands against the turns
+abbrev pub talk_told : List Declaration → List (List (List ℕ)) → Result Printed Fault
+talk_told layouts turns = counted (length turns) (length layouts) >>= λ as_many. Ok (printed_stop layouts (walk_of (rounds turns layouts)))
+
+-- the faults of the lines come first
 abbrev pub talk_turns : List Declaration → List ℕ → Result Printed Fault
-talk_turns layouts input = do
-  turns ← turns_in input
-  as_many ← counted (length turns) (length layouts)
-  Ok (printed_stop layouts (walk_of (rounds turns layouts)))
+talk_turns layouts input = turns_in input >>= talk_told layouts
 
 -- the faults of the layouts, in order; then that they are not of one geometry; then those of the turns
 abbrev pub talk : List (List ℕ) → List ℕ → Result Printed Fault

@@ -5,9 +5,9 @@ use Rattle.ds_codec.specs.Reading.{◌>>=◌}
 use Rattle.term_commands.specs.declared.fault.Fault.{Fault}
 use Rattle.term_commands.specs.declared.fault.Fault.TheVariants.{BadLine}
 use Rattle.term_commands.specs.declared.input.sizes.SizeLine.TheVariants.{Refused}
-use Rattle.term_commands.specs.Lines.{lines_in, at_most, within_limit}
+use Rattle.term_commands.specs.Lines.{at_most}
 use Rattle.term_commands.specs.Records.{Line, ignored, sizes, outbound, bad, line_told}
-use Rattle.term_commands.specs.Taking.{taken}
+use Rattle.term_commands.specs.Taking.{taken_in}
 
 -- the records of the turns that ended, those of the turn at hand, and how many there are in all
 pub record Turns : Type 0 where
@@ -44,6 +44,10 @@ take_turn_line number told line =
 abbrev pub turns_told : Turns → List (List (List ℕ))
 turns_told told = told.ended ++ told.current ∷ []
 
--- the turns of an input, one more than it has lines `turn`, or its first fault
+-- what the lines of an input tell, or its first fault
+abbrev pub turns_taken : List ℕ → Result Turns Fault
+turns_taken input = taken_in take_turn_line no_turns input
+
+-- the turns of an input, one more than it has lines `turn`
 abbrev pub turns_in : List ℕ → Result (List (List (List ℕ))) Fault
-turns_in input = within_limit input >>= λ text. taken take_turn_line 1 no_turns (lines_in text) >>= λ told. Ok (turns_told told)
+turns_in input = turns_taken input >>= λ told. Ok (turns_told told)

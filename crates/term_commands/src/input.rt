@@ -1,4 +1,4 @@
-//! The inputs of the commands, each read whole and judged line by line.
+//! The inputs of the commands, judged line by line: a layout once it is read, records and keys as they are read.
 
 pub mod bytes;
 pub mod drafts;
@@ -6,6 +6,8 @@ pub mod keys;
 pub mod layout;
 pub mod layouts;
 pub mod lines;
+pub mod next;
+pub mod reading;
 pub mod records;
 pub mod sizes;
 pub mod turns;

@@ -12,7 +12,7 @@ use Rattle.term_commands.specs.declared.fault.Fault.TheVariants.{LayoutRefused}
 use Rattle.term_commands.specs.declared.input.sizes.SizeLine.TheVariants.{Allowed}
 use Rattle.term_commands.specs.declared.status.Status.TheVariants.{Done, Findings}
 use Rattle.term_commands.specs.Printed.{Printed, printed, printed_or_fault}
-use Rattle.term_commands.specs.Records.{records_in}
+use Rattle.term_commands.specs.Records.{Records, records_in}
 
 -- a finding in the checker's words; those that come before a layout is looked at name no entry
 abbrev pub stop_line : Finding → List ℕ
@@ -28,10 +28,11 @@ abbrev pub printed_opened : Result Picture Finding → Result Printed Fault
 printed_opened (Ok v) = printed_text (drafted v)
 printed_opened (Err finding) = Ok (printed (stop_line finding) Findings)
 
+abbrev pub draft_told : Records → Result Printed Fault
+draft_told told = printed_opened (opened told.geometry told.records)
+
 abbrev pub draft : List ℕ → Result Printed Fault
-draft input = do
-  told ← records_in Allowed input
-  printed_opened (opened told.geometry told.records)
+draft input = records_in Allowed input >>= draft_told
 
 -- what `draft` prints for an input, and its status
 abbrev pub printed_draft : List ℕ → Printed

@@ -2,17 +2,19 @@
 
 ghost use Rattle.std.specs.Prelude.{◌≡◌, IfSome};
 ghost use Rattle.term_commands.specs.Fault.{Gives, GivesOrFails};
-ghost use Rattle.term_commands.specs.Held.{answer_seen};
+ghost use Rattle.term_commands.specs.Held.{answer_seen, records_seen};
 ghost use Rattle.term_commands.specs.Streams.{Prints};
 ghost use Rattle.scr_draft.specs.Draft.{drafted};
-ghost use Rattle.term_drafts.specs.Draft.{printed_text, draft, printed_draft};
+ghost use Rattle.term_drafts.specs.Draft.{printed_text, draft_told, draft, printed_draft};
 
 use crate::stop::stop_line;
 use ds_screen::{PlaneCells, Screen};
 use scr_draft::{Opened, draft, open};
 use std::alloc::Global;
 use std::io::{Read, Write};
-use term_commands::{Answer, CommandError, SizeLine, Status, finish, read_text, records_in};
+use term_commands::{
+    Answer, CommandError, Records, SizeLine, Status, finish, read_records, records_in,
+};
 
 /// What `draft` answers to a screen.
 fn draft_answer(alloc: Global, screen: &Screen<PlaneCells>) -> Result<Answer, CommandError>
@@ -25,15 +27,10 @@ fn draft_answer(alloc: Global, screen: &Screen<PlaneCells>) -> Result<Answer, Co
     })
 }
 
-/// What `draft` answers to a text of records.
-///
-/// # Errors
-///
-/// The first fault of the lines, or of the draft as a layout; out of memory.
-pub fn draft_text(alloc: Global, records: &[u8]) -> Result<Answer, CommandError>
-    ensures { Gives answer_seen result (draft records.now) }
+/// What `draft` answers to records.
+fn draft_told(alloc: Global, told: &Records) -> Result<Answer, CommandError>
+    ensures { Gives answer_seen result (draft_told (records_seen told.now)) }
 {
-    let told = records_in(alloc, records, SizeLine::Allowed)?;
     match open(alloc, told.geometry, told.records.as_slice())? {
         Opened::Leads(screen) => draft_answer(alloc, &screen),
         Opened::Stands(finding) => Ok(Answer {
@@ -43,12 +40,24 @@ pub fn draft_text(alloc: Global, records: &[u8]) -> Result<Answer, CommandError>
     }
 }
 
+/// What `draft` answers to a text of records.
+///
+/// # Errors
+///
+/// The first fault of the lines, or of the draft as a layout; out of memory.
+pub fn draft_text(alloc: Global, records: &[u8]) -> Result<Answer, CommandError>
+    ensures { Gives answer_seen result (draft records.now) }
+{
+    let told = records_in(alloc, records, SizeLine::Allowed)?;
+    draft_told(alloc, &told)
+}
+
 fn draft_records<R: Read>(alloc: Global, reader: &mut R) -> Result<Answer, CommandError>
     ensures { IfSome (R.remaining reader.old)
         (λ input. GivesOrFails answer_seen result (draft input)) }
 {
-    let records = read_text(alloc, reader)?;
-    draft_text(alloc, records.as_slice())
+    let told = read_records(alloc, reader, SizeLine::Allowed)?;
+    draft_told(alloc, &told)
 }
 
 /// Reads records in hexadecimal, one a line, applies them to a new screen, and prints a layout for it, in TOML: an entry

@@ -6,7 +6,7 @@ use Rattle.term_commands.specs.declared.fault.Fault.{Fault}
 use Rattle.term_commands.specs.declared.input.sizes.SizeLine.TheVariants.{Allowed}
 use Rattle.term_commands.specs.declared.status.Status.TheVariants.{Done}
 use Rattle.term_commands.specs.Printed.{Printed, printed, printed_or_fault}
-use Rattle.term_commands.specs.Records.{records_in}
+use Rattle.term_commands.specs.Records.{Records, records_in}
 use Rattle.term_commands.specs.Shown.{shown_on}
 use Rattle.term_pictures.specs.declared.drawing.Drawing.{Drawing}
 use Rattle.term_pictures.specs.declared.drawing.Drawing.TheVariants.{Svg, Html, Colored, Json}
@@ -22,11 +22,11 @@ drawn Html v = html_page v
 drawn Colored v = colored_text v
 drawn Json v = json_line v
 
+abbrev pub pictured_told : Drawing → Records → Result Printed Fault
+pictured_told drawing told = shown_on told.geometry told.records >>= λ v. Ok (printed (drawn drawing v) Done)
+
 abbrev pub pictured : Drawing → List ℕ → Result Printed Fault
-pictured drawing input = do
-  told ← records_in Allowed input
-  v ← shown_on told.geometry told.records
-  Ok (printed (drawn drawing v) Done)
+pictured drawing input = records_in Allowed input >>= pictured_told drawing
 
 -- what is printed for an input, and its status
 abbrev pub printed_picture : Drawing → List ℕ → Printed

@@ -17,7 +17,7 @@ use scr_layout::{Entry, Layout};
 use std::alloc::{AllocError, Global};
 use std::io::{Read, Write};
 use term_commands::{
-    Answer, CommandError, SizeLine, Status, finish, layout_in, lent, read_layout, read_text,
+    Answer, CommandError, SizeLine, Status, finish, layout_in, lent, read_layout, read_records,
     records_in, show_all,
 };
 
@@ -97,6 +97,20 @@ fn annotated_records(
     annotated_told(alloc, form, layout, told.records.as_slice())
 }
 
+/// The same of records that are read.
+fn annotated_read_records<R: Read>(
+    alloc: Global,
+    form: Annotated,
+    layout: &Layout,
+    reader: &mut R,
+) -> Result<Answer, CommandError>
+    ensures { IfSome (R.remaining reader.old) (λ input. GivesOrFails answer_seen result
+        (annotated_records form layout.now input)) }
+{
+    let told = read_records(alloc, reader, SizeLine::Refused)?;
+    annotated_told(alloc, form, layout, told.records.as_slice())
+}
+
 /// What is printed, in a form, of the screen that a text of records leaves on the terminal of a layout, with the names of the
 /// layout's entries and with what `check` finds; or the first fault.
 ///
@@ -127,8 +141,7 @@ fn annotated_read<L: Read, R: Read>(
         reader.new ≡ reader.old)) }
 {
     let layout = read_layout(alloc, layout)?;
-    let records = read_text(alloc, reader)?;
-    annotated_records(alloc, form, &layout, records.as_slice())
+    annotated_read_records(alloc, form, &layout, reader)
 }
 
 /// Reads a layout and then records in hexadecimal, one a line, applies these to a new screen, and prints it in a form, with

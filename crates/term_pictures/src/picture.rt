@@ -2,9 +2,9 @@
 
 ghost use Rattle.std.specs.Prelude.{◌≡◌, IfOk, IfSome, string_bytes};
 ghost use Rattle.term_commands.specs.Fault.{Gives, GivesOrFails};
-ghost use Rattle.term_commands.specs.Held.{answer_seen};
+ghost use Rattle.term_commands.specs.Held.{answer_seen, records_seen};
 ghost use Rattle.term_commands.specs.Streams.{Prints};
-ghost use Rattle.term_pictures.specs.Picture.{drawn, pictured, printed_picture};
+ghost use Rattle.term_pictures.specs.Picture.{drawn, pictured_told, pictured, printed_picture};
 
 use crate::colored::push_colored;
 use crate::drawing::Drawing;
@@ -16,7 +16,7 @@ use ds_terminal::Terminal;
 use std::alloc::{AllocError, Global};
 use std::io::{Read, Write};
 use term_commands::{
-    Answer, CommandError, SizeLine, Status, finish, read_text, records_in, show_all,
+    Answer, CommandError, Records, SizeLine, Status, finish, read_records, records_in, show_all,
 };
 
 /// The text of a screen in a form.
@@ -33,6 +33,18 @@ fn drawn(alloc: Global, drawing: Drawing, screen: &Screen<PlaneCells>) -> Result
     Ok(out)
 }
 
+/// What is printed, in a form, of the screen that records leave.
+fn picture_told(alloc: Global, drawing: Drawing, told: &Records) -> Result<Answer, CommandError>
+    ensures { Gives answer_seen result (pictured_told drawing (records_seen told.now)) }
+{
+    let mut terminal = Terminal::<PlaneCells>::new(alloc, told.geometry)?;
+    show_all(&mut terminal, told.records.as_slice())?;
+    Ok(Answer {
+        text: drawn(alloc, drawing, terminal.screen())?,
+        status: Status::Done,
+    })
+}
+
 /// What is printed, in a form, of the screen that a text of records leaves, or its first fault.
 ///
 /// # Errors
@@ -42,12 +54,7 @@ pub fn picture_text(alloc: Global, drawing: Drawing, records: &[u8]) -> Result<A
     ensures { Gives answer_seen result (pictured drawing records.now) }
 {
     let told = records_in(alloc, records, SizeLine::Allowed)?;
-    let mut terminal = Terminal::<PlaneCells>::new(alloc, told.geometry)?;
-    show_all(&mut terminal, told.records.as_slice())?;
-    Ok(Answer {
-        text: drawn(alloc, drawing, terminal.screen())?,
-        status: Status::Done,
-    })
+    picture_told(alloc, drawing, &told)
 }
 
 fn picture_records<R: Read>(
@@ -58,8 +65,8 @@ fn picture_records<R: Read>(
     ensures { IfSome (R.remaining reader.old) (λ input.
         GivesOrFails answer_seen result (pictured drawing input)) }
 {
-    let records = read_text(alloc, reader)?;
-    picture_text(alloc, drawing, records.as_slice())
+    let told = read_records(alloc, reader, SizeLine::Allowed)?;
+    picture_told(alloc, drawing, &told)
 }
 
 /// Reads records in hexadecimal, one a line, applies them to a new screen, and prints the screen in a form; or the first

@@ -2,6 +2,5 @@ pub mod Alone
 pub mod Costs
 pub mod Cuts
 pub mod Lines
-pub mod Parts
 pub mod Pieces
 pub mod Runs

@@ -1,6 +1,5 @@
 -- What is printed of a trace or a captured stream: each line adds its text, and the lines follow one another.
-use Rattle.std.specs.Prelude.{ℕ, ◌+◌, ◌≡◌, nat_lt, List, [], ◌∷◌, ◌++◌, length, map, if◌then◌else◌}
-use Rattle.bstr.specs.Text.{lines_of, without_terminator}
+use Rattle.std.specs.Prelude.{ℕ, ◌+◌, ◌≡◌, nat_lt, List, [], ◌∷◌, ◌++◌, length, if◌then◌else◌}
 use Rattle.tn_wire.specs.Stream.{Told}
 use Rattle.tn_session.specs.declared.fault.RunFault.TheVariants.{Header as HeaderFails}
 use Rattle.tn_session.specs.Runs.{Log}
@@ -111,9 +110,6 @@ abbrev pub Leads : Asked → ℕ → Following → List (List ℕ) → List ℕ 
 Leads asked number following [] text last = (text ≡ []) × (last ≡ following)
 Leads asked number following (line ∷ lines) text last = (first : List ℕ) × (others : List ℕ) × (next : Following)
     × Adds asked number following line first (goes next) × (text ≡ first ++ others) × Leads asked (number + 1) next lines others last
-
-abbrev pub lines_in : List ℕ → List (List ℕ)
-lines_in input = map without_terminator (lines_of input)
 
 -- the lines of a front of the input lead to this text
 pub record IsSoFar (asked : Asked) (lines : List (List ℕ)) (text : List ℕ) : Type 0 where

@@ -6,4 +6,3 @@ pub mod Printed
 pub mod Reading
 pub mod Taking
 pub mod Text
-pub mod Input

@@ -1,13 +1,13 @@
 -- What is written of an input, and the status; also where a read or a write fails, or memory is refused.
-use Rattle.std.specs.Prelude.{◌≡◌, ◌⊎◌, ◌<◌, ℕ, length, List, [], ◌∷◌, Bool, true, false, Option, Some, Result, Ok, Err}
+use Rattle.std.specs.Prelude.{◌≡◌, ◌⊎◌, ℕ, List, Option, Result, Ok, Err}
 use Rattle.std.specs.Io.KnownBytes.{Appends}
-use Rattle.bstr.specs.Text.{without_terminator}
 use Rattle.term_commands.specs.declared.status.Status.{Status}
 use Rattle.term_commands.specs.declared.status.Status.TheVariants.{Done, Findings, BadInput, Failed, NoMemory}
 use Rattle.term_commands.specs.Streams.{AppendsFront}
 use Rattle.term_traces.specs.declared.asked.Asked.{Asked}
 use Rattle.term_traces.specs.declared.line.Next.{Next}
-use Rattle.term_traces.specs.Following.{Following, Course, Adds, most_line, lines_in, IsSoFar, IsAll, EndsEarly}
+use Rattle.term_commands.specs.Lines.{lines_in}
+use Rattle.term_traces.specs.Following.{Following, Course, Adds, IsSoFar, IsAll, EndsEarly}
 use Rattle.term_traces.specs.Held.{course_seen}
 
 -- a front of the text of some lines, or of all that count
@@ -28,17 +28,6 @@ abbrev pub PrintsRecords : Asked → List ℕ → Option (List ℕ) → Option (
 PrintsRecords asked input old new status = PrintsLines asked (lines_in input) old new status
 
 -- ---- one line, as the program takes it
-
--- the first line was read whole; or it is too long, and so is what was read of it
-abbrev pub ReadsFirst : List ℕ → List ℕ → List ℕ → Option (List ℕ) → Type 0
-ReadsFirst first rest line left =
-    ((left ≡ Some rest) × (without_terminator line ≡ first))
-    ⊎ ((most_line < length first) × (most_line < length (without_terminator line)))
-
--- a line was read from the front of these bytes, or there is none
-abbrev pub ReadsLine : List ℕ → Bool → List ℕ → Option (List ℕ) → Type 0
-ReadsLine bytes true line left = (first : List ℕ) × (rest : List ℕ) × (lines_in bytes ≡ first ∷ lines_in rest) × ReadsFirst first rest line left
-ReadsLine bytes false line left = lines_in bytes ≡ []
 
 -- the text of a line was written, or a front of it
 abbrev pub PrintsLine : Asked → ℕ → Following → List ℕ → Option (List ℕ) → Result Next Status → Following → Option (List ℕ) → Type 0

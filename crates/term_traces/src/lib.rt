@@ -4,7 +4,6 @@
 
 mod asked;
 mod follower;
-mod input;
 mod law;
 mod line;
 mod piece;

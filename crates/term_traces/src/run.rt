@@ -2,39 +2,18 @@
 
 ghost use Rattle.std.specs.Prelude.{◌≡◌, ◌==◌, ◌<◌, ◌-◌, Bool, ◌&&◌, nat_lt, slice_index, take, length, if◌then◌else◌, IfOk, IfErr, IfSome, OnOk, Ok, Err};
 ghost use Rattle.std.specs.String.{string_bytes};
-ghost use Rattle.bstr.specs.Text.{no_cr, without_terminator};
 ghost use Rattle.term_traces.specs.declared.line.Next.TheVariants.{Goes};
 ghost use Rattle.term_traces.specs.Held.{following_seen, IsReady};
 ghost use Rattle.term_traces.specs.Open.{open_text};
-ghost use Rattle.term_traces.specs.Printed.{PrintsLine, PrintsRecords, ReadsLine, Writes, WritesEnd};
+ghost use Rattle.term_traces.specs.Printed.{PrintsLine, PrintsRecords, Writes, WritesEnd};
 
 use crate::asked::Asked;
 use crate::follower::Follower;
-use crate::input::next_line;
 use crate::line::{Next, take_line};
 use crate::text::push_open;
 use std::alloc::Global;
 use std::io::{BufRead, Write};
-use term_commands::{Answer, Status, failure, finish};
-
-fn without_cr(line: &[u8]) -> &[u8]
-    ensures { result.now ≡ no_cr line.now }
-{
-    match line.split_last() {
-        Some((b'\r', front)) => front,
-        _ => line,
-    }
-}
-
-/// A line without the LF or CR LF at its end.
-fn without_end(line: &[u8]) -> &[u8]
-    ensures { result.now ≡ without_terminator line.now }
-{
-    match line.split_last() {
-        Some((b'\n', front)) => without_cr(front),
-        _ => line,
-    }
-}
+use term_commands::{Answer, Status, failure, finish, next_line, without_end};
 
 /// Writes what a line adds.
 fn write_added<W: Write>(

@@ -10,17 +10,18 @@ ghost use Rattle.term_commands.specs.declared.input.sizes.SizeLine.TheVariants.{
 ghost use Rattle.term_commands.specs.Held.{answer_seen, size_in_use, backward_seen, order_line_seen};
 ghost use Rattle.term_commands.specs.Drafts.{words as of_words};
 ghost use Rattle.term_commands.specs.Lines.{lines_in};
-ghost use Rattle.term_commands.specs.Taking.{taken};
+ghost use Rattle.term_commands.specs.Taking.{taken, taken_in};
 ghost use Rattle.term_commands.specs.Back.{size_after, line_or_flaw, back, printed_back};
-ghost use Rattle.term_commands.specs.Backward.{with_line, ended, begun, added, after_line, take_line, text_after, answer_to};
+ghost use Rattle.term_commands.specs.Backward.{nothing, with_line, ended, begun, added, after_line, take_line, text_after, answer_to};
 ghost use Rattle.term_commands.specs.Printed.{joined};
 ghost use Rattle.term_commands.specs.Streams.{Prints};
 
 use crate::commands::backward::{Backward, SizeInUse};
 use crate::fault::{CommandError, Fault};
-use crate::input::bytes::{read_text, within_limit};
+use crate::input::bytes::within_limit;
 use crate::input::drafts::{OrderLine, line_told};
 use crate::input::lines::{TakesLines, take_lines};
+use crate::input::reading::read_lines;
 use crate::input::records::MOST_RECORDS;
 use crate::input::sizes::{SizeLine, usual_geometry};
 use crate::output::answer::{Answer, finish};
@@ -227,13 +228,11 @@ fn lines_written(alloc: Global, told: Backward) -> Result<String, CommandError>
     text_of(end(alloc, told)?)
 }
 
-/// The lines of the records that order lines tell, or the first fault of the lines, or the first record that cannot be
-/// written.
-fn written(alloc: Global, lines: &[u8]) -> Result<Answer, CommandError>
-    ensures { Gives answer_seen result (answer_to lines.now) }
+/// What lines tell before the first.
+fn nothing(alloc: Global) -> Backward
+    ensures { backward_seen result ≡ nothing }
 {
-    let text = within_limit(lines)?;
-    let none = Backward {
+    Backward {
         size_line: SizeLine::Allowed,
         geometry: usual_geometry(),
         size: SizeInUse::Default,
@@ -241,9 +240,41 @@ fn written(alloc: Global, lines: &[u8]) -> Result<Answer, CommandError>
         current: None,
         text: String::new(alloc),
         flaw: None,
-    };
+    }
+}
+
+/// The lines of the records that order lines tell, or the first fault of the lines, or the first record that cannot be
+/// written.
+fn written(alloc: Global, lines: &[u8]) -> Result<Answer, CommandError>
+    ensures { Gives answer_seen result (answer_to lines.now) }
+{
+    let text = within_limit(lines)?;
     Ok(Answer {
-        text: lines_written(alloc, take_text(alloc, text, none)?)?,
+        text: lines_written(alloc, take_text(alloc, text, nothing(alloc))?)?,
+        status: Status::Done,
+    })
+}
+
+/// What the lines of an input add, or their first fault.
+fn read_added<R: Read>(
+    alloc: Global,
+    reader: &mut R,
+    none: Backward,
+) -> Result<Backward, CommandError>
+    ensures { IfSome (R.remaining reader.old) (λ input. GivesOrFails backward_seen result
+        (taken_in take_line (backward_seen none) input)) }
+{
+    read_lines(alloc, reader, none)
+}
+
+/// The lines of the records that the order lines of an input tell, as it is read.
+fn written_read<R: Read>(alloc: Global, reader: &mut R) -> Result<Answer, CommandError>
+    ensures { IfSome (R.remaining reader.old)
+        (λ input. GivesOrFails answer_seen result (answer_to input)) }
+{
+    let told = read_added(alloc, reader, nothing(alloc))?;
+    Ok(Answer {
+        text: lines_written(alloc, told)?,
         status: Status::Done,
     })
 }
@@ -263,8 +294,7 @@ fn back<R: Read>(alloc: Global, reader: &mut R) -> Result<Answer, CommandError>
     ensures { IfSome (R.remaining reader.old)
         (λ input. GivesOrFails answer_seen result (back input)) }
 {
-    let lines = read_text(alloc, reader)?;
-    convert_back_text(alloc, lines.as_slice())
+    written_read(alloc, reader)
 }
 
 /// Reads order lines and prints the bytes of each record in hexadecimal, one a line; or the first fault

@@ -14,9 +14,8 @@ ghost use Rattle.term_commands.specs.Printed.{printed};
 ghost use Rattle.term_commands.specs.Streams.{Prints};
 
 use crate::fault::CommandError;
-use crate::input::bytes::read_text;
 use crate::input::layout::{layout_in, read_layout};
-use crate::input::records::records_in;
+use crate::input::records::{read_records, records_in};
 use crate::input::sizes::SizeLine;
 use crate::output::answer::{Answer, finish};
 use crate::output::demo::{Demos, demo_terminal};
@@ -137,6 +136,20 @@ fn check_records(
     Ok(check_answer(alloc, layout, told.records.as_slice(), demos)?)
 }
 
+/// What `check` answers to a layout and to records that are read.
+fn check_read_records<R: Read>(
+    alloc: Global,
+    layout: &Layout,
+    reader: &mut R,
+    demos: Demos,
+) -> Result<Answer, CommandError>
+    ensures { IfSome (R.remaining reader.old)
+        (λ input. GivesOrFails answer_seen result (check_records demos layout.now input)) }
+{
+    let told = read_records(alloc, reader, SizeLine::Refused)?;
+    Ok(check_answer(alloc, layout, told.records.as_slice(), demos)?)
+}
+
 /// What `check` answers to the texts of a layout and of records.
 ///
 /// # Errors
@@ -166,8 +179,7 @@ fn check_read<L: Read, R: Read>(
         reader.new ≡ reader.old)) }
 {
     let layout = read_layout(alloc, layout)?;
-    let records = read_text(alloc, reader)?;
-    check_records(alloc, &layout, records.as_slice(), demos)
+    check_read_records(alloc, &layout, reader, demos)
 }
 
 /// Reads a layout and then records in hexadecimal, one a line, and prints `yes` or what stands against

@@ -6,17 +6,18 @@ ghost use Rattle.term_commands.specs.Fault.{Gives, GivesOrFails};
 ghost use Rattle.term_commands.specs.Held.{answer_seen, line_seen};
 ghost use Rattle.term_commands.specs.Convert.{lines_or_refusal, convert, printed_convert};
 ghost use Rattle.term_commands.specs.ForwardHeld.{forward_seen};
-ghost use Rattle.term_commands.specs.Forward.{with_lines, one_more, after_line, take_line, answer_to};
+ghost use Rattle.term_commands.specs.Forward.{nothing, with_lines, one_more, after_line, take_line, answer_to};
 ghost use Rattle.term_commands.specs.Lines.{lines_in};
-ghost use Rattle.term_commands.specs.Taking.{taken};
+ghost use Rattle.term_commands.specs.Taking.{taken, taken_in};
 ghost use Rattle.ds_codec.specs.Reading.{read_of};
 ghost use Rattle.term_commands.specs.Printed.{joined};
 ghost use Rattle.term_commands.specs.Streams.{Prints};
 
 use crate::commands::forward::Forward;
 use crate::fault::{CommandError, Fault};
-use crate::input::bytes::{at_most, read_text, within_limit};
+use crate::input::bytes::{at_most, within_limit};
 use crate::input::lines::{TakesLines, take_lines};
+use crate::input::reading::read_lines;
 use crate::input::records::{Line, MOST_RECORD_BYTES, MOST_RECORDS, line_told};
 use crate::input::sizes::{SizeLine, usual_geometry};
 use crate::output::answer::{Answer, finish};
@@ -116,21 +117,51 @@ fn text_of(told: Forward) -> Result<String, CommandError>
     }
 }
 
-/// The lines of the records of a text, or the first fault of its lines, or the first record that is refused.
-fn printed(alloc: Global, records: &[u8]) -> Result<Answer, CommandError>
-    ensures { Gives answer_seen result (answer_to records.now) }
+/// What lines tell before the first.
+fn nothing(alloc: Global) -> Forward
+    ensures { forward_seen result ≡ nothing }
 {
-    let text = within_limit(records)?;
-    let none = Forward {
+    Forward {
         size_line: SizeLine::Allowed,
         geometry: usual_geometry(),
         count: 0,
         text: String::new(alloc),
         flaw: None,
         digits: Vec::new(alloc),
-    };
+    }
+}
+
+/// The lines of the records of a text, or the first fault of its lines, or the first record that is refused.
+fn printed(alloc: Global, records: &[u8]) -> Result<Answer, CommandError>
+    ensures { Gives answer_seen result (answer_to records.now) }
+{
+    let text = within_limit(records)?;
     Ok(Answer {
-        text: text_of(take_text(alloc, text, none)?)?,
+        text: text_of(take_text(alloc, text, nothing(alloc))?)?,
+        status: Status::Done,
+    })
+}
+
+/// What the lines of an input add, or their first fault.
+fn read_added<R: Read>(
+    alloc: Global,
+    reader: &mut R,
+    none: Forward,
+) -> Result<Forward, CommandError>
+    ensures { IfSome (R.remaining reader.old) (λ input. GivesOrFails forward_seen result
+        (taken_in take_line (forward_seen none) input)) }
+{
+    read_lines(alloc, reader, none)
+}
+
+/// The same of an input as it is read.
+fn printed_read<R: Read>(alloc: Global, reader: &mut R) -> Result<Answer, CommandError>
+    ensures { IfSome (R.remaining reader.old)
+        (λ input. GivesOrFails answer_seen result (answer_to input)) }
+{
+    let told = read_added(alloc, reader, nothing(alloc))?;
+    Ok(Answer {
+        text: text_of(told)?,
         status: Status::Done,
     })
 }
@@ -150,8 +181,7 @@ fn convert<R: Read>(alloc: Global, reader: &mut R) -> Result<Answer, CommandErro
     ensures { IfSome (R.remaining reader.old)
         (λ input. GivesOrFails answer_seen result (convert input)) }
 {
-    let records = read_text(alloc, reader)?;
-    convert_text(alloc, records.as_slice())
+    printed_read(alloc, reader)
 }
 
 /// Reads records in hexadecimal, one a line, and prints each as lines: its command, its orders, and an

@@ -7,14 +7,13 @@ ghost use Rattle.ds_terminal.specs.Seen.{key_reply_seen};
 ghost use Rattle.ds_terminal.specs.Terminal.{pressed};
 ghost use Rattle.term_commands.specs.declared.input.sizes.SizeLine.TheVariants.{Allowed};
 ghost use Rattle.term_commands.specs.Fault.{Gives, GivesOrFails};
-ghost use Rattle.term_commands.specs.Held.{answer_seen, records_seen};
-ghost use Rattle.term_commands.specs.Press.{reply_line, turn_line, pressed_text, press_keys, press, printed_press};
+ghost use Rattle.term_commands.specs.Held.{answer_seen, records_seen, keys_seen};
+ghost use Rattle.term_commands.specs.Press.{reply_line, turn_line, pressed_text, press_told, press_keys, press, printed_press};
 ghost use Rattle.term_commands.specs.Records.{records_in};
 ghost use Rattle.term_commands.specs.Streams.{Prints};
 
 use crate::fault::CommandError;
-use crate::input::bytes::read_text;
-use crate::input::keys::keys_in;
+use crate::input::keys::{Keys, keys_in, read_keys};
 use crate::input::records::{Records, read_records, records_in};
 use crate::input::sizes::SizeLine;
 use crate::output::answer::{Answer, finish};
@@ -83,11 +82,10 @@ fn push_keys(
     Ok(())
 }
 
-/// What `press` answers to records and a text of keys.
-fn press_keys(alloc: Global, told: &Records, keys: &[u8]) -> Result<Answer, CommandError>
-    ensures { Gives answer_seen result (press_keys (records_seen told.now) keys.now) }
+/// What `press` answers to records and keys.
+fn press_told(alloc: Global, told: &Records, named: &Keys) -> Result<Answer, CommandError>
+    ensures { Gives answer_seen result (press_told (records_seen told.now) (keys_seen named.now)) }
 {
-    let named = keys_in(alloc, keys)?;
     let mut terminal = Terminal::<PlaneCells>::new(alloc, told.geometry)?;
     show_all(&mut terminal, told.records.as_slice())?;
     let mut text = String::new(alloc);
@@ -96,6 +94,27 @@ fn press_keys(alloc: Global, told: &Records, keys: &[u8]) -> Result<Answer, Comm
         text,
         status: Status::Done,
     })
+}
+
+/// What `press` answers to records and a text of keys.
+fn press_keys(alloc: Global, told: &Records, keys: &[u8]) -> Result<Answer, CommandError>
+    ensures { Gives answer_seen result (press_keys (records_seen told.now) keys.now) }
+{
+    let named = keys_in(alloc, keys)?;
+    press_told(alloc, told, &named)
+}
+
+/// What `press` answers to records and to keys that are read.
+fn press_read_keys<K: Read>(
+    alloc: Global,
+    told: &Records,
+    keys: &mut K,
+) -> Result<Answer, CommandError>
+    ensures { IfSome (K.remaining keys.old)
+        (λ lines. GivesOrFails answer_seen result (press_keys (records_seen told.now) lines)) }
+{
+    let named = read_keys(alloc, keys)?;
+    press_told(alloc, told, &named)
 }
 
 /// What `press` answers to the texts of records and of keys.
@@ -121,8 +140,7 @@ fn press_read<R: Read, K: Read>(
         IfErr (records_in Allowed input) (λ fault. keys.new ≡ keys.old)) }
 {
     let told = read_records(alloc, reader, SizeLine::Allowed)?;
-    let lines = read_text(alloc, keys)?;
-    press_keys(alloc, &told, lines.as_slice())
+    press_read_keys(alloc, &told, keys)
 }
 
 /// Reads records in hexadecimal, one a line, and keys, one a line; applies the records to a new screen,

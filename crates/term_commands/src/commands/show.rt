@@ -2,13 +2,12 @@
 
 ghost use Rattle.std.specs.Prelude.{◌≡◌, IfSome};
 ghost use Rattle.term_commands.specs.Fault.{Gives, GivesOrFails};
-ghost use Rattle.term_commands.specs.Held.{answer_seen};
-ghost use Rattle.term_commands.specs.Show.{show, printed_show};
+ghost use Rattle.term_commands.specs.Held.{answer_seen, records_seen};
+ghost use Rattle.term_commands.specs.Show.{show_told, show, printed_show};
 ghost use Rattle.term_commands.specs.Streams.{Prints};
 
 use crate::fault::CommandError;
-use crate::input::bytes::read_text;
-use crate::input::records::records_in;
+use crate::input::records::{Records, read_records, records_in};
 use crate::input::sizes::SizeLine;
 use crate::output::answer::{Answer, finish};
 use crate::output::screen::screen_text;
@@ -19,6 +18,18 @@ use ds_terminal::Terminal;
 use std::alloc::Global;
 use std::io::{Read, Write};
 
+/// What `show` answers to records.
+fn show_told(alloc: Global, told: &Records) -> Result<Answer, CommandError>
+    ensures { Gives answer_seen result (show_told (records_seen told.now)) }
+{
+    let mut terminal = Terminal::<PlaneCells>::new(alloc, told.geometry)?;
+    show_all(&mut terminal, told.records.as_slice())?;
+    Ok(Answer {
+        text: screen_text(alloc, terminal.screen())?,
+        status: Status::Done,
+    })
+}
+
 /// What `show` answers to a text of records, or its first fault.
 ///
 /// # Errors
@@ -28,20 +39,15 @@ pub fn show_text(alloc: Global, records: &[u8]) -> Result<Answer, CommandError>
     ensures { Gives answer_seen result (show records.now) }
 {
     let told = records_in(alloc, records, SizeLine::Allowed)?;
-    let mut terminal = Terminal::<PlaneCells>::new(alloc, told.geometry)?;
-    show_all(&mut terminal, told.records.as_slice())?;
-    Ok(Answer {
-        text: screen_text(alloc, terminal.screen())?,
-        status: Status::Done,
-    })
+    show_told(alloc, &told)
 }
 
 fn show<R: Read>(alloc: Global, reader: &mut R) -> Result<Answer, CommandError>
     ensures { IfSome (R.remaining reader.old)
         (λ input. GivesOrFails answer_seen result (show input)) }
 {
-    let records = read_text(alloc, reader)?;
-    show_text(alloc, records.as_slice())
+    let told = read_records(alloc, reader, SizeLine::Allowed)?;
+    show_told(alloc, &told)
 }
 
 /// Reads records in hexadecimal, one a line, applies them to a new screen, and prints the screen; or

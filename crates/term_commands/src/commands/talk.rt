@@ -9,15 +9,14 @@ ghost use Rattle.term_commands.specs.Fault.{Gives, GivesOrFails};
 ghost use Rattle.term_commands.specs.Held.{answer_seen};
 ghost use Rattle.term_commands.specs.Printed.{printed};
 ghost use Rattle.term_commands.specs.Streams.{Prints};
-ghost use Rattle.term_commands.specs.Talk.{is_geometry, modes_equal, other_from, first_other, unless_other, layouts_from, rounds, turn_lines, stop_text, printed_stop, talk_turns, talk, printed_talk, sizes_equal};
+ghost use Rattle.term_commands.specs.Talk.{is_geometry, modes_equal, other_from, first_other, unless_other, layouts_from, rounds, turn_lines, stop_text, printed_stop, talk_told, talk_turns, talk, printed_talk, sizes_equal};
 ghost use Rattle.term_commands.specs.TurnsHeld.{turns_held, lent_held, all_remaining};
 ghost use Rattle.std.specs.Prelude.{[]};
 
 use crate::commands::check::lent;
 use crate::fault::{CommandError, Fault};
-use crate::input::bytes::read_text;
 use crate::input::layouts::{layouts_in, read_layouts};
-use crate::input::turns::turns_in;
+use crate::input::turns::{read_turns, turns_in};
 use crate::output::answer::{Answer, finish};
 use crate::output::findings::push_findings;
 use crate::status::Status;
@@ -196,16 +195,42 @@ fn turns_answer(
     verdict_text(alloc, layouts, &verdict)
 }
 
+/// What `talk` answers to layouts of one geometry and to turns, unless their numbers differ.
+fn talk_told(
+    alloc: Global,
+    layouts: &[Layout],
+    turns: &[Vec<Vec<u8>>],
+) -> Result<Answer, CommandError>
+    requires { first_other layouts.now ≡ None }
+    ensures { Gives answer_seen result (talk_told layouts.now (turns_held turns.now)) }
+{
+    if turns.len() != layouts.len() {
+        return Err(CommandError::Fault(Fault::OtherCount(turns.len(), layouts.len())));
+    }
+    Ok(turns_answer(alloc, layouts, turns)?)
+}
+
 /// What `talk` answers to layouts of one geometry and a text of turns.
 fn talk_turns(alloc: Global, layouts: &[Layout], records: &[u8]) -> Result<Answer, CommandError>
     requires { first_other layouts.now ≡ None }
     ensures { Gives answer_seen result (talk_turns layouts.now records.now) }
 {
     let turns = turns_in(alloc, records)?;
-    if turns.len() != layouts.len() {
-        return Err(CommandError::Fault(Fault::OtherCount(turns.len(), layouts.len())));
-    }
-    Ok(turns_answer(alloc, layouts, turns.as_slice())?)
+    talk_told(alloc, layouts, turns.as_slice())
+}
+
+/// What `talk` answers to layouts of one geometry and to turns that are read.
+fn talk_read_turns<R: Read>(
+    alloc: Global,
+    layouts: &[Layout],
+    reader: &mut R,
+) -> Result<Answer, CommandError>
+    requires { first_other layouts.now ≡ None }
+    ensures { IfSome (R.remaining reader.old)
+        (λ input. GivesOrFails answer_seen result (talk_turns layouts.now input)) }
+{
+    let turns = read_turns(alloc, reader)?;
+    talk_told(alloc, layouts, turns.as_slice())
 }
 
 /// What `talk` answers to the texts of layouts and of turns.
@@ -235,8 +260,7 @@ fn talk_read<L: Read + Drop, R: Read>(
 {
     let layouts = read_layouts(alloc, layouts)?;
     one_geometry(layouts.as_slice())?;
-    let records = read_text(alloc, reader)?;
-    talk_turns(alloc, layouts.as_slice(), records.as_slice())
+    talk_read_turns(alloc, layouts.as_slice(), reader)
 }
 
 /// Reads the layouts of the turns of a dialogue, and then records in hexadecimal, one a line, with a line

@@ -9,7 +9,7 @@ use std::alloc::Global;
 use std::io::Read;
 
 /// The most bytes of an input.
-const MOST_BYTES: usize = 16_777_216;
+pub const MOST_BYTES: usize = 16_777_216;
 /// One more.
 const READ_LIMIT: u64 = 16_777_217;
 

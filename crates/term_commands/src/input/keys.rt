@@ -5,12 +5,13 @@ ghost use Rattle.ds_keys.specs.Lines.{key_of};
 ghost use Rattle.term_commands.specs.Fault.{Gives, GivesOrFails};
 ghost use Rattle.term_commands.specs.Keys.{key_or_bad, key_told, after_key_line, take_key, keys_in};
 ghost use Rattle.term_commands.specs.Lines.{lines_in};
-ghost use Rattle.term_commands.specs.Taking.{taken};
+ghost use Rattle.term_commands.specs.Taking.{taken, taken_in};
 ghost use Rattle.term_commands.specs.Held.{key_line_seen, keys_seen};
 
 use crate::fault::{CommandError, Fault};
-use crate::input::bytes::{at_most, read_text, within_limit};
+use crate::input::bytes::{at_most, within_limit};
 use crate::input::lines::{TakesLines, is_ignored, take_lines, text_of};
+use crate::input::reading::read_lines;
 use ds_keys::{Key, key_of_line};
 use std::alloc::Global;
 use std::io::Read;
@@ -95,11 +96,21 @@ pub fn keys_in(alloc: Global, text: &[u8]) -> Result<Keys, CommandError>
     take_keys(alloc, lines, none)
 }
 
+/// The keys that the lines of an input add, or their first fault.
+fn read_added<R: Read>(alloc: Global, reader: &mut R, none: Keys) -> Result<Keys, CommandError>
+    ensures { IfSome (R.remaining reader.old) (λ input. GivesOrFails keys_seen result
+        (taken_in take_key (keys_seen none) input)) }
+{
+    read_lines(alloc, reader, none)
+}
+
 /// The keys of an input, or the first fault of its lines.
 pub fn read_keys<R: Read>(alloc: Global, reader: &mut R) -> Result<Keys, CommandError>
     ensures { IfSome (R.remaining reader.old)
         (λ input. GivesOrFails keys_seen result (keys_in input)) }
 {
-    let text = read_text(alloc, reader)?;
-    keys_in(alloc, text.as_slice())
+    let none = Keys {
+        keys: Vec::new(alloc),
+    };
+    read_added(alloc, reader, none)
 }

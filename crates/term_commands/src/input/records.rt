@@ -4,14 +4,15 @@ ghost use Rattle.std.specs.Prelude.{◌≡◌, ◌==◌, not, IfOk, IfSome, OnOk
 ghost use Rattle.std.specs.List.{filter};
 ghost use Rattle.hex.specs.Hex.{decode_of};
 ghost use Rattle.term_commands.specs.Fault.{Gives, GivesOrFails};
-ghost use Rattle.term_commands.specs.Records.{line_told, digits_told, record_told, without_spaces, one_more, after_line, take_record, records_in};
+ghost use Rattle.term_commands.specs.Records.{line_told, digits_told, record_told, without_spaces, no_records, one_more, after_line, take_record, records_in};
 ghost use Rattle.term_commands.specs.Lines.{lines_in};
-ghost use Rattle.term_commands.specs.Taking.{taken};
+ghost use Rattle.term_commands.specs.Taking.{taken, taken_in};
 ghost use Rattle.term_commands.specs.Held.{line_seen, records_seen};
 
 use crate::fault::{CommandError, Fault};
-use crate::input::bytes::{at_most, read_text, within_limit};
+use crate::input::bytes::{at_most, within_limit};
 use crate::input::lines::{TakesLines, is_ignored, take_lines, text_of};
+use crate::input::reading::read_lines;
 use crate::input::sizes::{SizeLine, told_sizes, usual_geometry};
 use ds_codec::{Geometry, bytes_of_digits};
 use memchr::memchr;
@@ -149,6 +150,18 @@ impl TakesLines for Records {
     }
 }
 
+/// No records so far.
+fn no_records(alloc: Global, size_line: SizeLine) -> Records
+    ensures { records_seen result ≡ no_records size_line }
+{
+    Records {
+        size_line,
+        geometry: usual_geometry(),
+        records: Vec::new(alloc),
+        digits: Vec::new(alloc),
+    }
+}
+
 /// The sizes and the records that the lines of a text add, or their first fault.
 fn take_records(alloc: Global, text: &[u8], none: Records) -> Result<Records, CommandError>
     requires { length text.now ≤ 16777216 }
@@ -164,13 +177,19 @@ pub fn records_in(alloc: Global, text: &[u8], size_line: SizeLine) -> Result<Rec
     ensures { Gives records_seen result (records_in size_line text.now) }
 {
     let lines = within_limit(text)?;
-    let none = Records {
-        size_line,
-        geometry: usual_geometry(),
-        records: Vec::new(alloc),
-        digits: Vec::new(alloc),
-    };
-    take_records(alloc, lines, none)
+    take_records(alloc, lines, no_records(alloc, size_line))
+}
+
+/// The sizes and the records that the lines of an input add, or their first fault.
+fn read_added<R: Read>(
+    alloc: Global,
+    reader: &mut R,
+    none: Records,
+) -> Result<Records, CommandError>
+    ensures { IfSome (R.remaining reader.old) (λ input. GivesOrFails records_seen result
+        (taken_in take_record (records_seen none) input)) }
+{
+    read_lines(alloc, reader, none)
 }
 
 /// The sizes and the records of an input, or the first fault of its lines. Where a line of sizes is
@@ -183,6 +202,5 @@ pub fn read_records<R: Read>(
     ensures { IfSome (R.remaining reader.old) (λ input. GivesOrFails records_seen result
         (records_in size_line input)) }
 {
-    let text = read_text(alloc, reader)?;
-    records_in(alloc, text.as_slice(), size_line)
+    read_added(alloc, reader, no_records(alloc, size_line))
 }

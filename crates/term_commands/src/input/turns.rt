@@ -1,19 +1,21 @@
 //! Lines of records in hexadecimal, with a line `turn` between the turns of a dialogue.
 
-ghost use Rattle.std.specs.Prelude.{◌≡◌, Ok, ◌≤◌, length};
-ghost use Rattle.term_commands.specs.Fault.{Gives};
+ghost use Rattle.std.specs.Prelude.{◌≡◌, IfSome, Ok, ◌≤◌, length};
+ghost use Rattle.term_commands.specs.Fault.{Gives, GivesOrFails};
 ghost use Rattle.term_commands.specs.Held.{line_seen};
 ghost use Rattle.term_commands.specs.TurnsHeld.{turns_seen, records_of};
 ghost use Rattle.term_commands.specs.Lines.{lines_in};
-ghost use Rattle.term_commands.specs.Taking.{taken};
-ghost use Rattle.term_commands.specs.Turns.{one_more, after_record, next_turn, take_turn_line, turns_told, turns_in};
+ghost use Rattle.term_commands.specs.Taking.{taken, taken_in};
+ghost use Rattle.term_commands.specs.Turns.{no_turns, one_more, after_record, next_turn, take_turn_line, turns_told, turns_in};
 
 use crate::fault::{CommandError, Fault};
 use crate::input::bytes::{at_most, within_limit};
 use crate::input::lines::{TakesLines, take_lines};
+use crate::input::reading::read_lines;
 use crate::input::records::{Line, MOST_RECORD_BYTES, MOST_RECORDS, line_told};
 use crate::input::sizes::SizeLine;
 use std::alloc::Global;
+use std::io::Read;
 
 /// The records that lines tell, turn by turn.
 #[derive(Debug, Drop)]
@@ -78,6 +80,18 @@ impl TakesLines for Turns {
     }
 }
 
+/// No turn but the first, without records.
+fn no_turns(alloc: Global) -> Turns
+    ensures { turns_seen result ≡ no_turns }
+{
+    Turns {
+        ended: Vec::new(alloc),
+        current: Vec::new(alloc),
+        count: 0,
+        digits: Vec::new(alloc),
+    }
+}
+
 /// The turns that the lines of a text tell, or their first fault.
 fn take_turns(alloc: Global, text: &[u8], none: Turns) -> Result<Turns, CommandError>
     requires { length text.now ≤ 16777216 }
@@ -101,11 +115,21 @@ pub fn turns_in(alloc: Global, text: &[u8]) -> Result<Vec<Vec<Vec<u8>>>, Command
     ensures { Gives records_of result (turns_in text.now) }
 {
     let lines = within_limit(text)?;
-    let none = Turns {
-        ended: Vec::new(alloc),
-        current: Vec::new(alloc),
-        count: 0,
-        digits: Vec::new(alloc),
-    };
-    all_turns(take_turns(alloc, lines, none)?)
+    all_turns(take_turns(alloc, lines, no_turns(alloc))?)
+}
+
+/// The turns that the lines of an input tell, or their first fault.
+fn read_added<R: Read>(alloc: Global, reader: &mut R, none: Turns) -> Result<Turns, CommandError>
+    ensures { IfSome (R.remaining reader.old) (λ input. GivesOrFails turns_seen result
+        (taken_in take_turn_line (turns_seen none) input)) }
+{
+    read_lines(alloc, reader, none)
+}
+
+/// The records of each turn of an input, or the first fault of its lines.
+pub fn read_turns<R: Read>(alloc: Global, reader: &mut R) -> Result<Vec<Vec<Vec<u8>>>, CommandError>
+    ensures { IfSome (R.remaining reader.old)
+        (λ input. GivesOrFails records_of result (turns_in input)) }
+{
+    all_turns(read_added(alloc, reader, no_turns(alloc))?)
 }

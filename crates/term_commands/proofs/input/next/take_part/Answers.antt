@@ -1,7 +1,7 @@
 use Rattle.std.proofs.Common.{subst, take}
 use Rattle.std.specs.Io.BufRead.{FillKeeps}
-use Rattle.term_traces.proofs.Parts.{part_taken}
-use Rattle.term_traces.proofs.input.take_part.Goals as goal
+use Rattle.term_commands.proofs.Parts.{part_taken}
+use Rattle.term_commands.proofs.input.next.take_part.Goals as goal
 
 pub returns : goal.returns
 returns g c =

@@ -1,6 +1,6 @@
 use Rattle.std.proofs.Common.{◌≢◌, ◌<◌, All, length}
 use Rattle.std.specs.Io.KnownBytes.{Consumes}
-use Rattle.term_traces.proofs.input.next_line.Given as goal
+use Rattle.term_commands.proofs.input.next.next_line.Given as goal
 
 abbrev pub invariant-parts : goal.invariant-parts
 invariant-parts g l =

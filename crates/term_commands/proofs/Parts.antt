@@ -7,7 +7,7 @@ use Rattle.std.specs.Io.BufRead.{DropsConsumable}
 use Rattle.std.proofs.BufReadLemmas.{Consumes_shown}
 use Rattle.std.proofs.Transfers.{StopsAt-take}
 use Rattle.std.proofs.lemmas.List.Elements.{All-more}
-use Rattle.term_traces.specs.Input.{EndsPart}
+use Rattle.term_commands.specs.NextLine.{EndsPart}
 
 -- no LF stands before the last byte, nor there
 none_in : (part : List ℕ) → StopsAt part 10 → 0 < length part → (slice_index part (length part - 1) ≡ 10 → ⊥) → All (λ b. b ≢ 10) part

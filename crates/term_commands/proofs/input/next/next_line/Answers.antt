@@ -1,18 +1,18 @@
 use Rattle.std.proofs.Common.{ℕ, ◌==◌, ◌∙◌, ap, arith, subst}
-use Rattle.term_traces.specs.Input.{EndsPart}
-use Rattle.term_traces.proofs.Runs.{reads_ended, reads_more}
-use Rattle.term_traces.proofs.input.next_line.Goals as goal
+use Rattle.term_commands.specs.NextLine.{EndsPart}
+use Rattle.term_commands.proofs.NextLines.{reads_ended, reads_more}
+use Rattle.term_commands.proofs.input.next.next_line.Goals as goal
 
-pub returns-then-ends : goal.returns-then-ends
-returns-then-ends g c =
+pub returns-then-ends-clause-line : goal.returns-then-ends-clause-line
+returns-then-ends-clause-line g c =
     let took = c.in_ok-ends.ensures in
     reads_ended (g.R.Read.remaining c.args.reader.now) (g.R.Read.remaining c.parts.reader) (g.R.Read.remaining c.take_part.new.reader) c.parts.line.items took.0
     c.take_part.new.line.items c.is_empty.result took.1 c.parts.invariant.taken c.parts.invariant.none took.3
     (subst (λ b. EndsPart b took.0 (g.R.Read.remaining c.parts.reader) (g.R.Read.remaining c.take_part.new.reader)) c.if-ends.true took.4)
     (c.is_empty.ensures ∙ ap (λ (n : ℕ). n == 0) (omega arith))
 
-pub returns-then-len-ge-READ_LIMIT : goal.returns-then-len-ge-READ_LIMIT
-returns-then-len-ge-READ_LIMIT g c =
+pub returns-then-len-ge-READ_LIMIT-clause-line : goal.returns-then-len-ge-READ_LIMIT-clause-line
+returns-then-len-ge-READ_LIMIT-clause-line g c =
     let took = c.in_ok-ends.ensures in
     reads_more (g.R.Read.remaining c.args.reader.now) (g.R.Read.remaining c.parts.reader) (g.R.Read.remaining c.take_part.new.reader) c.parts.line.items took.0
     c.take_part.new.line.items took.1 c.parts.invariant.taken c.parts.invariant.none took.3

@@ -1,10 +1,10 @@
-//! Lines of an input, read one by one.
+//! The next line of a reader.
 
 ghost use Rattle.std.specs.Prelude.{◌≡◌, ◌≢◌, ◌↔◌, ◌++◌, ◌<◌, ◌≤◌, ◌-◌, ◌+◌, List, ℕ, All, IsTrue, length, take, slice_index, true, false, min, IfOk, IfSome};
 ghost use Rattle.std.specs.IoError.{error_kind};
 ghost use Rattle.std.specs.Io.KnownBytes.{Consumes};
-ghost use Rattle.term_traces.specs.Printed.{ReadsLine};
-ghost use Rattle.term_traces.specs.Input.{EndsPart};
+ghost use Rattle.bstr.specs.Text.{no_cr, without_terminator};
+ghost use Rattle.term_commands.specs.NextLine.{ReadsLine, EndsPart};
 
 use memchr::memchr;
 use std::io;
@@ -87,10 +87,11 @@ fn take_part<R: BufRead>(reader: &mut R, most: usize, line: &mut Vec<u8>) -> io:
 }
 
 /// Reads the next line with its end, and tells whether there is one. Of a line that is too long so much is read
-/// as shows that.
-pub(crate) fn next_line<R: BufRead>(reader: &mut R, line: &mut Vec<u8>) -> io::Result<bool>
-    ensures { IfSome (R.remaining reader.old) (λ bytes. IfOk result (λ more.
+/// as shows that: 16,777,219 bytes.
+pub fn next_line<R: BufRead>(reader: &mut R, line: &mut Vec<u8>) -> io::Result<bool>
+    ensures line { IfSome (R.remaining reader.old) (λ bytes. IfOk result (λ more.
         ReadsLine bytes more line.new.items (R.remaining reader.new))) }
+    ensures some { IfOk result (λ more. more ≡ true → 0 < length line.new.items) }
 {
     line.clear();
     'parts: for _turn in 0..MOST_TURNS {
@@ -103,4 +104,23 @@ pub(crate) fn next_line<R: BufRead>(reader: &mut R, line: &mut Vec<u8>) -> io::R
         }
     }
     Err(io::Error::from(ErrorKind::TimedOut))
+}
+
+fn without_cr(line: &[u8]) -> &[u8]
+    ensures { result.now ≡ no_cr line.now }
+{
+    match line.split_last() {
+        Some((b'\r', front)) => front,
+        _ => line,
+    }
+}
+
+/// A line without the LF or CR LF at its end.
+pub fn without_end(line: &[u8]) -> &[u8]
+    ensures { result.now ≡ without_terminator line.now }
+{
+    match line.split_last() {
+        Some((b'\n', front)) => without_cr(front),
+        _ => line,
+    }
 }
