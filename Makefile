@@ -11,7 +11,7 @@
 #             below PREFIX; with DESTDIR=FOLDER below that folder, for a package
 RT := $(shell command -v rt 2>/dev/null)
 BUILT := crates/term3270/out/term3270
-WIRE := crates/wire_bench/out/wire_bench
+WIRE := crates/parts_tests/out/parts_tests
 SOURCES := $(shell find crates -path '*/out' -prune -o -name '*.rt' -print -o -name '*.antt' -print)
 PREFIX ?= /usr/local
 LIBRARY := out/libtakvorn.so
@@ -61,7 +61,7 @@ install: bin/term3270 $(LIBRARY)
 $(WIRE):
 	$(need_toolchain)
 	@echo "building the wire's benchmark: its proofs take some minutes" >&2
-	@cd crates/wire_bench && rt run > /dev/null 2>&1
+	@cd crates/parts_tests && rt run > /dev/null 2>&1
 
 clean:
 	rm -rf bin out crates/*/out

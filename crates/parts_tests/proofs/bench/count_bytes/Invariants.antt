@@ -1,5 +1,5 @@
 use Rattle.std.proofs.Common.{length}
-use Rattle.wire_tests.proofs.streams.push_told.Given as goal
+use Rattle.parts_tests.proofs.bench.count_bytes.Given as goal
 
 abbrev pub decreases-events : goal.decreases-events
 decreases-events l = length l.rest

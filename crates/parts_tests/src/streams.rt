@@ -1,6 +1,6 @@
 //! Streams in, their events out; records framed.
 
-use crate::codes::push_wire_fault;
+use crate::wire_codes::push_wire_fault;
 use crate::script::bytes_of;
 use anyhow::Result;
 use std::alloc::{AllocError, Global};

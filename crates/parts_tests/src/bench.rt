@@ -1,13 +1,10 @@
 //! How fast a deframer takes records, beside a plain copy of the same bytes.
 //!
-//! With no argument it takes about a megabyte once and prints how many bytes the records had. With a number N it takes
-//! that N times, and prints the time of N plain copies and of N times through the deframer.
-#![tactic(auto)]
+//! It takes about a megabyte N times, and prints the time of N plain copies and of N times through the deframer.
 
 use anyhow::Result;
 use std::alloc::{AllocError, Global};
-use std::env;
-use std::rt::{Clock, Env};
+use std::rt::Clock;
 use std::time::Instant;
 use tn_wire::{Deframer, Event, Step, WireFault, frame};
 
@@ -59,25 +56,21 @@ fn deframer_time(rt: &(impl Clock + AllocGlobal), stream: &[u8], times: u32) -> 
     Ok(start.elapsed(rt)?.as_micros())
 }
 
-fn run(rt: &(impl Clock + Env + Print + AllocGlobal)) -> Result<()> {
-    let stream = make_stream(rt.alloc())?;
-    let len = stream.len();
-    match env::args(rt)?.nth(1) {
-        None => {
-            let mut deframer = Deframer::new(rt.alloc())?;
-            let bytes = count_bytes(&mut deframer, &stream)?;
-            println!(rt; "{bytes} bytes in records")?;
-        }
-        Some(text) => {
-            let times = text.parse::<u32>()?;
-            let copy = copy_time(rt, &stream, times)?;
-            let deframer = deframer_time(rt, &stream, times)?;
-            println!(rt; "{times} times {len} bytes: copy {copy} us, deframer {deframer} us")?;
-        }
-    }
+/// Adds how many bytes the records of about a megabyte have.
+pub(crate) fn push_megabyte(alloc: Global, out: &mut String) -> Result<()> {
+    let stream = make_stream(alloc)?;
+    let mut deframer = Deframer::new(alloc)?;
+    let bytes = count_bytes(&mut deframer, &stream)?;
+    write!(out, " {bytes} bytes in records")?;
     Ok(())
 }
 
-fn main(rt: HostRuntime) -> Result<()> {
-    run(&rt)
+/// Prints the time of so many copies and of so many times through a deframer.
+pub(crate) fn measure(rt: &(impl Clock + Print + AllocGlobal), times: u32) -> Result<()> {
+    let stream = make_stream(rt.alloc())?;
+    let len = stream.len();
+    let copy = copy_time(rt, &stream, times)?;
+    let deframer = deframer_time(rt, &stream, times)?;
+    println!(rt; "{times} times {len} bytes: copy {copy} us, deframer {deframer} us")?;
+    Ok(())
 }
