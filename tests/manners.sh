@@ -60,10 +60,11 @@ compare 'a read that fails' 'term3270: standard input: Is a directory (os error 
 compare 'help that is not written' 'term3270: No space left on device (os error 28) 3' \
   "$("$program" --help 2>&1 > /dev/full; echo " $?")"
 # The golden logs of SARIF have what services ask for, and the version that the program prints. Findings come from where
-# a reading of their records by another program says.
+# a reading of their records by another program says. The golden cases of a form have in common what each of the form has.
 if command -v python3 > /dev/null; then
   compare 'the logs of SARIF' '0 failed' "$(PYTHONDONTWRITEBYTECODE=1 python3 "$root/tests/sarif.py" "$program" | tail -n 1 | sed 's/.*, //')"
   compare 'where findings come from' '300 passed, 0 failed' "$(PYTHONDONTWRITEBYTECODE=1 python3 "$root/tests/origins.py" "$program" | tail -n 1)"
+  compare 'what the golden cases have in common' '0 failed' "$(PYTHONDONTWRITEBYTECODE=1 python3 "$root/tests/forms.py" "$program" | tail -n 1 | sed 's/.*, //')"
 fi
 echo "$passed passed, $failed failed"
 [ "$failed" -eq 0 ]

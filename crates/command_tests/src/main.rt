@@ -5,9 +5,10 @@
 //!
 //! `file TEXT` gives the layout or the keys of the lines below, or of `talk` the layouts, with `|` between two of them, and
 //! `many N TEXT` the same text so often as a file. `attach HEX` is a terminal that presses the file's keys on a host that
-//! sends these bytes, and `unflushed HEX` one whose line fails at each flush. Every
-//! other line is a verb, a command and its input, where `^` stands for the file. In texts `\n`, `\r` and `\xFF` are bytes; a
-//! line that is printed 32 times or more one after the other is printed once, as `[F2*32]`.
+//! sends these bytes, and `unflushed HEX` one whose line fails at each flush. `same FORM RECORDS` prints in a form, with the
+//! file as the layout, from streams and of texts, `next TEXT` reads lines, and `all-findings`, `traced` and `lines` call what
+//! `check` reports with. Every other line is a verb, a command and its input, where `^` stands for the file. In texts `\n`, `\r`
+//! and `\xFF` are bytes; a line that is printed 32 times or more one after the other is printed once, as `[F2*32]`.
 #![tactic(auto)]
 
 mod attach;
@@ -15,12 +16,18 @@ mod commands;
 mod devices;
 mod failures;
 mod files;
+mod findings;
+mod forms;
 mod fronts;
+mod lines;
 mod memory;
 mod notation;
+mod reports;
 
 use crate::attach::Flush;
 use crate::commands::Command;
+use crate::findings::{push_all, push_lines, push_traced};
+use crate::forms::{form_of, push_same};
 use crate::notation::{bytes_of, repeated};
 use anyhow::{Context, Result};
 use std::alloc::{AllocError, Global};
@@ -89,15 +96,35 @@ fn push_words(alloc: Global, out: &mut String, file: &[u8], verb: &str, words: &
     push_command(alloc, out, verb, command, input.as_slice(), file)
 }
 
+/// Adds whether a form prints the same from streams and of texts.
+fn push_form(alloc: Global, out: &mut String, file: &[u8], words: &str) -> Result<()> {
+    let (form, text) = words.split_once(' ').unwrap_or((words, ""));
+    let form = form_of(form).context("a form")?;
+    let records = bytes_of(alloc, text)?;
+    push_same(alloc, out, form, file, records.as_slice())
+}
+
+/// Adds what a row answers that runs a command.
+fn push_ran(alloc: Global, out: &mut String, file: &[u8], verb: &str, words: &str) -> Result<()> {
+    match verb {
+        "attach" => attach::push_attached(alloc, out, words, file, Flush::Done),
+        "unflushed" => attach::push_attached(alloc, out, words, file, Flush::Failed),
+        "same" => push_form(alloc, out, file, words),
+        "next" => lines::push_read(alloc, out, words),
+        _ => push_words(alloc, out, file, verb, words),
+    }
+}
+
 /// Adds what a row answers.
 fn push_answer(alloc: Global, out: &mut String, file: &[u8], line: &str) -> Result<()> {
     let (verb, words) = line.split_once(' ').unwrap_or((line, ""));
     match verb {
         "laws" => Ok(push_laws(out)?),
         "failures" => Ok(commands::push_failures(out)?),
-        "attach" => attach::push_attached(alloc, out, words, file, Flush::Done),
-        "unflushed" => attach::push_attached(alloc, out, words, file, Flush::Failed),
-        _ => push_words(alloc, out, file, verb, words),
+        "all-findings" => push_all(alloc, out),
+        "traced" => push_traced(alloc, out),
+        "lines" => push_lines(out),
+        _ => push_ran(alloc, out, file, verb, words),
     }
 }
 
