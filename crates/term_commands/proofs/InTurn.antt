@@ -1,74 +1,61 @@
 -- Lines taken in turn as they are read.
-use Rattle.std.proofs.Common.{◌≡◌, ℕ, ◌+◌, ◌-◌, ◌<◌, ◌≤◌, Bool, true, false, cond, nat_lt, nat_le, ◌==◌, ◌&&◌, List, length, take, Ok, Err, refl, sym, ap, subst, inl, inr, arith, length-take-le}
-use Rattle.std.specs.Prelude.{Option, Some, None, IfSome, Result, slice_index}
-use Rattle.std.proofs.lemmas.Bool.{cond_both, le-leb, lt-leb, leb-true, leb-false}
-use Rattle.bstr.specs.Text.{no_cr, without_terminator}
+use Rattle.std.proofs.Common.{◌≡◌, ◌⊎◌, ℕ, ◌+◌, ◌-◌, ◌<◌, ◌≤◌, Bool, true, false, cond, nat_lt, nat_le, List, [], ◌∷◌, ◌++◌, length, length-append, map, Ok, Err, refl, sym, ◌∙◌, ap, subst, inl, inr, arith}
+use Rattle.std.specs.Prelude.{Option, Some, None, IfSome, Result}
+use Rattle.std.proofs.lemmas.Bool.{le-leb, lt-leb, leb-true, leb-false}
+use Rattle.bstr.specs.Text.{without_terminator}
+use Rattle.bstr.proofs.lemmas.LineLemmas.{lines-nil}
 use Rattle.term_commands.specs.declared.fault.Fault.{Fault}
 use Rattle.term_commands.specs.declared.fault.Fault.TheVariants.{TooLong}
 use Rattle.term_commands.specs.declared.fault.CommandError.{CommandError}
 use Rattle.term_commands.specs.declared.fault.CommandError.TheVariants.{Fault as Told, ReadFailed, OutOfMemory}
 use Rattle.term_commands.specs.Fault.{Gives, GivesOrFails}
 use Rattle.term_commands.specs.Lines.{lines_in, within_limit}
-use Rattle.term_commands.specs.NextLine.{ReadsFirst, ReadsLine}
-use Rattle.term_commands.specs.Taking.{taken_in, TakesAll, TakesInput, CountedSoFar, TakenSoFar, EndsAs}
+use Rattle.term_commands.specs.NextLine.{ReadsLines}
+use Rattle.term_commands.specs.Taking.{taken_in, TakesAll, TakesNumbered, TakesInput, CountedSoFar, TakenSoFar, EndsAs}
 use Rattle.term_commands.proofs.Taking.{gives_taken}
 
--- ---- a line that is not too long
-
-no_cr_short : (xs : List ℕ) → length (no_cr xs) ≤ length xs
-no_cr_short xs =
-    cond_both (nat_lt 0 (length xs) && slice_index xs (length xs - 1) == 13) (take (length xs - 1) xs) xs (λ (ys : List ℕ). length ys ≤ length xs)
-    (λ is. omega (arith, length-take-le (length xs - 1) xs (omega arith))) (λ other. omega arith)
-
-without_short : (xs : List ℕ) → length (without_terminator xs) ≤ length xs
-without_short xs =
-    cond_both (nat_lt 0 (length xs) && slice_index xs (length xs - 1) == 10) (no_cr (take (length xs - 1) xs)) xs (λ (ys : List ℕ). length ys ≤ length xs)
-    (λ is. omega (arith, length-take-le (length xs - 1) xs (omega arith), no_cr_short (take (length xs - 1) xs)))
-    (λ other. omega arith)
-
-not_long : (line : List ℕ) → length line ≤ 16777216 → 16777216 < length (without_terminator line) → ⊥
-not_long line short long = omega (arith, without_short line)
-
-read_whole : (first rest line : List ℕ) (left : Option (List ℕ)) → length line ≤ 16777216 → ReadsFirst first rest line left → (left ≡ Some rest) × (without_terminator line ≡ first)
-read_whole first rest line left short (inl whole) = whole
-read_whole first rest line left short (inr long) = absurd (not_long line short long.1)
-
 -- what is read of what is left
-read_of : (now : Option (List ℕ)) (rest line : List ℕ) (more : Bool) (new : Option (List ℕ)) → now ≡ Some rest → IfSome now (λ bytes. ReadsLine bytes more line new)
-    → ReadsLine rest more line new
-read_of now rest line more new is reads = subst (λ z. IfSome z (λ bytes. ReadsLine bytes more line new)) is reads
+read_of : (now : Option (List ℕ)) (rest lines : List ℕ) (more : Bool) (new : Option (List ℕ)) → now ≡ Some rest → IfSome now (λ bytes. ReadsLines bytes more lines new)
+    → ReadsLines rest more lines new
+read_of now rest lines more new is reads = subst (λ z. IfSome z (λ bytes. ReadsLines bytes more lines new)) is reads
+
+-- lines that are not too long break where they end
+apart : (bytes lines rest : List ℕ) → length lines ≤ 16777216 → (lines_in bytes ≡ lines_in lines ++ lines_in rest) ⊎ (16777216 < length lines) → lines_in bytes ≡ lines_in lines ++ lines_in rest
+apart bytes lines rest short (inl so) = so
+apart bytes lines rest short (inr long) = absurd (omega arith)
+
+both_lengths : (bytes lines rest : List ℕ) → bytes ≡ lines ++ rest → length bytes ≡ length lines + length rest
+both_lengths bytes lines rest is = ap length is ∙ length-append lines rest
 
 -- ---- counting
 
-module _ (whole now new : Option (List ℕ)) (left most : ℕ) (line : List ℕ) where
-  pub counts_more : CountedSoFar whole now left most → IfSome now (λ bytes. ReadsLine bytes true line new) → length line ≤ left → left ≤ 16777216
-      → CountedSoFar whole new (left - length line) most
-  counts_more so reads fits few =
-      elim whole as (λ w. CountedSoFar w now left most → CountedSoFar w new (left - length line) most) [
+module _ (whole now new : Option (List ℕ)) (left most : ℕ) (lines : List ℕ) where
+  pub counts_more : CountedSoFar whole now left most → IfSome now (λ bytes. ReadsLines bytes true lines new) → length lines ≤ left
+      → CountedSoFar whole new (left - length lines) most
+  counts_more so reads fits =
+      elim whole as (λ w. CountedSoFar w now left most → CountedSoFar w new (left - length lines) most) [
         | None ↦ λ so. tt
         | Some input ↦ λ so.
-            let read = read_of now so.0 line true new so.1 reads in
-            let got = read_whole read.0 read.1 line new (omega arith) read.3 in
-            (read.1, got.0, omega (arith, so.2, read.6 (omega arith)))
+            let read = read_of now so.0 lines true new so.1 reads in
+            (read.0, read.1, omega (arith, so.2, both_lengths so.0 lines read.0 read.2))
       ] so
 
-  pub counts_over : CountedSoFar whole now left most → IfSome now (λ bytes. ReadsLine bytes true line new) → left < length line
+  pub counts_over : CountedSoFar whole now left most → IfSome now (λ bytes. ReadsLines bytes true lines new) → left < length lines
       → IfSome whole (λ input. false ≡ nat_le (length input) most)
   counts_over so reads over =
       elim whole as (λ w. CountedSoFar w now left most → IfSome w (λ input. false ≡ nat_le (length input) most)) [
         | None ↦ λ so. tt
         | Some input ↦ λ so.
-            let read = read_of now so.0 line true new so.1 reads in
-            sym (lt-leb (length input) most (omega (arith, so.2, read.5)))
+            let read = read_of now so.0 lines true new so.1 reads in
+            sym (lt-leb (length input) most (omega (arith, so.2, both_lengths so.0 lines read.0 read.2)))
       ] so
 
-  pub counts_all : CountedSoFar whole now left most → IfSome now (λ bytes. ReadsLine bytes false line new) → IfSome whole (λ input. true ≡ nat_le (length input) most)
+  pub counts_all : CountedSoFar whole now left most → IfSome now (λ bytes. ReadsLines bytes false lines new) → IfSome whole (λ input. true ≡ nat_le (length input) most)
   counts_all so reads =
       elim whole as (λ w. CountedSoFar w now left most → IfSome w (λ input. true ≡ nat_le (length input) most)) [
         | None ↦ λ so. tt
         | Some input ↦ λ so.
-            let read = read_of now so.0 line false new so.1 reads in
-            let none : length so.0 ≡ 0 = ap length read.1 in
+            let none : length so.0 ≡ 0 = ap length (read_of now so.0 lines false new so.1 reads) in
             sym (le-leb (length input) most (omega (arith, so.2, none)))
       ] so
 
@@ -83,73 +70,93 @@ module _ {T : Type 0} (takes : ℕ → T → List ℕ → Result T CommandError 
   takes_none None = tt
   takes_none (Some input) = (input, refl, omega arith, λ result is. is)
 
-  module _ (whole now new : Option (List ℕ)) (number : ℕ) (told : T) (left : ℕ) (line : List ℕ) where
-    pub takes_more : (next : T) → TakenSoFar takes none whole now number told left → IfSome now (λ bytes. ReadsLine bytes true line new) → length line ≤ left → left ≤ 16777216
-        → takes number told (without_terminator line) (Ok next) → TakenSoFar takes none whole new (number + 1) next (left - length line)
-    takes_more next so reads fits few goes =
-        elim whole as (λ w. TakenSoFar takes none w now number told left → TakenSoFar takes none w new (number + 1) next (left - length line)) [
+  same_ok : (result : Result T CommandError) (one other : T) → result ≡ Ok one → result ≡ Ok other → one ≡ other
+  same_ok result one other is so = cc
+
+  not_both : (result : Result T CommandError) (told : T) (error : CommandError) → result ≡ Ok told → result ≡ Err error → ⊥
+  not_both result told error is so = cc
+
+  -- lines, and those behind them
+  takes_both : (number : ℕ) (told next : T) (xs ys : List (List ℕ)) (result : Result T CommandError) → TakesAll takes number told xs (Ok next)
+      → TakesAll takes (number + length xs) next ys result → TakesAll takes number told (xs ++ ys) result
+  takes_both number told next [] ys result first then =
+      subst (λ n. TakesAll takes n told ys result) (omega arith) (subst (λ t. TakesAll takes (number + 0) t ys result) (same_ok (Ok next) next told refl first) then)
+  takes_both number told next (x ∷ xs) ys result (inl (error, fails, is)) then = absurd (not_both (Ok next) next error refl is)
+  takes_both number told next (x ∷ xs) ys result (inr (mid, goes, rest)) then =
+      inr (mid, goes, takes_both (number + 1) mid next xs ys result rest (subst (λ n. TakesAll takes n next ys result) (omega arith) then))
+
+  takes_first : (number : ℕ) (told : T) (xs ys : List (List ℕ)) (error : CommandError) → TakesAll takes number told xs (Err error) → TakesAll takes number told (xs ++ ys) (Err error)
+  takes_first number told [] ys error is = absurd (not_both (Err error) told error is refl)
+  takes_first number told (x ∷ xs) ys error (inl fails) = inl fails
+  takes_first number told (x ∷ xs) ys error (inr (mid, goes, rest)) = inr (mid, goes, takes_first (number + 1) mid xs ys error rest)
+
+  module _ (whole now new : Option (List ℕ)) (number : ℕ) (told : T) (left : ℕ) (lines : List ℕ) where
+    pub takes_more : (next : T) (after : ℕ) → TakenSoFar takes none whole now number told left → IfSome now (λ bytes. ReadsLines bytes true lines new) → length lines ≤ left
+        → left ≤ 16777216 → TakesNumbered takes number told (lines_in lines) (Ok (next, after)) → TakenSoFar takes none whole new after next (left - length lines)
+    takes_more next after so reads fits few goes =
+        elim whole as (λ w. TakenSoFar takes none w now number told left → TakenSoFar takes none w new after next (left - length lines)) [
           | None ↦ λ so. tt
           | Some input ↦ λ so.
-              let read = read_of now so.0 line true new so.1 reads in
-              let got = read_whole read.0 read.1 line new (omega arith) read.3 in
-              let went : takes number told read.0 (Ok next) = subst (λ z. takes number told z (Ok next)) got.1 goes in (
+              let read = read_of now so.0 lines true new so.1 reads in
+              let breaks = apart so.0 lines read.0 (omega arith) read.4 in (
+                read.0,
                 read.1,
-                got.0,
-                omega (arith, so.2, read.6 (omega arith)),
-                λ result rest. so.3 result (subst (λ z. TakesAll takes number told z result) (sym read.2) (inr (next, went, rest))),
+                omega (arith, so.2, both_lengths so.0 lines read.0 read.2),
+                λ result rest.
+                  so.3 result (subst (λ z. TakesAll takes number told z result) (sym breaks)
+                  (takes_both number told next (lines_in lines) (lines_in read.0) result goes.0 (subst (λ n. TakesAll takes n next (lines_in read.0) result) goes.1 rest))),
               )
         ] so
 
-    pub takes_too_long : TakenSoFar takes none whole now number told left → IfSome now (λ bytes. ReadsLine bytes true line new) → left < length line
+    pub takes_too_long : TakenSoFar takes none whole now number told left → IfSome now (λ bytes. ReadsLines bytes true lines new) → left < length lines
         → IfSome whole (λ input. TakesInput takes none input (Err (Told TooLong)))
     takes_too_long so reads over =
         elim whole as (λ w. TakenSoFar takes none w now number told left → IfSome w (λ input. TakesInput takes none input (Err (Told TooLong)))) [
           | None ↦ λ so. tt
           | Some input ↦ λ so.
-              let read = read_of now so.0 line true new so.1 reads in
-              inl (omega (arith, so.2, read.5), refl)
+              let read = read_of now so.0 lines true new so.1 reads in
+              inl (omega (arith, so.2, both_lengths so.0 lines read.0 read.2), refl)
         ] so
 
-    pub takes_all : TakenSoFar takes none whole now number told left → IfSome now (λ bytes. ReadsLine bytes false line new) → IfSome whole (λ input. TakesInput takes none input (Ok told))
+    pub takes_all : TakenSoFar takes none whole now number told left → IfSome now (λ bytes. ReadsLines bytes false lines new) → IfSome whole (λ input. TakesInput takes none input (Ok told))
     takes_all so reads =
         elim whole as (λ w. TakenSoFar takes none w now number told left → IfSome w (λ input. TakesInput takes none input (Ok told))) [
           | None ↦ λ so. tt
           | Some input ↦ λ so.
-              let read = read_of now so.0 line false new so.1 reads in
-              let no_rest : length so.0 ≡ 0 = ap length read.1 in (
+              let over = read_of now so.0 lines false new so.1 reads in
+              let no_rest : length so.0 ≡ 0 = ap length over in (
                 omega (arith, so.2, no_rest),
-                so.3 (Ok told) (subst (λ z. TakesAll takes number told z (Ok told)) (sym read.0) refl),
+                so.3 (Ok told) (subst (λ z. TakesAll takes number told z (Ok told)) (sym (ap lines_in over ∙ ap (map without_terminator) lines-nil)) refl),
               )
         ] so
 
-    ends_so : (input rest : List ℕ) (error result : CommandError) → length input + left ≡ 16777216 + (length line + length rest) → length line ≤ left
-        → TakesAll takes 1 none (lines_in input) (Err error) → EndsAs (nat_le (length rest) (left - length line)) error result → TakesInput takes none input (Err result)
+    ends_so : (input rest : List ℕ) (error result : CommandError) → length input + left ≡ 16777216 + (length lines + length rest) → length lines ≤ left
+        → TakesAll takes 1 none (lines_in input) (Err error) → EndsAs (nat_le (length rest) (left - length lines)) error result → TakesInput takes none input (Err result)
     ends_so input rest (Told fault) ReadFailed counts fits all (inl no_fault) = tt
     ends_so input rest (Told fault) OutOfMemory counts fits all (inl no_fault) = tt
     ends_so input rest (Told fault) (Told other) counts fits all (inl no_fault) = absurd no_fault
     ends_so input rest (Told fault) result counts fits all (inr is) =
-        elim (nat_le (length rest) (left - length line)) as (λ b. nat_le (length rest) (left - length line) ≡ b → result ≡ Told (cond b fault TooLong) → TakesInput takes none input (Err result)) [
-          | true ↦ λ short same. subst (λ z. TakesInput takes none input (Err z)) (sym same) (inr (omega (arith, counts, leb-true (length rest) (left - length line) short), all))
-          | false ↦ λ long same. subst (λ z. TakesInput takes none input (Err z)) (sym same) (inl (omega (arith, counts, leb-false (length rest) (left - length line) long), refl))
+        elim (nat_le (length rest) (left - length lines)) as (λ b. nat_le (length rest) (left - length lines) ≡ b → result ≡ Told (cond b fault TooLong) → TakesInput takes none input (Err result)) [
+          | true ↦ λ short same. subst (λ z. TakesInput takes none input (Err z)) (sym same) (inr (omega (arith, counts, leb-true (length rest) (left - length lines) short), all))
+          | false ↦ λ long same. subst (λ z. TakesInput takes none input (Err z)) (sym same) (inl (omega (arith, counts, leb-false (length rest) (left - length lines) long), refl))
         ] refl is
     ends_so input rest ReadFailed result counts fits all is = rw is tt
     ends_so input rest OutOfMemory result counts fits all is = rw is tt
 
-    pub takes_fault : (error result : CommandError) → TakenSoFar takes none whole now number told left → IfSome now (λ bytes. ReadsLine bytes true line new) → length line ≤ left
-        → left ≤ 16777216 → takes number told (without_terminator line) (Err error) → IfSome new (λ rest. EndsAs (nat_le (length rest) (left - length line)) error result)
+    pub takes_fault : (error result : CommandError) → TakenSoFar takes none whole now number told left → IfSome now (λ bytes. ReadsLines bytes true lines new) → length lines ≤ left
+        → left ≤ 16777216 → TakesAll takes number told (lines_in lines) (Err error) → IfSome new (λ rest. EndsAs (nat_le (length rest) (left - length lines)) error result)
         → IfSome whole (λ input. TakesInput takes none input (Err result))
     takes_fault error result so reads fits few fails ends =
         elim whole as (λ w. TakenSoFar takes none w now number told left → IfSome w (λ input. TakesInput takes none input (Err result))) [
           | None ↦ λ so. tt
           | Some input ↦ λ so.
-              let read = read_of now so.0 line true new so.1 reads in
-              let got = read_whole read.0 read.1 line new (omega arith) read.3 in
-              let went : takes number told read.0 (Err error) = subst (λ z. takes number told z (Err error)) got.1 fails in
+              let read = read_of now so.0 lines true new so.1 reads in
+              let breaks = apart so.0 lines read.0 (omega arith) read.4 in
               let all : TakesAll takes 1 none (lines_in input) (Err error) =
-              so.3 (Err error) (subst (λ z. TakesAll takes number told z (Err error)) (sym read.2) (inl (error, went, refl))) in
-              let counts : length input + left ≡ 16777216 + (length line + length read.1) = omega (arith, so.2, read.6 (omega arith)) in
-              ends_so input read.1 error result counts fits all
-              (subst (λ z. IfSome z (λ rest. EndsAs (nat_le (length rest) (left - length line)) error result)) got.0 ends)
+              so.3 (Err error) (subst (λ z. TakesAll takes number told z (Err error)) (sym breaks) (takes_first number told (lines_in lines) (lines_in read.0) error fails)) in
+              let counts : length input + left ≡ 16777216 + (length lines + length read.0) = omega (arith, so.2, both_lengths so.0 lines read.0 read.2) in
+              ends_so input read.0 error result counts fits all
+              (subst (λ z. IfSome z (λ rest. EndsAs (nat_le (length rest) (left - length lines)) error result)) read.1 ends)
         ] so
 
 -- ---- what is given of an input

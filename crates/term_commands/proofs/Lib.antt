@@ -2,6 +2,7 @@ pub mod Rows
 pub mod Prefixes
 pub mod Parts
 pub mod NextLines
+mod ShownLines
 pub mod Taking
 pub mod InTurn
 pub mod Joined

@@ -26,6 +26,11 @@ TakesAll takes number told (line ∷ lines) result =
     ((error : CommandError) × takes number told line (Err error) × (result ≡ Err error))
     ⊎ ((next : _) × takes number told line (Ok next) × TakesAll takes (number + 1) next lines result)
 
+-- the same, with the number of the line after them
+abbrev pub TakesNumbered : {T : Type 0} → (ℕ → T → List ℕ → Result T CommandError → Type 0) → ℕ → T → List (List ℕ) → Result (T × ℕ) CommandError → Type 0
+TakesNumbered takes number told lines (Ok (next, after)) = TakesAll takes number told lines (Ok next) × (after ≡ number + length lines)
+TakesNumbered takes number told lines (Err error) = TakesAll takes number told lines (Err error)
+
 -- The same of an input whose lines are taken as they are read: one of more than 16,777,216 bytes is too long, whatever its lines
 -- tell; a read may fail.
 abbrev pub TakesInput : {T : Type 0} → (ℕ → T → List ℕ → Result T CommandError → Type 0) → T → List ℕ → Result T CommandError → Type 0

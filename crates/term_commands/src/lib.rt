@@ -1,5 +1,5 @@
-//! The commands of the program `term3270`, each from texts to its answer, and over readers and a writer: inputs are read
-//! whole and taken line by line (`input`), a command makes an answer of them (`commands`), and it is written (`output`).
+//! The commands of the program `term3270`, each from texts to its answer, and over readers and a writer: lines are taken as
+//! they are read (`input`), a command makes an answer of them (`commands`), and it is written (`output`).
 #![tactic(auto)]
 
 mod commands;

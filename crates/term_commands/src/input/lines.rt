@@ -1,9 +1,9 @@
 //! Lines, numbered from 1 and taken in turn.
 
-ghost use Rattle.std.specs.Prelude.{◌≡◌, ◌≤◌, ℕ, List, MatchOption, Result, length, true, false};
+ghost use Rattle.std.specs.Prelude.{◌≡◌, ◌≤◌, ◌+◌, ℕ, List, IfOk, MatchOption, Result, length, true, false};
 ghost use Rattle.std.specs.Str.{is_utf8};
 ghost use Rattle.term_commands.specs.Lines.{lines_in, is_ignored};
-ghost use Rattle.term_commands.specs.Taking.{TakesAll};
+ghost use Rattle.term_commands.specs.Taking.{TakesAll, TakesNumbered};
 ghost use Rattle.term_commands.specs.declared.fault.CommandError.{CommandError};
 
 use crate::fault::CommandError;
@@ -22,17 +22,33 @@ pub trait TakesLines: Drop {
         ensures { takes number self line.now result };
 }
 
+/// Takes the lines of a text in turn, of which the first has this number, up to the first fault; and tells the number of the
+/// next line after them.
+pub fn take_numbered<T: TakesLines>(
+    alloc: Global,
+    text: &[u8],
+    first: usize,
+    none: T,
+) -> Result<(T, usize), CommandError>
+    requires { first + length text.now ≤ 16777217 }
+    ensures takes { TakesNumbered T.takes first none (lines_in text.now) result }
+    ensures few { IfOk result (λ taken. taken.1 ≤ first + length text.now) }
+{
+    let mut told = none;
+    let mut number = first;
+    for line in text.lines() {
+        told = told.take(alloc, number, line)?;
+        number += 1;
+    }
+    Ok((told, number))
+}
+
 /// Takes the lines of a text in turn, up to the first fault.
 pub fn take_lines<T: TakesLines>(alloc: Global, text: &[u8], none: T) -> Result<T, CommandError>
     requires { length text.now ≤ 16777216 }
     ensures { TakesAll T.takes 1 none (lines_in text.now) result }
 {
-    let mut told = none;
-    let mut number = 1;
-    for line in text.lines() {
-        told = told.take(alloc, number, line)?;
-        number += 1;
-    }
+    let (told, _next) = take_numbered(alloc, text, 1, none)?;
     Ok(told)
 }
 

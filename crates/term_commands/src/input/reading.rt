@@ -6,8 +6,8 @@ ghost use Rattle.term_commands.specs.Taking.{TakesInput, EndsAs};
 
 use crate::fault::{CommandError, Fault};
 use crate::input::bytes::MOST_BYTES;
-use crate::input::lines::TakesLines;
-use crate::input::next::{next_line, without_end};
+use crate::input::lines::{TakesLines, take_numbered};
+use crate::input::next::next_lines;
 use std::alloc::Global;
 use std::io::{BufRead, BufReader, Read};
 
@@ -17,7 +17,7 @@ const PIECE: usize = 65_536;
 /// Whether a reader has at most so many bytes left, which are read.
 fn has_at_most<R: BufRead>(
     reader: &mut R,
-    line: &mut Vec<u8>,
+    lines: &mut Vec<u8>,
     most: usize,
 ) -> Result<bool, CommandError>
     requires { most ≤ 16777216 }
@@ -26,11 +26,11 @@ fn has_at_most<R: BufRead>(
     ensures failed { IfErr result IsNoFault }
 {
     let mut left = most;
-    'lines: while next_line(reader, line)? {
-        if left < line.len() {
+    'lines: while next_lines(reader, lines)? {
+        if left < lines.len() {
             return Ok(false);
         }
-        left -= line.len();
+        left -= lines.len();
     }
     Ok(true)
 }
@@ -38,7 +38,7 @@ fn has_at_most<R: BufRead>(
 /// The fault of a line, or of the whole input where it is too long: so many bytes may come yet.
 fn fault_before_the_end<R: BufRead>(
     reader: &mut R,
-    line: &mut Vec<u8>,
+    lines: &mut Vec<u8>,
     left: usize,
     error: CommandError,
 ) -> CommandError
@@ -47,7 +47,7 @@ fn fault_before_the_end<R: BufRead>(
         result) }
 {
     match error {
-        CommandError::Fault(fault) => match has_at_most(reader, line, left) {
+        CommandError::Fault(fault) => match has_at_most(reader, lines, left) {
             Ok(true) => CommandError::Fault(fault),
             Ok(false) => CommandError::Fault(Fault::TooLong),
             Err(failed) => failed,
@@ -64,20 +64,21 @@ fn take_left<R: BufRead, T: TakesLines>(
 ) -> Result<T, CommandError>
     ensures { IfSome (R.remaining reader.old) (λ input. TakesInput T.takes none input result) }
 {
-    let mut line = Vec::new(alloc);
+    let mut lines = Vec::new(alloc);
     let mut told = none;
     let mut left = MOST_BYTES;
     let mut number = 1;
-    'lines: while next_line(reader, &mut line)? {
-        if left < line.len() {
+    'lines: while next_lines(reader, &mut lines)? {
+        if left < lines.len() {
             return Err(CommandError::Fault(Fault::TooLong));
         }
-        left -= line.len();
-        told = match told.take(alloc, number, without_end(&line)) {
-            Ok(next) => next,
-            Err(error) => return Err(fault_before_the_end(reader, &mut line, left, error)),
+        left -= lines.len();
+        let (next, after) = match take_numbered(alloc, &lines, number, told) {
+            Ok(taken) => taken,
+            Err(error) => return Err(fault_before_the_end(reader, &mut lines, left, error)),
         };
-        number += 1;
+        told = next;
+        number = after;
     }
     Ok(told)
 }
