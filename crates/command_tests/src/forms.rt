@@ -29,13 +29,7 @@ pub(crate) fn form_of(name: &str) -> Option<Form> {
 }
 
 /// What is written from streams, and the status.
-fn written(
-    alloc: Global,
-    form: Form,
-    layout: &[u8],
-    records: &[u8],
-    text: &mut Vec<u8>,
-) -> Status {
+fn written(alloc: Global, form: Form, layout: &[u8], records: &[u8], text: &mut Vec<u8>) -> Status {
     let (mut layout, mut records) = (layout, records);
     match form {
         Form::Annotated(form) => run_annotated(alloc, form, &mut layout, &mut records, text),

@@ -59,11 +59,13 @@ fn push_answer(
     verb: &str,
     words: &str,
 ) -> Result<bool> {
-    Ok(codec::push_answer(alloc, mode, out, verb, words)?
-        || codes::push_answer(alloc, out, verb, words)?
-        || words::push_answer(out, verb)?
-        || streams::push_answer(alloc, out, verb, words)?
-        || wire_codes::push_answer(alloc, out, verb, words)?)
+    Ok(
+        codec::push_answer(alloc, mode, out, verb, words)?
+            || codes::push_answer(alloc, out, verb, words)?
+            || words::push_answer(out, verb)?
+            || streams::push_answer(alloc, out, verb, words)?
+            || wire_codes::push_answer(alloc, out, verb, words)?,
+    )
 }
 
 /// Adds the answer of a row.

@@ -103,8 +103,8 @@ module _ {T : Type 0} (takes : ℕ → T → List ℕ → Result T CommandError 
                 read.1,
                 omega (arith, so.2, both_lengths so.0 lines read.0 read.2),
                 λ result rest.
-                  so.3 result (subst (λ z. TakesAll takes number told z result) (sym breaks)
-                  (takes_both number told next (lines_in lines) (lines_in read.0) result goes.0 (subst (λ n. TakesAll takes n next (lines_in read.0) result) goes.1 rest))),
+                    so.3 result (subst (λ z. TakesAll takes number told z result) (sym breaks)
+                    (takes_both number told next (lines_in lines) (lines_in read.0) result goes.0 (subst (λ n. TakesAll takes n next (lines_in read.0) result) goes.1 rest))),
               )
         ] so
 

@@ -22,7 +22,7 @@ lines-preserved g c =
     }
 
 pub returns-in-Err : goal.returns-in-Err
-returns-in-Err g c = 
+returns-in-Err g c =
     let fits : length c.next_lines.new.lines.items ≤ c.lines.left = omega (arith, c.if-left-len.false, c.len.ensures) in
     let few : c.lines.left ≤ 16777216 = omega (arith, c.lines.invariant.few, c.lines.invariant.from) in
     let size : c.len-left.result ≡ length c.next_lines.new.lines.items = omega (arith, c.len-left.ensures) in

@@ -1,0 +1,233 @@
+//! Each command on the standard streams, and on the files that it was given.
+
+use crate::asked::{ReportForm, When};
+use crate::file::FileAt;
+use crate::sessions::{run_attach, run_serve};
+use crate::stream::Named;
+use crate::tcp::Place;
+use clap::ArgMatches;
+use std::alloc::AllocError;
+use std::env;
+use std::env::VarError;
+use std::io::{BufReader, IsTerminal, Read, Stdin, Stdout};
+use term_binds::{Form, run_bind};
+use term_commands::{
+    Demos, Status, run_check, run_convert, run_convert_back, run_press, run_show, run_talk,
+};
+use term_drafts::run_draft;
+use term_findings::{Paths, Report, run_report};
+use term_pictures::{Annotated, Drawing, run_annotated, run_picture};
+use term_traces::{Asked, Source, run_records};
+use tn_traces::Side;
+
+/// A stream, and what people call it.
+fn named<'a, S>(rt: &'a HostRuntime, name: &'a str, stream: S) -> Named<'a, S> {
+    Named { rt, name, stream }
+}
+
+fn input(rt: &HostRuntime) -> Named<'_, Stdin> {
+    named(rt, "standard input", rt.stdin())
+}
+
+fn output(rt: &HostRuntime) -> Named<'_, Stdout> {
+    named(rt, "standard output", rt.stdout())
+}
+
+/// The file of a path, not yet opened.
+fn file_at<'a>(rt: &'a HostRuntime, path: &'a str) -> Named<'a, FileAt<'a>> {
+    let stream = FileAt {
+        rt,
+        path,
+        file: None,
+    };
+    named(rt, path, stream)
+}
+
+/// `show` as text, with looks where they are asked for.
+pub(crate) fn show(rt: &HostRuntime, color: When) -> Status {
+    if is_colored(rt, color) {
+        return draw(rt, Drawing::Colored);
+    }
+    run_show(rt.alloc(), &mut input(rt), &mut output(rt))
+}
+
+/// `show` in another form.
+pub(crate) fn draw(rt: &HostRuntime, drawing: Drawing) -> Status {
+    run_picture(rt.alloc(), drawing, &mut input(rt), &mut output(rt))
+}
+
+/// `show` with the names of a layout.
+pub(crate) fn annotate(rt: &HostRuntime, layout: &str, form: Annotated) -> Status {
+    let mut layout = file_at(rt, layout);
+    run_annotated(
+        rt.alloc(),
+        form,
+        &mut layout,
+        &mut input(rt),
+        &mut output(rt),
+    )
+}
+
+/// `check`, of the records of a file or of standard input.
+pub(crate) fn check(rt: &HostRuntime, layout: &str, records: Option<&str>, demos: Demos) -> Status {
+    match records {
+        Some(path) => check_over(rt, layout, &mut file_at(rt, path), demos),
+        None => check_over(rt, layout, &mut input(rt), demos),
+    }
+}
+
+/// `check` for tools, of the records of a file or of standard input.
+pub(crate) fn report(
+    rt: &HostRuntime,
+    layout: &str,
+    records: Option<&str>,
+    form: ReportForm,
+) -> Status {
+    match records {
+        Some(path) => report_over(rt, layout, path, &mut file_at(rt, path), form),
+        None => report_over(rt, layout, "stdin", &mut input(rt), form),
+    }
+}
+
+/// `press`, with the keys of a file.
+pub(crate) fn press(rt: &HostRuntime, keys: &str) -> Status {
+    let mut keys = file_at(rt, keys);
+    run_press(rt.alloc(), &mut input(rt), &mut keys, &mut output(rt))
+}
+
+/// `convert`.
+pub(crate) fn convert(rt: &HostRuntime) -> Status {
+    run_convert(rt.alloc(), &mut input(rt), &mut output(rt))
+}
+
+/// `convert --back`.
+pub(crate) fn convert_back(rt: &HostRuntime) -> Status {
+    run_convert_back(rt.alloc(), &mut input(rt), &mut output(rt))
+}
+
+/// `draft`.
+pub(crate) fn draft(rt: &HostRuntime) -> Status {
+    run_draft(rt.alloc(), &mut input(rt), &mut output(rt))
+}
+
+/// `bind`, with the layout of a file.
+pub(crate) fn bind(rt: &HostRuntime, layout: &str, form: Form) -> Status {
+    let mut layout = file_at(rt, layout);
+    run_bind(
+        rt.alloc(),
+        &mut layout,
+        &mut input(rt),
+        &mut output(rt),
+        form,
+    )
+}
+
+/// `records`.
+pub(crate) fn records(rt: &HostRuntime, source: Source, side: Side) -> Status {
+    match BufReader::new(rt.alloc(), input(rt)) {
+        Ok(mut lines) => {
+            let asked = Asked { source, side };
+            run_records(rt.alloc(), asked, &mut lines, &mut output(rt))
+        }
+        Err(_) => Status::NoMemory,
+    }
+}
+
+/// `serve`, with the layout of a file.
+pub(crate) fn serve(rt: &HostRuntime, layout: &str, place: Place<'_>, count: u16) -> Status {
+    let mut layout = file_at(rt, layout);
+    run_serve(
+        rt,
+        &mut layout,
+        &mut input(rt),
+        place,
+        count,
+        &mut output(rt),
+    )
+}
+
+/// `attach`, with the keys of a file.
+pub(crate) fn attach(rt: &HostRuntime, place: Place<'_>, keys: &str, device: &str) -> Status {
+    let mut keys = file_at(rt, keys);
+    run_attach(rt, place, &mut keys, device, &mut output(rt))
+}
+
+/// Runs `check` on a layout's file and these records.
+fn check_over<R: Read>(rt: &HostRuntime, layout: &str, records: &mut R, demos: Demos) -> Status {
+    let mut layout = file_at(rt, layout);
+    run_check(rt.alloc(), &mut layout, records, &mut output(rt), demos)
+}
+
+/// Runs `check` for tools on a layout's file and the records of this path.
+fn report_over<R: Read>(
+    rt: &HostRuntime,
+    layout: &str,
+    path: &str,
+    records: &mut R,
+    form: ReportForm,
+) -> Status {
+    let report = match form {
+        ReportForm::Json => Report::Json,
+        ReportForm::Sarif => Report::Sarif(Paths {
+            layout,
+            records: path,
+        }),
+    };
+    let mut layout = file_at(rt, layout);
+    run_report(rt.alloc(), report, &mut layout, records, &mut output(rt))
+}
+
+/// Says on standard error that a form doesn't draw a layout.
+pub(crate) fn refuse_undrawn(rt: &HostRuntime) -> Status {
+    let _ = eprintln!(rt; "error: '--layout <FILE>' needs '--format svg' or '--format html'");
+    Status::BadInput
+}
+
+/// Whether the looks of cells are printed.
+fn is_colored(rt: &HostRuntime, color: When) -> bool {
+    match color {
+        When::Auto => rt.stdout().is_terminal() && !refuses_color(rt),
+        When::Always => true,
+        When::Never => false,
+    }
+}
+
+/// Whether the environment says `NO_COLOR`, which counts where it isn't empty.
+fn refuses_color(rt: &HostRuntime) -> bool {
+    match env::var(rt, "NO_COLOR") {
+        Ok(text) => !text.is_empty(),
+        Err(VarError::NotPresent) => false,
+        Err(_) => true,
+    }
+}
+
+/// `talk`, on the files that its words name.
+pub(crate) fn talk(rt: &HostRuntime, matches: &ArgMatches<'_>) -> Status {
+    match matches.subcommand() {
+        Some((_, words)) => match words.get_strs("LAYOUT") {
+            Some(paths) => talk_over(rt, paths),
+            None => Status::BadInput,
+        },
+        None => Status::BadInput,
+    }
+}
+
+/// Runs `talk` on these files and the standard streams.
+fn talk_over(rt: &HostRuntime, paths: &[&str]) -> Status {
+    match files_at(rt, paths) {
+        Ok(layouts) => run_talk(rt.alloc(), layouts, &mut input(rt), &mut output(rt)),
+        Err(_) => Status::NoMemory,
+    }
+}
+
+/// The files of several paths, none yet opened.
+fn files_at<'a>(
+    rt: &'a HostRuntime,
+    paths: &'a [&'a str],
+) -> Result<Vec<Named<'a, FileAt<'a>>>, AllocError> {
+    let mut files = Vec::new(rt.alloc());
+    for path in paths {
+        files.push(file_at(rt, path))?;
+    }
+    Ok(files)
+}
