@@ -1,7 +1,7 @@
 //! Streams in, their events out; records framed.
 
-use crate::wire_codes::push_wire_fault;
 use crate::script::bytes_of;
+use crate::wire_codes::push_wire_fault;
 use anyhow::Result;
 use std::alloc::{AllocError, Global};
 use test_words::{push_bytes, push_hex, push_length, push_word_hex, push_word_number};
