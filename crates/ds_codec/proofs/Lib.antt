@@ -2,6 +2,7 @@ pub mod Below
 pub mod Codes
 pub mod Steps
 pub mod TextRuns
+pub mod Loads
 pub mod Addresses
 pub mod Fronts
 pub mod Again
@@ -12,3 +13,4 @@ pub mod Laid
 pub mod Written
 pub mod Aids
 pub mod DigitPairs
+pub mod DigitValues

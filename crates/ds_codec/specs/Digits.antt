@@ -1,5 +1,6 @@
 -- Bytes as text.
-use Rattle.std.specs.Prelude.{ℕ, ◌+◌, ◌*◌, List, Option, Some, None, Result, Ok, Err}
+use Rattle.std.specs.Prelude.{◌≡◌, ◌<◌, ℕ, ◌+◌, ◌*◌, List, length, slice_index, Option, Some, None, Result, Ok, Err}
+use Rattle.hex.specs.Hex.{hex_digit_value}
 use Rattle.hex.specs.declared.error.FromHexError.{FromHexError}
 
 -- the byte of the values of two hexadecimal digits, where both are digits
@@ -12,7 +13,22 @@ abbrev pub bytes_from : Result (List ℕ) FromHexError → Option (List ℕ)
 bytes_from (Ok bytes) = Some bytes
 bytes_from (Err e) = None
 
--- a digit's value, and 16 for what is none
-abbrev pub value_or_16 : Option ℕ → ℕ
-value_or_16 (Some value) = value
-value_or_16 None = 16
+-- the first n values are those of the digits
+abbrev pub AreValues : List ℕ → List ℕ → ℕ → Type 0
+AreValues digits values n = (k : ℕ) → k < n → hex_digit_value (slice_index digits k) ≡ Some (slice_index values k)
+
+-- the first n bytes are each of two values, the high one first
+abbrev pub AreJoined : List ℕ → List ℕ → ℕ → Type 0
+AreJoined values bytes n =
+    (k : ℕ) → k < n → slice_index bytes k ≡ 16 * slice_index values (2 * k) + slice_index values (2 * k + 1)
+
+-- the first n bytes are each of two digits
+abbrev pub AreSpelled : List ℕ → List ℕ → ℕ → Type 0
+AreSpelled digits bytes n =
+    (k : ℕ) → k < n
+    → byte_from (hex_digit_value (slice_index digits (2 * k))) (hex_digit_value (slice_index digits (2 * k + 1)))
+    ≡ Some (slice_index bytes k)
+
+-- one of them is no digit
+abbrev pub HasOther : List ℕ → Type 0
+HasOther digits = (k : ℕ) × (k < length digits) × (hex_digit_value (slice_index digits k) ≡ None)

@@ -1,23 +1,27 @@
 //! Bytes as text.
 
-ghost use Rattle.std.specs.Prelude.{◌≡◌, ◌≤◌, ◌*◌, true, false, length, IfOk, None, Ok};
+ghost use Rattle.std.specs.Prelude.{◌≡◌, ◌<◌, ◌≤◌, ◌*◌, ℕ, true, false, length, slice_index, IfOk, None, Some, Ok};
 ghost use Rattle.std.specs.Option.{option_map};
 ghost use Rattle.hex.specs.Hex.{hex_digit_value, decode_of, decode_pairs};
-ghost use Rattle.ds_codec.specs.Digits.{byte_from, bytes_from, value_or_16};
+ghost use Rattle.ds_codec.specs.Digits.{byte_from, bytes_from, AreValues, AreJoined, AreSpelled, HasOther};
 
 use std::alloc::{AllocError, Global};
 
-/// The value of a hexadecimal digit, of either case, and 16 for a byte that is none.
+/// How many bytes are worked out together.
+const PART: usize = 32;
+
+/// The value of a hexadecimal digit, of either case, and more than 15 for a byte that is none. It has no branch, so
+/// that many can be worked out together.
+#[inline(always)]
 fn value_of(digit: u8) -> u8
-    ensures value { result ≡ value_or_16 (hex_digit_value digit) }
+    ensures some { result < 16 → hex_digit_value digit ≡ Some result }
     ensures none { 16 ≤ result → hex_digit_value digit ≡ None }
 {
-    match digit {
-        b'A'..=b'F' => digit - 55,
-        b'a'..=b'f' => digit - 87,
-        b'0'..=b'9' => digit - 48,
-        _ => 16,
-    }
+    let number = digit.wrapping_sub(0x30);
+    let letter = (digit | 0x20).wrapping_sub(0x61);
+    let by_number = if number < 10 { number } else { 255 };
+    let by_letter = if letter < 6 { letter + 10 } else { 255 };
+    by_number.min(by_letter)
 }
 
 /// The byte of two hexadecimal digits, of either case; `None` where one of them is no digit.
@@ -33,22 +37,77 @@ pub fn byte_of_digits(high: u8, low: u8) -> Option<u8>
     }
 }
 
-/// Stores the bytes that digits spell, and tells whether all of them are digits. All are looked at in any case, so that
-/// many can be looked at together.
+/// Stores the value of each digit, and tells the largest. Inlined, so that at an array its number of turns is known.
+#[inline(always)]
+fn store_values(values: &mut [u8], digits: &[u8]) -> u8
+    requires { length values.old ≡ length digits.now }
+    ensures whole { length values.new ≡ length values.old }
+    ensures largest { (k : ℕ) → k < length digits.now → slice_index values.new k ≤ result }
+    ensures values { result < 16 → AreValues digits.now values.new (length digits.now) }
+    ensures others { 16 ≤ result → HasOther digits.now }
+{
+    let mut worst: u8 = 0;
+    'values: for i in 0..digits.len() {
+        let value = value_of(digits[i]);
+        values[i] = value;
+        worst = worst.max(value);
+    }
+    worst
+}
+
+/// Stores the byte of each two values. Inlined, so that at an array its number of turns is known.
+#[inline(always)]
+fn store_joined(bytes: &mut [u8], values: &[u8])
+    requires two { length values.now ≡ 2 * length bytes.old }
+    requires small { (k : ℕ) → k < length values.now → slice_index values.now k < 16 }
+    ensures whole { length bytes.new ≡ length bytes.old }
+    ensures joined { AreJoined values.now bytes.new (length bytes.new) }
+{
+    'bytes: for i in 0..bytes.len() {
+        bytes[i] = 16 * values[2 * i] + values[2 * i + 1];
+    }
+}
+
+/// Stores the bytes that the digits of one part spell, and tells whether all of them are digits.
+#[inline(always)]
+fn store_part(bytes: &mut [u8], digits: &[u8]) -> bool
+    requires two { length digits.now ≡ 2 * length bytes.old }
+    requires few { length bytes.old ≤ 32 }
+    ensures whole { length bytes.new ≡ length bytes.old }
+    ensures digits { (result ≡ true) → AreSpelled digits.now bytes.new (length bytes.new) }
+    ensures others { (result ≡ false) → HasOther digits.now }
+{
+    let mut padded = [b'0'; 2 * PART];
+    padded[..digits.len()].copy_from_slice(digits);
+    let mut values = [0u8; 2 * PART];
+    if 16 <= store_values(&mut values, &padded) {
+        return false;
+    }
+    let mut joined = [0u8; PART];
+    store_joined(&mut joined, &values);
+    bytes.copy_from_slice(&joined[..bytes.len()]);
+    true
+}
+
+/// Stores the bytes that digits spell, part by part, and tells whether all of them are digits.
 fn store_bytes(bytes: &mut [u8], digits: &[u8]) -> bool
     requires { length digits.now ≡ 2 * length bytes.old }
     ensures digits { (result ≡ true) → decode_pairs 0 digits.now ≡ Ok bytes.new }
     ensures others { (result ≡ false) → bytes_from (decode_pairs 0 digits.now) ≡ None }
     ensures whole { length bytes.new ≡ length bytes.old }
 {
-    let mut worst: u8 = 0;
-    'bytes: for i in 0..bytes.len() {
-        let high = value_of(digits[2 * i]);
-        let low = value_of(digits[2 * i + 1]);
-        worst = worst.max(high).max(low);
-        bytes[i] = high % 16 * 16 + low % 16;
+    let parts = bytes.len() / PART;
+    'parts: for part in 0..parts {
+        let at = PART * part;
+        if !store_part(
+            &mut bytes[at..at + PART],
+            &digits[2 * at..2 * at + 2 * PART],
+        ) {
+            return false;
+        }
     }
-    worst < 16
+    let at = PART * parts;
+    store_part(&mut bytes[at..], &digits[2 * at..])
 }
 
 /// The bytes of hexadecimal digits, of either case, two for each; `None` where the number of digits is odd or one of

@@ -1,6 +1,6 @@
 //! The order at the front of a record's bytes.
 
-ghost use Rattle.std.specs.Prelude.{◌≡◌, ◌<◌, ◌≤◌, ◌*◌, List, ℕ, get_or, length, take, true, IfOk, Option, Some};
+ghost use Rattle.std.specs.Prelude.{◌≡◌, ◌+◌, ◌<◌, ◌≤◌, ◌*◌, List, ℕ, get_or, length, take, true, IfOk, Option, Some};
 ghost use Rattle.std.specs.List.{prefix_len};
 ghost use Rattle.ds_codec.specs.Character.{is_text, is_glyph, glyph};
 ghost use Rattle.ds_codec.specs.Address.{address_at};
@@ -13,6 +13,7 @@ use crate::character::{Char, is_graphic_code, is_text_byte};
 use crate::order::{Order, OrderCode};
 use crate::refused::Why;
 use crate::size::Mode;
+use std::simd::prelude::*;
 
 /// The types of pairs that SFE and MF take.
 const FIELD_TYPES: [u8; 8] = [0xC0, 0xC1, 0xC2, 0x41, 0x42, 0x43, 0x45, 0x46];
@@ -65,31 +66,39 @@ pub fn last_attr(pairs: &[u8]) -> Option<Attr>
     last
 }
 
-/// How many bytes are looked at in one step.
-const STEP: usize = 8;
+/// How many bytes are looked at together.
+const LANES: usize = 32;
 
-/// Whether all bytes are 40 or above, told at once for all of them.
+/// How many of the next 32 bytes come before the first that is below 40.
 #[inline(always)]
-fn are_graphic(bytes: &[u8]) -> bool
-    ensures { (result ≡ true) → (k : ℕ) → k < length bytes.now
-        → is_text (get_or bytes.now k 0) ≡ true }
+fn graphic_run(bytes: &[u8], at: usize) -> usize
+    requires { at + LANES ≤ length bytes.now }
+    ensures few { result ≤ LANES }
+    ensures text { (k : ℕ) → at ≤ k → k < at + result → is_text (get_or bytes.now k 0) ≡ true }
 {
-    let mut least = 0xFF;
-    for byte in bytes {
-        least = least.min(*byte);
+    let below = u8x32::from_slice(&bytes[at..])
+        .simd_lt(u8x32::splat(0x40))
+        .to_bitmask();
+    if below == 0 {
+        LANES
+    } else {
+        below.trailing_zeros() as usize
     }
-    0x40 <= least
 }
 
-/// How many bytes at the front are 40 or above, in whole steps.
+/// How many bytes at the front are 40 or above, as far as whole lanes show.
 #[inline(always)]
-fn graphic_steps(bytes: &[u8]) -> usize
+fn graphic_length(bytes: &[u8]) -> usize
     ensures within { result ≤ length bytes.now }
     ensures text { (k : ℕ) → k < result → is_text (get_or bytes.now k 0) ≡ true }
 {
     let mut passed = 0;
-    'steps: while STEP <= bytes.len() - passed && are_graphic(&bytes[passed..passed + STEP]) {
-        passed += STEP;
+    'loads: while LANES <= bytes.len() - passed {
+        let run = graphic_run(bytes, passed);
+        passed += run;
+        if run < LANES {
+            return passed;
+        }
     }
     passed
 }
@@ -99,7 +108,7 @@ fn graphic_steps(bytes: &[u8]) -> usize
 pub fn text_length(bytes: &[u8]) -> usize
     ensures { result ≡ prefix_len is_text bytes.now }
 {
-    let passed = graphic_steps(bytes);
+    let passed = graphic_length(bytes);
     for (i, byte) in bytes[passed..].iter().enumerate() {
         if !is_text_byte(*byte) {
             return passed + i;

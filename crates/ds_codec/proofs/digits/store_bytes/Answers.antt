@@ -1,33 +1,29 @@
-use Rattle.std.proofs.Common.{◌⊎◌, ◌<◌, ◌≤◌, ℕ, max, inl, inr, ◌∙◌, arith}
-use Rattle.std.proofs.lemmas.Bool.{ltb-false, ltb-true}
-use Rattle.std.proofs.lemmas.List.{length-set}
-use Rattle.hex.proofs.Pairs.{decode_done}
-use Rattle.ds_codec.proofs.DigitPairs.{one_more, refused_here}
+use Rattle.std.proofs.Common.{◌+◌, ◌-◌, ◌*◌, ◌/◌, length, refl, arith}
+use Rattle.ds_codec.proofs.DigitPairs.{one_part, last_part, other_in, refuses}
 use Rattle.ds_codec.proofs.digits.store_bytes.Goals as goal
 
--- which of three is so large
-one_of : (worst high low : ℕ) → 16 ≤ max (max worst high) low → (16 ≤ worst) ⊎ ((worst < 16) × ((16 ≤ high) ⊎ (16 ≤ low)))
-one_of worst high low large = grind arith
+pub parts-init : goal.parts-init
+parts-init c k below = absurd (omega (arith, below))
 
-pub bytes-preserved : goal.bytes-preserved
-bytes-preserved c = (
-  length-set _ c.bytes.i _ ∙ c.bytes.invariant.0,
-  λ small. one_more c.args.digits.now c.bytes.bytes c.bytes.i c.value_of-high.result c.value_of-low.result
-      (omega arith) (omega arith) c.value_of-high.ensures.value c.value_of-low.ensures.value
-      (grind (arith, small, c.max-worst.ensures, c.max.ensures)) (grind (arith, small, c.max-worst.ensures, c.max.ensures))
-      (c.bytes.invariant.1 (grind (arith, small, c.max-worst.ensures, c.max.ensures))),
-  λ large. elim (one_of c.bytes.worst c.value_of-high.result c.value_of-low.result (grind (arith, large, c.max-worst.ensures, c.max.ensures))) [
-    | inl before ↦ c.bytes.invariant.2 before
-    | inr here ↦ refused_here c.args.digits.now c.bytes.bytes c.bytes.i (omega arith) (elim here.1 [
-      | inl high ↦ inl (c.value_of-high.ensures.none high)
-      | inr low ↦ inr (c.value_of-low.ensures.none low)
-    ]) (c.bytes.invariant.1 here.0)
-  ],
-)
+pub returns-then-not-store_part-clause-others : goal.returns-then-not-store_part-clause-others
+returns-then-not-store_part-clause-others c _ =
+    refuses 0 c.args.digits.now (other_in c.args.digits.now _ (2 * (32 * c.parts.part)) (c.store_part.ensures.others c.if-not-store_part.true))
+
+pub parts-preserved : goal.parts-preserved
+parts-preserved c =
+    let at = 32 * c.parts.part in
+    let long = c.store_part.ensures.whole in
+    one_part c.args.digits.now c.parts.bytes c.store_part.new.bytes at (at + 32 - at) (2 * at + 64 - 2 * at) (32 * (c.parts.part + 1))
+    (omega arith) (grind (arith, long)) (grind (arith, long)) c.parts.invariant (c.store_part.ensures.digits c.if-not-store_part.false)
 
 pub returns-clause-digits : goal.returns-clause-digits
-returns-clause-digits c small =
-    decode_done c.args.digits.now c.bytes.bytes c.bytes.i (omega arith) (omega arith) (c.bytes.invariant.1 (ltb-true _ _ small))
+returns-clause-digits c told =
+    let at = 32 * (length c.args.bytes.now / 32) in
+    let long = c.store_part-2.ensures.whole in
+    last_part c.args.digits.now c.parts.bytes c.store_part-2.new.bytes at (length c.parts.bytes - at) (length c.args.digits.now - 2 * at)
+    (omega arith) (grind (arith, long)) refl (omega arith) (grind (arith, long))
+    (λ k below. c.parts.invariant k (omega (arith, below))) (c.store_part-2.ensures.digits told)
 
 pub returns-clause-others : goal.returns-clause-others
-returns-clause-others c large = c.bytes.invariant.2 (ltb-false _ _ large)
+returns-clause-others c told =
+    refuses 0 c.args.digits.now (other_in c.args.digits.now _ (2 * (32 * (length c.args.bytes.now / 32))) (c.store_part-2.ensures.others told))

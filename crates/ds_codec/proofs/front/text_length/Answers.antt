@@ -12,8 +12,8 @@ stands bytes passed i inside =
 
 pub returns-then-not-is_text_byte : goal.returns-then-not-is_text_byte
 returns-then-not-is_text_byte c =
-    sym (prefix_len_is is_text c.args.bytes.now (c.graphic_steps-passed.result + c.loop-i.i) 0 (grind (arith, c.loop-i-test.true)) c.loop-i.invariant
-    (λ inside. ap is_text (sym (stands c.args.bytes.now c.graphic_steps-passed.result c.loop-i.i (omega (arith, inside))))
+    sym (prefix_len_is is_text c.args.bytes.now (c.graphic_length-passed.result + c.loop-i.i) 0 (grind (arith, c.loop-i-test.true)) c.loop-i.invariant
+    (λ inside. ap is_text (sym (stands c.args.bytes.now c.graphic_length-passed.result c.loop-i.i (omega (arith, inside))))
     ∙ sym c.is_text_byte.ensures ∙ c.if-not-is_text_byte.true))
 
 pub returns : goal.returns
