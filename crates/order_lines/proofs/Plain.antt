@@ -1,5 +1,5 @@
 -- Words consist of plain characters: from the space up to the last of ASCII.
-use Rattle.std.proofs.Common.{◌≡◌, ◌<◌, ℕ, suc, ◌/◌, ◌%◌, ◌^◌, Bool, true, false, ◌&&◌, ◌==◌, ltb, List, [], ◌∷◌, ◌++◌, slice_index, refl, ◌∙◌, arith}
+use Rattle.std.proofs.Common.{◌≡◌, ◌<◌, ◌≤◌, ℕ, suc, ◌+◌, ◌*◌, ◌/◌, ◌%◌, ◌^◌, Bool, true, false, ◌&&◌, ◌==◌, ltb, List, [], ◌∷◌, ◌++◌, length, take, drop, slice_index, slice_set, codes, refl, ap, ◌∙◌, arith, rules}
 use Rattle.std.specs.Fmt.{decimal, digit_glyph}
 use Rattle.std.specs.Char.{is_ascii_digit}
 use Rattle.std.specs.Str.{all_ascii_digits, IsAscii}
@@ -8,11 +8,17 @@ use Rattle.std.proofs.lemmas.Bool.Decides.{nat_tests}
 use Rattle.std.proofs.lemmas.Fmt.{digits_decimal}
 use Rattle.std.proofs.lemmas.Str.Parse.{numerals_by_value, tells_all_ascii_digits, IsNumeralModel}
 use Rattle.std.specs.Str.Parse.{digits_value}
+use Rattle.std.proofs.lemmas.Str.{IsAscii-append}
 use Rattle.std.proofs.lemmas.Str.Ascii.{IsAscii-from_reads}
 use Rattle.std.proofs.lemmas.List.Folds.{list_all-append}
+use Rattle.std.proofs.Math.Seq.{take-append_seam, take-append-add}
+use Rattle.std.proofs.lemmas.List.{length-append, length-drop, take-append-le, take_more_set}
+use borrow.Rule.Slice.PartMut.{put_mid}
 use Rattle.hex.specs.Hex.{IsBytes, encode_with, encode_upper, upper_digits}
+use Rattle.hex.proofs.HexLemmas.{length-encode_with, IsAscii-encode_with}
 use Rattle.ds_codec.proofs.Below.{each_below, both_true}
-use Rattle.order_lines.specs.Print.{hex_byte, pair_word, pair_words}
+use Rattle.ds_codec.specs.Order.{text}
+use Rattle.order_lines.specs.Print.{hex_byte, pair_word, pair_words, order_words}
 use Rattle.order_lines.specs.Laws.{is_plain, are_plain}
 
 pub and_true : (a b : Bool) → a ≡ true → b ≡ true → (a && b) ≡ true
@@ -64,6 +70,38 @@ pub encode-append : (t xs ys : List ℕ) → encode_with t (xs ++ ys) ≡ encode
 unfolding encode_with
 encode-append t [] ys = refl
 encode-append t (x ∷ xs) ys = rw (encode-append t xs ys) refl
+
+-- two digits for each byte of the front are the digits of the front
+pub encode-front : (t front part rest digits : List ℕ) → front ≡ part → digits ≡ encode_with t (front ++ rest)
+    → take (2 * length part) digits ≡ encode_with t part
+encode-front t front part rest digits same spelled =
+    let long = length-encode_with t part in
+    rw (spelled, same, encode-append t part rest, ← long) (take-append_seam (encode_with t part) (encode_with t rest))
+
+-- the word, the digits of more bytes than a text has, and the line's end where the digits of the text end
+pub text-line : (name more front part rest digits : List ℕ) → name ≡ codes "TEXT " → length more ≡ 65
+    → front ≡ part → digits ≡ encode_upper (front ++ rest)
+    → take (6 + 2 * length part) (slice_set (put_mid 5 64 (name ++ more) digits) (5 + 2 * length part) 10) ≡ order_words (text part) ++ codes "\n"
+text-line name more front part rest digits named long same spelled =
+    let last : List ℕ = drop 64 more in
+    let one : length last ≡ 1 = omega (arith, length-drop 64 more) in
+    let count : length digits ≡ 2 * length (front ++ rest) = rw spelled (length-encode_with upper_digits (front ++ rest)) in
+    let fits : 2 * length part ≤ length digits = omega (arith, count, length-append front rest, ap length same) in
+    let spells : take (2 * length part) (digits ++ last) ≡ encode_upper part =
+    take-append-le (2 * length part) digits last fits ∙ encode-front upper_digits front part rest digits same spelled in
+    let end = 5 + 2 * length part in
+    let line : List ℕ = codes "TEXT " ++ (digits ++ last) in
+    let room : end < length line = omega (arith, length-append digits last) in
+    let on : 6 + 2 * length part ≡ end + 1 = omega arith in
+    let front_is : take end line ≡ order_words (text part) =
+    take-append-add (codes "TEXT ") (digits ++ last) (2 * length part) ∙ ap (λ (xs : List ℕ). codes "TEXT " ++ xs) spells in
+    rw named (ap (λ (n : ℕ). take n (slice_set line end 10)) on ∙ take_more_set line end 10 room ∙ ap (λ (xs : List ℕ). xs ++ codes "\n") front_is)
+
+pub ascii-text : (run : List ℕ) → IsAscii (order_words (text run) ++ codes "\n")
+ascii-text run =
+    let name : IsAscii (codes "TEXT ") = search rules in
+    let end : IsAscii (codes "\n") = search rules in
+    IsAscii-append (order_words (text run)) (codes "\n") (IsAscii-append (codes "TEXT ") (encode_upper run) name (IsAscii-encode_with upper_digits run ascii_digits)) end
 
 abbrev table_test : ℕ → Bool
 table_test d = is_plain (slice_index upper_digits d)

@@ -1,12 +1,12 @@
 //! A record as lines of words.
 
-ghost use Rattle.std.specs.Prelude.{◌≡◌, ◌++◌, ◌≤◌, ◌<◌, ◌*◌, true, length, OnOk, codes};
+ghost use Rattle.std.specs.Prelude.{◌≡◌, ◌++◌, ◌≤◌, ◌<◌, ◌*◌, ◌/◌, ◌%◌, true, length, OnOk, codes};
 ghost use Rattle.std.specs.String.{string_bytes};
 ghost use Rattle.std.specs.Str.{IsAscii};
 ghost use Rattle.std.specs.List.{flat_map};
 ghost use Rattle.std.specs.Fmt.{decimal, digit_glyph};
 ghost use Rattle.hex.specs.Hex.{encode_upper};
-ghost use Rattle.ds_codec.specs.Order.{item_of, site_of};
+ghost use Rattle.ds_codec.specs.Order.{item_of, site_of, start_field, text};
 ghost use Rattle.order_lines.specs.Print.{hex_byte, pair_word, pair_words, character_word, order_words, command_words, order_line, record_lines};
 
 use ds_codec::{Char, Command, Order, Placed, Record};
@@ -15,12 +15,23 @@ use std::alloc::AllocError;
 /// So many bytes are spelled at once.
 const PART: usize = 64;
 
+/// The line of a text of at most so many bytes is put together in one piece.
+const SHORT: usize = 32;
+
 /// The digit of a value, in upper case. It is worked out, so that many digits can be worked out together.
 fn digit(value: u8) -> u8
     requires { value < 16 }
     ensures { result ≡ digit_glyph true value }
 {
     if value < 10 { value + b'0' } else { value + 55 }
+}
+
+/// The digits of a byte, the high one first.
+fn digits_of(byte: u8) -> (u8, u8)
+    ensures high { result.0 ≡ digit_glyph true (byte / 16) }
+    ensures low { result.1 ≡ digit_glyph true (byte % 16) }
+{
+    (digit(byte / 16), digit(byte % 16))
 }
 
 fn push_digits(out: &mut String, digits: &[u8]) -> Result<(), AllocError>
@@ -35,10 +46,12 @@ fn push_digits(out: &mut String, digits: &[u8]) -> Result<(), AllocError>
 pub fn push_hex(out: &mut String, byte: u8) -> Result<(), AllocError>
     ensures { OnOk result (string_bytes out.new ≡ string_bytes out.old ++ hex_byte byte) }
 {
-    push_digits(out, &[digit(byte / 16), digit(byte % 16)])
+    let (high, low) = digits_of(byte);
+    push_digits(out, &[high, low])
 }
 
-/// Stores the digits of bytes, two for each.
+/// Stores the digits of bytes, two for each. Inlined, so that at an array its number of turns is known.
+#[inline(always)]
 fn store_digits(digits: &mut [u8], bytes: &[u8])
     requires { length digits.old ≡ 2 * length bytes.now }
     ensures { digits.new ≡ encode_upper bytes.now }
@@ -54,10 +67,11 @@ fn push_part(out: &mut String, bytes: &[u8]) -> Result<(), AllocError>
     requires { length bytes.now ≤ 64 }
     ensures { OnOk result (string_bytes out.new ≡ string_bytes out.old ++ encode_upper bytes.now) }
 {
-    let mut room = [0; 2 * PART];
-    let digits = &mut room[..2 * bytes.len()];
-    store_digits(digits, bytes);
-    push_digits(out, digits)
+    let mut padded = [0u8; PART];
+    padded[..bytes.len()].copy_from_slice(bytes);
+    let mut room = [0u8; 2 * PART];
+    store_digits(&mut room, &padded);
+    push_digits(out, &room[..2 * bytes.len()])
 }
 
 /// Bytes in upper-case hexadecimal.
@@ -151,27 +165,68 @@ fn push_order(out: &mut String, order: &Order<'_>) -> Result<(), AllocError>
     }
 }
 
-fn push_command(out: &mut String, command: Command) -> Result<(), AllocError>
-    ensures { OnOk result (string_bytes out.new ≡ string_bytes out.old ++ command_words command) }
+/// The line of a command.
+fn push_command_line(out: &mut String, command: Command) -> Result<(), AllocError>
+    ensures { OnOk result (string_bytes out.new ≡ string_bytes out.old
+        ++ (command_words command ++ codes "\n")) }
 {
     match command {
-        Command::Write(wcc) => push_named(out, "W ", wcc),
-        Command::EraseWrite(wcc) => push_named(out, "EW ", wcc),
-        Command::EraseWriteAlternate(wcc) => push_named(out, "EWA ", wcc),
-        Command::EraseAllUnprotected => out.push_str("EAU"),
-        Command::ReadBuffer => out.push_str("RB"),
-        Command::ReadModified => out.push_str("RM"),
-        Command::ReadModifiedAll => out.push_str("RMA"),
-        Command::NoOperation => out.push_str("NOP"),
+        Command::Write(wcc) => {
+            let (high, low) = digits_of(wcc);
+            push_digits(out, &[b'W', b' ', high, low, b'\n'])
+        }
+        Command::EraseWrite(wcc) => {
+            let (high, low) = digits_of(wcc);
+            push_digits(out, &[b'E', b'W', b' ', high, low, b'\n'])
+        }
+        Command::EraseWriteAlternate(wcc) => {
+            let (high, low) = digits_of(wcc);
+            push_digits(out, &[b'E', b'W', b'A', b' ', high, low, b'\n'])
+        }
+        Command::EraseAllUnprotected => out.push_str("EAU\n"),
+        Command::ReadBuffer => out.push_str("RB\n"),
+        Command::ReadModified => out.push_str("RM\n"),
+        Command::ReadModifiedAll => out.push_str("RMA\n"),
+        Command::NoOperation => out.push_str("NOP\n"),
     }
+}
+
+/// The line of Start Field.
+fn push_start_field(out: &mut String, attribute: u8) -> Result<(), AllocError>
+    ensures { OnOk result (string_bytes out.new ≡ string_bytes out.old
+        ++ (order_words (start_field attribute) ++ codes "\n")) }
+{
+    let (high, low) = digits_of(attribute);
+    push_digits(out, &[b'S', b'F', b' ', high, low, b'\n'])
+}
+
+/// The line of a short text.
+fn push_short_text(out: &mut String, run: &[u8]) -> Result<(), AllocError>
+    requires { length run.now ≤ 32 }
+    ensures { OnOk result (string_bytes out.new ≡ string_bytes out.old
+        ++ (order_words (text run.now) ++ codes "\n")) }
+{
+    let mut padded = [0u8; SHORT];
+    padded[..run.len()].copy_from_slice(run);
+    let mut line = [0u8; 6 + 2 * SHORT];
+    line[..5].copy_from_slice(b"TEXT ");
+    store_digits(&mut line[5..5 + 2 * SHORT], &padded);
+    line[5 + 2 * run.len()] = b'\n';
+    push_digits(out, &line[..6 + 2 * run.len()])
 }
 
 fn push_order_line(out: &mut String, placed: &Placed<'_>) -> Result<(), AllocError>
     ensures { OnOk result (string_bytes out.new ≡ string_bytes out.old
         ++ order_line (site_of placed.now)) }
 {
-    push_order(out, &placed.order)?;
-    out.push_str("\n")
+    match &placed.order {
+        Order::Text(run) if run.len() <= SHORT => push_short_text(out, run),
+        Order::Sf(attribute) => push_start_field(out, attribute.bits()),
+        order => {
+            push_order(out, order)?;
+            out.push_str("\n")
+        }
+    }
 }
 
 fn push_orders(out: &mut String, message: &Record<'_>) -> Result<(), AllocError>
@@ -189,8 +244,7 @@ pub fn push_record(out: &mut String, message: &Record<'_>) -> Result<(), AllocEr
     ensures { OnOk result (string_bytes out.new ≡ string_bytes out.old
         ++ record_lines message.now) }
 {
-    push_command(out, message.command())?;
-    out.push_str("\n")?;
+    push_command_line(out, message.command())?;
     push_orders(out, message)?;
     out.push_str("\n")
 }
