@@ -59,6 +59,20 @@ compare 'a write that fails' 'term3270: standard output: No space left on device
 compare 'a read that fails' 'term3270: standard input: Is a directory (os error 21) 3' "$("$program" 2>&1 < /; echo " $?")"
 compare 'help that is not written' 'term3270: No space left on device (os error 28) 3' \
   "$("$program" --help 2>&1 > /dev/full; echo " $?")"
+# Long texts are written in pieces: of 100 records of 24x80 as lines, and of these lines as records.
+records() {
+  awk 'BEGIN {
+    for (r = 0; r < 100; r++) {
+      printf "F5C2"
+      for (f = 0; f < 120; f++) { printf "1D%02X", f % 2 ? 64 : 96; for (i = 0; i < 15; i++) printf "%02X", 193 + (i + f + r) % 9 }
+      print ""
+    }
+  }'
+}
+compare 'long texts as lines, and the lines as records' "$(records | cksum)" "$(records | "$program" convert | "$program" convert --back | cksum)"
+compare 'the lines of a long text' 24200 "$(records | "$program" convert | wc -l)"
+compare 'a long text that is not written' 'term3270: standard output: No space left on device (os error 28) 3' \
+  "$(records | { "$program" convert 2>&1 > /dev/full; echo " $?"; })"
 # The golden logs of SARIF have what services ask for, and the version that the program prints. Findings come from where
 # a reading of their records by another program says. The golden cases of a form have in common what each of the form has.
 if command -v python3 > /dev/null; then

@@ -1,5 +1,6 @@
 pub mod Rows
 pub mod Prefixes
+pub mod Pieces
 pub mod Parts
 pub mod NextLines
 mod ShownLines

@@ -1,11 +1,19 @@
 -- Lines that a program takes in turn.
-use Rattle.std.proofs.Common.{ℕ, ◌+◌, List, [], ◌∷◌, Err, refl, inl, inr}
+use Rattle.std.proofs.Common.{ℕ, ◌+◌, List, [], ◌∷◌, Ok, Err, refl, inl, inr}
 use Rattle.std.specs.Prelude.{Result}
 use Rattle.term_commands.specs.declared.fault.Fault.{Fault}
 use Rattle.term_commands.specs.declared.fault.CommandError.{CommandError}
 use Rattle.term_commands.specs.declared.fault.CommandError.TheVariants.{Fault as Told, ReadFailed, OutOfMemory}
 use Rattle.term_commands.specs.Fault.{Gives}
-use Rattle.term_commands.specs.Taking.{taken, TakesAll}
+use Rattle.term_commands.specs.Taking.{taken, TakesAll, told_then}
+
+-- a change of what is told gives what is due
+pub gives_then : {T A : Type 0} (view : T → A) (new : T) (result : Result (Unit {0}) CommandError) (due : Result A Fault)
+    → Gives (λ done. view new) result due → Gives view (told_then new result) due
+gives_then view new (Ok done) due gives = gives
+gives_then view new (Err (Told fault)) due gives = gives
+gives_then view new (Err ReadFailed) due gives = gives
+gives_then view new (Err OutOfMemory) due gives = gives
 
 ends_there : {T A : Type 0} (view : T → A) (take : ℕ → A → List ℕ → Result A Fault) (number : ℕ) (told : A) (line : List ℕ) (lines : List (List ℕ)) (error : CommandError)
     → Gives view (Err error) (take number told line) → Gives view (Err error) (taken take number told (line ∷ lines))

@@ -1,5 +1,6 @@
 -- Inputs and answers as the program holds them.
 use Rattle.std.specs.Prelude.{◌≡◌, ℕ, List, map, Option, Some, None, Result, Ok, Err}
+use Rattle.std.specs.List.{flat_map}
 use Rattle.std.specs.Option.{option_map}
 use Rattle.std.specs.Global.{Vec}
 use Rattle.std.specs.String.{string_bytes}
@@ -22,12 +23,15 @@ use Rattle.term_commands.specs.declared.input.drafts.OrderLine as held_order_lin
 use Rattle.term_commands.specs.declared.input.drafts.OrderLine.TheVariants as order_line
 use Rattle.term_commands.specs.declared.commands.backward.Backward as held_backward
 use Rattle.term_commands.specs.declared.commands.backward.SizeInUse.{SizeInUse}
+use Rattle.term_commands.specs.declared.commands.backward.WrittenRecord.{WrittenRecord}
 use Rattle.term_commands.specs.declared.commands.backward.SizeInUse.TheVariants.{Default, Alternate}
 use Rattle.term_commands.specs.declared.output.answer.Answer.{Answer}
+use Rattle.term_commands.specs.declared.status.Status.TheVariants.{Done}
+use Rattle.term_commands.specs.Back.{bytes_line}
 use Rattle.term_commands.specs.Backward as backward
 use Rattle.term_commands.specs.Drafts as drafts
 use Rattle.term_commands.specs.Keys as keys
-use Rattle.term_commands.specs.Printed.{Printed}
+use Rattle.term_commands.specs.Printed.{Printed, printed}
 use Rattle.term_commands.specs.Records as records
 
 abbrev pub records_held : List (Vec ℕ) → List (List ℕ)
@@ -68,6 +72,9 @@ abbrev pub text_unless : Option Fault → List ℕ → Result (List ℕ) Fault
 text_unless None text = Ok text
 text_unless (Some flaw) text = Err flaw
 
+abbrev pub written_line : WrittenRecord → List ℕ
+written_line it = bytes_line it.bytes.items
+
 abbrev pub backward_seen : held_backward.Backward → backward.Backward
 backward_seen told =
     record {
@@ -76,8 +83,12 @@ backward_seen told =
       size = size_in_use told.geometry told.size;
       count = told.count;
       current = option_map draft_held told.current;
-      text = text_unless told.flaw (string_bytes told.text);
+      text = text_unless told.flaw (flat_map written_line told.records.items);
     }
+
+-- the lines of records, as they are printed
+abbrev pub written_printed : Vec WrittenRecord → Printed
+written_printed records = printed (flat_map written_line records.items) Done
 
 -- ---- answers
 

@@ -21,6 +21,7 @@ pub mod Back
 pub mod Backward
 pub mod Held
 pub mod Streams
+pub mod Pieces
 pub mod Says
 pub mod SaysDrafts
 pub mod Law

@@ -19,6 +19,11 @@ taken_in take none input = within_limit input >>= λ text. taken take 1 none (li
 
 -- ---- as a program takes them
 
+-- what is told after a change of it, or the error that it ended with
+abbrev pub told_then : {T : Type 0} → T → Result (Unit {0}) CommandError → Result T CommandError
+told_then told (Ok done) = Ok told
+told_then told (Err error) = Err error
+
 -- each line leads to what the next goes from, or to the error with which it ends
 abbrev pub TakesAll : {T : Type 0} → (ℕ → T → List ℕ → Result T CommandError → Type 0) → ℕ → T → List (List ℕ) → Result T CommandError → Type 0
 TakesAll takes number told [] result = result ≡ Ok told

@@ -1,22 +1,21 @@
 //! The command `convert --back`: order lines as records.
 
 ghost use Rattle.std.specs.Prelude.{◌≡◌, ◌≤◌, IfSome, Ok, None, length};
-ghost use Rattle.std.specs.String.{string_bytes};
-ghost use Rattle.ds_codec.specs.Geometry.{Sizes, IsGood, cells_of};
-ghost use Rattle.order_lines.specs.Draft.{draft_held, written_of};
+ghost use Rattle.std.specs.List.{flat_map};
+ghost use Rattle.ds_codec.specs.Geometry.{Sizes, IsGood};
+ghost use Rattle.order_lines.specs.Draft.{draft_held};
 ghost use Rattle.term_commands.specs.Fault.{Gives, GivesOrFails};
 ghost use Rattle.order_lines.specs.Told.{item_held, told_held};
 ghost use Rattle.term_commands.specs.declared.input.sizes.SizeLine.TheVariants.{Refused};
-ghost use Rattle.term_commands.specs.Held.{answer_seen, size_in_use, backward_seen, order_line_seen};
+ghost use Rattle.term_commands.specs.Held.{answer_seen, size_in_use, backward_seen, order_line_seen, written_line, written_printed};
 ghost use Rattle.term_commands.specs.Drafts.{words as of_words};
 ghost use Rattle.term_commands.specs.Lines.{lines_in};
 ghost use Rattle.term_commands.specs.Taking.{taken, taken_in};
-ghost use Rattle.term_commands.specs.Back.{size_after, line_or_flaw, back, printed_back};
+ghost use Rattle.term_commands.specs.Back.{size_after, back, printed_back};
 ghost use Rattle.term_commands.specs.Backward.{nothing, with_line, ended, begun, added, after_line, take_line, text_after, answer_to};
-ghost use Rattle.term_commands.specs.Printed.{joined};
 ghost use Rattle.term_commands.specs.Streams.{Prints};
 
-use crate::commands::backward::{Backward, SizeInUse};
+use crate::commands::backward::{Backward, SizeInUse, WrittenRecord};
 use crate::fault::{CommandError, Fault};
 use crate::input::bytes::within_limit;
 use crate::input::drafts::{OrderLine, line_told};
@@ -25,10 +24,11 @@ use crate::input::reading::read_lines;
 use crate::input::records::MOST_RECORDS;
 use crate::input::sizes::{SizeLine, usual_geometry};
 use crate::output::answer::{Answer, finish};
+use crate::output::pieces::{PrintsLines, lines_of, write_lines};
 use crate::status::Status;
-use ds_codec::{Command, Geometry, Mode, Size, Unwritable};
+use ds_codec::{Command, Geometry, Size, Unwritable};
 use order_lines::{Draft, OwnedOrder, Told, push_bytes};
-use std::alloc::Global;
+use std::alloc::{AllocError, Global};
 use std::io::{Read, Write};
 
 /// The size for which a record is written: an erase sets it, for this record and those after it.
@@ -53,58 +53,44 @@ fn size_in_use(geometry: &Geometry, size: SizeInUse) -> Size
     }
 }
 
-/// The line of the record of this index, for a buffer of this size.
-fn push_bytes_line(
-    alloc: Global,
-    out: &mut String,
-    index: usize,
-    draft: &Draft,
-    mode: Mode,
-    size: Size,
-) -> Result<(), CommandError>
-    requires { IsGood mode size }
-    ensures { Gives (λ done. string_bytes out.new) result
-        (joined (Ok (string_bytes out.old)) (line_or_flaw index (written_of mode (cells_of size) (draft_held draft.now)))) }
-{
-    match draft.write(alloc, mode, size.cells()) {
-        Ok(bytes) => {
-            push_bytes(out, bytes.as_slice())?;
-            Ok(out.push_str("\n")?)
-        }
-        Err(Unwritable::OutOfMemory) => Err(CommandError::OutOfMemory),
-        Err(flaw) => Err(CommandError::Fault(Fault::Unwritable(index, flaw))),
+impl PrintsLines for WrittenRecord {
+    ghost lines = { written_line };
+
+    fn push_lines(&self, out: &mut String) -> Result<(), AllocError> {
+        push_bytes(out, self.bytes.as_slice())?;
+        out.push_str("\n")
     }
 }
 
-/// The line of a record that has ended, for the size in use, or why it cannot be written.
-fn push_draft(alloc: Global, mut told: Backward, draft: &Draft) -> Result<Backward, CommandError>
-    requires ended { told.current ≡ None }
-    requires good { told.flaw ≡ None }
-    ensures { Gives backward_seen result (Ok (with_line (backward_seen told) (draft_held draft.now)
-        (backward_seen told).size)) }
+/// A record that has ended is written for the size in use, or it is told why it cannot be.
+fn push_draft(alloc: Global, told: &mut Backward, draft: &Draft) -> Result<(), CommandError>
+    requires ended { told.old.current ≡ None }
+    requires good { told.old.flaw ≡ None }
+    ensures { Gives (λ done. backward_seen told.new) result (Ok (with_line (backward_seen told.old)
+        (draft_held draft.now) (backward_seen told.old).size)) }
 {
     let index = told.count.saturating_sub(1);
     let mode = told.geometry.mode();
     let size = size_in_use(&told.geometry, told.size);
-    match push_bytes_line(alloc, &mut told.text, index, draft, mode, size) {
-        Ok(()) => {}
-        Err(CommandError::Fault(flaw)) => told.flaw = Some(flaw),
-        Err(error) => return Err(error),
+    match draft.write(alloc, mode, size.cells()) {
+        Ok(bytes) => told.records.push(WrittenRecord { bytes })?,
+        Err(Unwritable::OutOfMemory) => return Err(CommandError::OutOfMemory),
+        Err(flaw) => told.flaw = Some(Fault::Unwritable(index, flaw)),
     }
-    Ok(told)
+    Ok(())
 }
 
 /// The record that has begun ends. It is written, unless one before it cannot be.
-fn end(alloc: Global, mut told: Backward) -> Result<Backward, CommandError>
-    ensures { Gives backward_seen result
-        (Ok (ended (backward_seen told) (backward_seen told).current)) }
+fn end(alloc: Global, told: &mut Backward) -> Result<(), CommandError>
+    ensures { Gives (λ done. backward_seen told.new) result
+        (Ok (ended (backward_seen told.old) (backward_seen told.old).current)) }
 {
     let Some(draft) = told.current.take() else {
-        return Ok(told);
+        return Ok(());
     };
     told.size = size_after(told.size, draft.command);
     match told.flaw {
-        Some(_) => Ok(told),
+        Some(_) => Ok(()),
         None => push_draft(alloc, told, &draft),
     }
 }
@@ -112,12 +98,12 @@ fn end(alloc: Global, mut told: Backward) -> Result<Backward, CommandError>
 /// A record begins.
 fn begin(
     alloc: Global,
-    mut told: Backward,
+    told: &mut Backward,
     number: usize,
     command: Command,
-) -> Result<Backward, CommandError>
-    ensures { Gives backward_seen result
-        (begun number (backward_seen told) command (backward_seen told).current) }
+) -> Result<(), CommandError>
+    ensures { Gives (λ done. backward_seen told.new) result
+        (begun number (backward_seen told.old) command (backward_seen told.old).current) }
 {
     if told.current.is_some() {
         return Err(CommandError::Fault(Fault::BadLine(number)));
@@ -131,42 +117,39 @@ fn begin(
         command,
         orders: Vec::new(alloc),
     });
-    Ok(told)
+    Ok(())
 }
 
 /// An order of the record that has begun.
-fn add(mut told: Backward, number: usize, order: OwnedOrder) -> Result<Backward, CommandError>
-    ensures { Gives backward_seen result
-        (added number (backward_seen told) (item_held order) (backward_seen told).current) }
+fn add(told: &mut Backward, number: usize, order: OwnedOrder) -> Result<(), CommandError>
+    ensures { Gives (λ done. backward_seen told.new) result
+        (added number (backward_seen told.old) (item_held order) (backward_seen told.old).current) }
 {
-    let Some(mut draft) = told.current.take() else {
-        return Err(CommandError::Fault(Fault::BadLine(number)));
-    };
-    draft.orders.push(order)?;
-    told.current = Some(draft);
-    Ok(told)
+    match &mut told.current {
+        Some(draft) => Ok(draft.orders.push(order)?),
+        None => Err(CommandError::Fault(Fault::BadLine(number))),
+    }
 }
 
 /// The sizes are told.
-fn resize(mut told: Backward, geometry: Geometry) -> Backward
-    ensures { backward_seen result ≡ record (backward_seen told)
+fn resize(told: &mut Backward, geometry: Geometry)
+    ensures { backward_seen told.new ≡ record (backward_seen told.old)
         { size_line = Refused; geometry = geometry; size = geometry.default } }
 {
     told.size_line = SizeLine::Refused;
     told.size = SizeInUse::Default;
     told.geometry = geometry;
-    told
 }
 
 /// What the words of the line of a number add.
 fn add_words(
     alloc: Global,
-    told: Backward,
+    told: &mut Backward,
     number: usize,
     words: Told,
-) -> Result<Backward, CommandError>
-    ensures { Gives backward_seen result
-        (after_line number (backward_seen told) (of_words (told_held words))) }
+) -> Result<(), CommandError>
+    ensures { Gives (λ done. backward_seen told.new) result
+        (after_line number (backward_seen told.old) (of_words (told_held words))) }
 {
     match words {
         Told::Command(command) => begin(alloc, told, number, command),
@@ -177,17 +160,20 @@ fn add_words(
 /// What the line of a number adds.
 fn add_line(
     alloc: Global,
-    told: Backward,
+    told: &mut Backward,
     number: usize,
     line: OrderLine,
-) -> Result<Backward, CommandError>
-    ensures { Gives backward_seen result
-        (after_line number (backward_seen told) (order_line_seen line)) }
+) -> Result<(), CommandError>
+    ensures { Gives (λ done. backward_seen told.new) result
+        (after_line number (backward_seen told.old) (order_line_seen line)) }
 {
     match line {
         OrderLine::Empty => end(alloc, told),
-        OrderLine::Comment => Ok(told),
-        OrderLine::Sizes(geometry) => Ok(resize(told, geometry)),
+        OrderLine::Comment => Ok(()),
+        OrderLine::Sizes(geometry) => {
+            resize(told, geometry);
+            Ok(())
+        }
         OrderLine::Words(words) => add_words(alloc, told, number, words),
         OrderLine::Bad => Err(CommandError::Fault(Fault::BadLine(number))),
     }
@@ -196,7 +182,7 @@ fn add_line(
 impl TakesLines for Backward {
     ghost takes = { λ number told line result. Gives backward_seen result (take_line number (backward_seen told) line) };
 
-    fn take(self, alloc: Global, number: usize, line: &[u8]) -> Result<Backward, CommandError> {
+    fn take(&mut self, alloc: Global, number: usize, line: &[u8]) -> Result<(), CommandError> {
         let told = line_told(alloc, self.size_line, line)?;
         add_line(alloc, self, number, told)
     }
@@ -211,21 +197,24 @@ fn take_text(alloc: Global, text: &[u8], none: Backward) -> Result<Backward, Com
     take_lines(alloc, text, none)
 }
 
-/// The lines of the records, or the first that cannot be written.
-fn text_of(told: Backward) -> Result<String, CommandError>
-    ensures { Gives string_bytes result (backward_seen told).text }
+/// The records, or the first that cannot be written.
+fn records_of(told: Backward) -> Result<Vec<WrittenRecord>, CommandError>
+    ensures { Gives (λ records. flat_map written_line records.items) result
+        (backward_seen told).text }
 {
     match told.flaw {
         Some(flaw) => Err(CommandError::Fault(flaw)),
-        None => Ok(told.text),
+        None => Ok(told.records),
     }
 }
 
-/// The lines of the records, once the last one has ended.
-fn lines_written(alloc: Global, told: Backward) -> Result<String, CommandError>
-    ensures { Gives string_bytes result (text_after (backward_seen told)) }
+/// The records, once the last one has ended.
+fn all_written(alloc: Global, mut told: Backward) -> Result<Vec<WrittenRecord>, CommandError>
+    ensures { Gives (λ records. flat_map written_line records.items) result
+        (text_after (backward_seen told)) }
 {
-    text_of(end(alloc, told)?)
+    end(alloc, &mut told)?;
+    records_of(told)
 }
 
 /// What lines tell before the first.
@@ -238,7 +227,7 @@ fn nothing(alloc: Global) -> Backward
         size: SizeInUse::Default,
         count: 0,
         current: None,
-        text: String::new(alloc),
+        records: Vec::new(alloc),
         flaw: None,
     }
 }
@@ -249,8 +238,9 @@ fn written(alloc: Global, lines: &[u8]) -> Result<Answer, CommandError>
     ensures { Gives answer_seen result (answer_to lines.now) }
 {
     let text = within_limit(lines)?;
+    let records = all_written(alloc, take_text(alloc, text, nothing(alloc))?)?;
     Ok(Answer {
-        text: lines_written(alloc, take_text(alloc, text, nothing(alloc))?)?,
+        text: lines_of(alloc, &records)?,
         status: Status::Done,
     })
 }
@@ -267,16 +257,12 @@ fn read_added<R: Read>(
     read_lines(alloc, reader, none)
 }
 
-/// The lines of the records that the order lines of an input tell, as it is read.
-fn written_read<R: Read>(alloc: Global, reader: &mut R) -> Result<Answer, CommandError>
+/// The records that the order lines of an input tell, as it is read.
+fn read_held<R: Read>(alloc: Global, reader: &mut R) -> Result<Vec<WrittenRecord>, CommandError>
     ensures { IfSome (R.remaining reader.old)
-        (λ input. GivesOrFails answer_seen result (answer_to input)) }
+        (λ input. GivesOrFails written_printed result (answer_to input)) }
 {
-    let told = read_added(alloc, reader, nothing(alloc))?;
-    Ok(Answer {
-        text: lines_written(alloc, told)?,
-        status: Status::Done,
-    })
+    all_written(alloc, read_added(alloc, reader, nothing(alloc))?)
 }
 
 /// What `convert --back` answers to a text of order lines.
@@ -290,11 +276,11 @@ pub fn convert_back_text(alloc: Global, lines: &[u8]) -> Result<Answer, CommandE
     written(alloc, lines)
 }
 
-fn back<R: Read>(alloc: Global, reader: &mut R) -> Result<Answer, CommandError>
+fn back<R: Read>(alloc: Global, reader: &mut R) -> Result<Vec<WrittenRecord>, CommandError>
     ensures { IfSome (R.remaining reader.old)
-        (λ input. GivesOrFails answer_seen result (back input)) }
+        (λ input. GivesOrFails written_printed result (back input)) }
 {
-    written_read(alloc, reader)
+    read_held(alloc, reader)
 }
 
 /// Reads order lines and prints the bytes of each record in hexadecimal, one a line; or the first fault
@@ -306,6 +292,8 @@ pub fn run_convert_back<R: Read, W: Write>(alloc: Global, reader: &mut R, writer
     ensures { IfSome (R.remaining reader.old) (λ input.
         Prints (W.contents writer.old) (W.contents writer.new) result (printed_back input)) }
 {
-    let answer = back(alloc, reader);
-    finish(alloc, writer, answer)
+    match back(alloc, reader) {
+        Ok(records) => write_lines(alloc, writer, &records),
+        Err(error) => finish(alloc, writer, Err(error)),
+    }
 }

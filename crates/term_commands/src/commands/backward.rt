@@ -1,4 +1,4 @@
-//! Order lines whose records are written as they end, so that no more than one of them is held.
+//! Order lines whose records are written as they end, and printed once all of them can be written.
 
 use crate::fault::Fault;
 use crate::input::sizes::SizeLine;
@@ -10,6 +10,12 @@ use order_lines::Draft;
 pub enum SizeInUse {
     Default,
     Alternate,
+}
+
+/// The bytes of a record.
+#[derive(Debug, Drop)]
+pub struct WrittenRecord {
+    pub bytes: Vec<u8>,
 }
 
 /// What order lines tell.
@@ -24,8 +30,8 @@ pub struct Backward {
     pub count: usize,
     /// The record that has begun and has not ended.
     pub current: Option<Draft>,
-    /// The lines of the records that have ended, up to the first that cannot be written.
-    pub text: String,
+    /// The records that have ended, up to the first that cannot be written.
+    pub records: Vec<WrittenRecord>,
     /// Why that one cannot be written.
     pub flaw: Option<Fault>,
 }

@@ -1,19 +1,18 @@
 //! The command `convert`: records as order lines.
 
 ghost use Rattle.std.specs.Prelude.{◌≡◌, ◌≤◌, IfSome, Ok, None, length};
-ghost use Rattle.std.specs.String.{string_bytes};
+ghost use Rattle.std.specs.List.{flat_map};
 ghost use Rattle.term_commands.specs.Fault.{Gives, GivesOrFails};
 ghost use Rattle.term_commands.specs.Held.{answer_seen, line_seen};
-ghost use Rattle.term_commands.specs.Convert.{lines_or_refusal, convert, printed_convert};
-ghost use Rattle.term_commands.specs.ForwardHeld.{forward_seen};
+ghost use Rattle.term_commands.specs.Convert.{convert, printed_convert};
+ghost use Rattle.term_commands.specs.ForwardHeld.{forward_seen, refusal_of, held_lines, records_printed};
 ghost use Rattle.term_commands.specs.Forward.{nothing, with_lines, one_more, after_line, take_line, answer_to};
 ghost use Rattle.term_commands.specs.Lines.{lines_in};
 ghost use Rattle.term_commands.specs.Taking.{taken, taken_in};
 ghost use Rattle.ds_codec.specs.Reading.{read_of};
-ghost use Rattle.term_commands.specs.Printed.{joined};
 ghost use Rattle.term_commands.specs.Streams.{Prints};
 
-use crate::commands::forward::Forward;
+use crate::commands::forward::{Forward, HeldRecord};
 use crate::fault::{CommandError, Fault};
 use crate::input::bytes::{at_most, within_limit};
 use crate::input::lines::{TakesLines, take_lines};
@@ -21,44 +20,56 @@ use crate::input::reading::read_lines;
 use crate::input::records::{Line, MOST_RECORD_BYTES, MOST_RECORDS, line_told};
 use crate::input::sizes::{SizeLine, usual_geometry};
 use crate::output::answer::{Answer, finish};
+use crate::output::pieces::{PrintsLines, lines_of, write_lines};
 use crate::status::Status;
 use ds_codec::{Mode, Record};
 use ds_terminal::Refused;
 use order_lines::push_record;
-use std::alloc::Global;
+use std::alloc::{AllocError, Global};
 use std::io::{Read, Write};
 
-/// The lines of the record of this index, unless it is refused.
-fn push_lines(out: &mut String, mode: Mode, index: usize, bytes: &[u8]) -> Result<(), CommandError>
-    ensures { Gives (λ done. string_bytes out.new) result
-        (joined (Ok (string_bytes out.old)) (lines_or_refusal index (read_of mode bytes.now))) }
+impl PrintsLines for HeldRecord {
+    ghost lines = { held_lines };
+
+    fn push_lines(&self, out: &mut String) -> Result<(), AllocError> {
+        match Record::read(self.mode, self.bytes.as_slice()) {
+            Ok(record) => push_record(out, &record),
+            Err(_) => Ok(()),
+        }
+    }
+}
+
+/// Why a record is refused, where it is.
+fn refusal(mode: Mode, bytes: &[u8]) -> Option<ds_codec::Refused>
+    ensures { result ≡ refusal_of (read_of mode bytes.now) }
 {
     match Record::read(mode, bytes) {
-        Ok(record) => Ok(push_record(out, &record)?),
-        Err(refused) => Err(CommandError::Fault(Fault::RecordRefused(
-            index,
-            Refused::Read(refused),
-        ))),
+        Ok(_) => None,
+        Err(refused) => Some(refused),
     }
 }
 
-/// The lines of one record more, or why it is refused.
-fn add_lines(mut told: Forward, index: usize, bytes: &[u8]) -> Result<Forward, CommandError>
-    requires { told.flaw ≡ None }
-    ensures { Gives forward_seen result (Ok (with_lines (forward_seen told) index bytes.now)) }
+/// One record more, or why it is refused.
+fn keep(told: &mut Forward, index: usize, bytes: Vec<u8>) -> Result<(), CommandError>
+    requires { told.old.flaw ≡ None }
+    ensures { Gives (λ done. forward_seen told.new) result
+        (Ok (with_lines (forward_seen told.old) index bytes.items)) }
 {
     let mode = told.geometry.mode();
-    match push_lines(&mut told.text, mode, index, bytes) {
-        Ok(()) => {}
-        Err(CommandError::Fault(flaw)) => told.flaw = Some(flaw),
-        Err(error) => return Err(error),
+    match refusal(mode, bytes.as_slice()) {
+        Some(refused) => {
+            let refused = Refused::Read(refused);
+            told.flaw = Some(Fault::RecordRefused(index, refused));
+            Ok(())
+        }
+        None => Ok(told.records.push(HeldRecord { mode, bytes })?),
     }
-    Ok(told)
 }
 
-/// One more record. Its lines are printed, unless one before it is refused.
-fn add(mut told: Forward, bytes: &[u8]) -> Result<Forward, CommandError>
-    ensures { Gives forward_seen result (one_more (forward_seen told) bytes.now) }
+/// One more record. It is kept, unless one before it is refused.
+fn add(told: &mut Forward, bytes: Vec<u8>) -> Result<(), CommandError>
+    ensures { Gives (λ done. forward_seen told.new) result
+        (one_more (forward_seen told.old) bytes.items) }
 {
     at_most(bytes.len(), MOST_RECORD_BYTES)?;
     if told.count >= MOST_RECORDS {
@@ -68,23 +79,24 @@ fn add(mut told: Forward, bytes: &[u8]) -> Result<Forward, CommandError>
     told.size_line = SizeLine::Refused;
     told.count += 1;
     match told.flaw {
-        Some(_) => Ok(told),
-        None => add_lines(told, index, bytes),
+        Some(_) => Ok(()),
+        None => keep(told, index, bytes),
     }
 }
 
 /// What the line of a number adds.
-fn add_line(mut told: Forward, number: usize, line: Line) -> Result<Forward, CommandError>
-    ensures { Gives forward_seen result (after_line number (forward_seen told) (line_seen line)) }
+fn add_line(told: &mut Forward, number: usize, line: Line) -> Result<(), CommandError>
+    ensures { Gives (λ done. forward_seen told.new) result
+        (after_line number (forward_seen told.old) (line_seen line)) }
 {
     match line {
-        Line::Ignored => Ok(told),
+        Line::Ignored => Ok(()),
         Line::Sizes(geometry) => {
             told.size_line = SizeLine::Refused;
             told.geometry = geometry;
-            Ok(told)
+            Ok(())
         }
-        Line::Record(bytes) => add(told, bytes.as_slice()),
+        Line::Record(bytes) => add(told, bytes),
         Line::Bad => Err(CommandError::Fault(Fault::BadLine(number))),
     }
 }
@@ -92,7 +104,7 @@ fn add_line(mut told: Forward, number: usize, line: Line) -> Result<Forward, Com
 impl TakesLines for Forward {
     ghost takes = { λ number told line result. Gives forward_seen result (take_line number (forward_seen told) line) };
 
-    fn take(mut self, alloc: Global, number: usize, line: &[u8]) -> Result<Forward, CommandError> {
+    fn take(&mut self, alloc: Global, number: usize, line: &[u8]) -> Result<(), CommandError> {
         let told = line_told(alloc, self.size_line, line, &mut self.digits)?;
         add_line(self, number, told)
     }
@@ -107,13 +119,13 @@ fn take_text(alloc: Global, text: &[u8], none: Forward) -> Result<Forward, Comma
     take_lines(alloc, text, none)
 }
 
-/// The lines of the records, or the first that is refused.
-fn text_of(told: Forward) -> Result<String, CommandError>
-    ensures { Gives string_bytes result (forward_seen told).text }
+/// The records, or the first that is refused.
+fn records_of(told: Forward) -> Result<Vec<HeldRecord>, CommandError>
+    ensures { Gives (λ records. flat_map held_lines records.items) result (forward_seen told).text }
 {
     match told.flaw {
         Some(flaw) => Err(CommandError::Fault(flaw)),
-        None => Ok(told.text),
+        None => Ok(told.records),
     }
 }
 
@@ -125,7 +137,7 @@ fn nothing(alloc: Global) -> Forward
         size_line: SizeLine::Allowed,
         geometry: usual_geometry(),
         count: 0,
-        text: String::new(alloc),
+        records: Vec::new(alloc),
         flaw: None,
         digits: Vec::new(alloc),
     }
@@ -136,8 +148,9 @@ fn printed(alloc: Global, records: &[u8]) -> Result<Answer, CommandError>
     ensures { Gives answer_seen result (answer_to records.now) }
 {
     let text = within_limit(records)?;
+    let records = records_of(take_text(alloc, text, nothing(alloc))?)?;
     Ok(Answer {
-        text: text_of(take_text(alloc, text, nothing(alloc))?)?,
+        text: lines_of(alloc, &records)?,
         status: Status::Done,
     })
 }
@@ -154,16 +167,12 @@ fn read_added<R: Read>(
     read_lines(alloc, reader, none)
 }
 
-/// The same of an input as it is read.
-fn printed_read<R: Read>(alloc: Global, reader: &mut R) -> Result<Answer, CommandError>
+/// The records of an input as it is read.
+fn read_held<R: Read>(alloc: Global, reader: &mut R) -> Result<Vec<HeldRecord>, CommandError>
     ensures { IfSome (R.remaining reader.old)
-        (λ input. GivesOrFails answer_seen result (answer_to input)) }
+        (λ input. GivesOrFails records_printed result (answer_to input)) }
 {
-    let told = read_added(alloc, reader, nothing(alloc))?;
-    Ok(Answer {
-        text: text_of(told)?,
-        status: Status::Done,
-    })
+    records_of(read_added(alloc, reader, nothing(alloc))?)
 }
 
 /// What `convert` answers to a text of records.
@@ -177,11 +186,11 @@ pub fn convert_text(alloc: Global, records: &[u8]) -> Result<Answer, CommandErro
     printed(alloc, records)
 }
 
-fn convert<R: Read>(alloc: Global, reader: &mut R) -> Result<Answer, CommandError>
+fn convert<R: Read>(alloc: Global, reader: &mut R) -> Result<Vec<HeldRecord>, CommandError>
     ensures { IfSome (R.remaining reader.old)
-        (λ input. GivesOrFails answer_seen result (convert input)) }
+        (λ input. GivesOrFails records_printed result (convert input)) }
 {
-    printed_read(alloc, reader)
+    read_held(alloc, reader)
 }
 
 /// Reads records in hexadecimal, one a line, and prints each as lines: its command, its orders, and an
@@ -191,6 +200,8 @@ pub fn run_convert<R: Read, W: Write>(alloc: Global, reader: &mut R, writer: &mu
     ensures { IfSome (R.remaining reader.old) (λ input.
         Prints (W.contents writer.old) (W.contents writer.new) result (printed_convert input)) }
 {
-    let answer = convert(alloc, reader);
-    finish(alloc, writer, answer)
+    match convert(alloc, reader) {
+        Ok(records) => write_lines(alloc, writer, &records),
+        Err(error) => finish(alloc, writer, Err(error)),
+    }
 }

@@ -1,8 +1,15 @@
-//! Records whose lines are printed as they come, so that no more than one of them is held.
+//! Records that are looked at as they come, and whose lines are printed once all of them can be read.
 
 use crate::fault::Fault;
 use crate::input::sizes::SizeLine;
-use ds_codec::Geometry;
+use ds_codec::{Geometry, Mode};
+
+/// A record, and by which addresses it is read.
+#[derive(Debug, Drop)]
+pub struct HeldRecord {
+    pub mode: Mode,
+    pub bytes: Vec<u8>,
+}
 
 /// What lines of records tell.
 #[derive(Debug, Drop)]
@@ -12,8 +19,8 @@ pub struct Forward {
     pub geometry: Geometry,
     /// How many records there are.
     pub count: usize,
-    /// Their lines, up to the first that is refused.
-    pub text: String,
+    /// Those up to the first that is refused.
+    pub records: Vec<HeldRecord>,
     /// Why that one is refused.
     pub flaw: Option<Fault>,
     /// The digits of a line.

@@ -55,15 +55,15 @@ fn line_told(line: &[u8]) -> KeyLine
 }
 
 /// What the line of a number adds.
-fn add_line(mut told: Keys, number: usize, line: KeyLine) -> Result<Keys, CommandError>
-    ensures { Gives keys_seen result (after_key_line number (keys_seen told) (key_line_seen line)) }
+fn add_line(told: &mut Keys, number: usize, line: KeyLine) -> Result<(), CommandError>
+    ensures { Gives (λ done. keys_seen told.new) result
+        (after_key_line number (keys_seen told.old) (key_line_seen line)) }
 {
     match line {
-        KeyLine::Ignored => Ok(told),
+        KeyLine::Ignored => Ok(()),
         KeyLine::Named(key) => {
             told.keys.push(key)?;
-            at_most(told.keys.len(), MOST_KEYS)?;
-            Ok(told)
+            Ok(at_most(told.keys.len(), MOST_KEYS)?)
         }
         KeyLine::Bad => Err(CommandError::Fault(Fault::BadKeyLine(number))),
     }
@@ -72,7 +72,7 @@ fn add_line(mut told: Keys, number: usize, line: KeyLine) -> Result<Keys, Comman
 impl TakesLines for Keys {
     ghost takes = { λ number told line result. Gives keys_seen result (take_key number (keys_seen told) line) };
 
-    fn take(self, _alloc: Global, number: usize, line: &[u8]) -> Result<Keys, CommandError> {
+    fn take(&mut self, _alloc: Global, number: usize, line: &[u8]) -> Result<(), CommandError> {
         add_line(self, number, line_told(line))
     }
 }

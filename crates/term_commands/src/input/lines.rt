@@ -3,7 +3,7 @@
 ghost use Rattle.std.specs.Prelude.{◌≡◌, ◌≤◌, ◌+◌, ℕ, List, IfOk, MatchOption, Result, length, true, false};
 ghost use Rattle.std.specs.Str.{is_utf8};
 ghost use Rattle.term_commands.specs.Lines.{lines_in, is_ignored};
-ghost use Rattle.term_commands.specs.Taking.{TakesAll, TakesNumbered};
+ghost use Rattle.term_commands.specs.Taking.{TakesAll, TakesNumbered, told_then};
 ghost use Rattle.term_commands.specs.declared.fault.CommandError.{CommandError};
 
 use crate::fault::CommandError;
@@ -15,11 +15,11 @@ pub trait TakesLines: Drop {
     /// The line of a number, counted from 1, leads from what is told so far to this result.
     ghost takes: { ℕ → Self → List ℕ → Result Self CommandError → Type 0 };
 
-    /// Takes the line of a number, counted from 1.
-    fn take(self, alloc: Global, number: usize, line: &[u8]) -> Result<Self, CommandError>
+    /// Takes the line of a number, counted from 1. After an error nothing is said of what is told.
+    fn take(&mut self, alloc: Global, number: usize, line: &[u8]) -> Result<(), CommandError>
     where
         Self: Sized,
-        ensures { takes number self line.now result };
+        ensures { takes number self.old line.now (told_then self.new result) };
 }
 
 /// Takes the lines of a text in turn, of which the first has this number, up to the first fault; and tells the number of the
@@ -37,7 +37,7 @@ pub fn take_numbered<T: TakesLines>(
     let mut told = none;
     let mut number = first;
     for line in text.lines() {
-        told = told.take(alloc, number, line)?;
+        told.take(alloc, number, line)?;
         number += 1;
     }
     Ok((told, number))

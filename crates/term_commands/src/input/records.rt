@@ -115,26 +115,27 @@ pub(crate) fn line_told(
 }
 
 /// One more record.
-fn add(mut told: Records, bytes: Vec<u8>) -> Result<Records, CommandError>
-    ensures { Gives records_seen result (one_more (records_seen told) bytes.items) }
+fn add(told: &mut Records, bytes: Vec<u8>) -> Result<(), CommandError>
+    ensures { Gives (λ done. records_seen told.new) result
+        (one_more (records_seen told.old) bytes.items) }
 {
     at_most(bytes.len(), MOST_RECORD_BYTES)?;
     told.size_line = SizeLine::Refused;
     told.records.push(bytes)?;
-    at_most(told.records.len(), MOST_RECORDS)?;
-    Ok(told)
+    Ok(at_most(told.records.len(), MOST_RECORDS)?)
 }
 
 /// What the line of a number adds.
-fn add_line(mut told: Records, number: usize, line: Line) -> Result<Records, CommandError>
-    ensures { Gives records_seen result (after_line number (records_seen told) (line_seen line)) }
+fn add_line(told: &mut Records, number: usize, line: Line) -> Result<(), CommandError>
+    ensures { Gives (λ done. records_seen told.new) result
+        (after_line number (records_seen told.old) (line_seen line)) }
 {
     match line {
-        Line::Ignored => Ok(told),
+        Line::Ignored => Ok(()),
         Line::Sizes(geometry) => {
             told.size_line = SizeLine::Refused;
             told.geometry = geometry;
-            Ok(told)
+            Ok(())
         }
         Line::Record(bytes) => add(told, bytes),
         Line::Bad => Err(CommandError::Fault(Fault::BadLine(number))),
@@ -144,7 +145,7 @@ fn add_line(mut told: Records, number: usize, line: Line) -> Result<Records, Com
 impl TakesLines for Records {
     ghost takes = { λ number told line result. Gives records_seen result (take_record number (records_seen told) line) };
 
-    fn take(mut self, alloc: Global, number: usize, line: &[u8]) -> Result<Records, CommandError> {
+    fn take(&mut self, alloc: Global, number: usize, line: &[u8]) -> Result<(), CommandError> {
         let told = line_told(alloc, self.size_line, line, &mut self.digits)?;
         add_line(self, number, told)
     }

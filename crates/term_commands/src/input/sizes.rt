@@ -69,6 +69,7 @@ pub fn usual_geometry() -> Geometry
 
 /// The sizes that a line tells: `size RxC`, or `size RxC RxC` for the default and the alternate size; then ` 16` for addresses
 /// of 16 bits.
+#[inline(never)]
 fn told_geometry(line: &str) -> Option<Geometry>
     ensures { result ≡ geometry_told line.now }
 {
@@ -76,6 +77,7 @@ fn told_geometry(line: &str) -> Option<Geometry>
 }
 
 /// The sizes that a line tells where it may.
+#[inline(always)]
 pub fn told_sizes(size_line: SizeLine, line: &str) -> Option<Geometry>
     ensures { result ≡ sizes_told size_line line.now }
 {

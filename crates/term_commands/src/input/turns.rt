@@ -16,6 +16,7 @@ use crate::input::records::{Line, MOST_RECORD_BYTES, MOST_RECORDS, line_told};
 use crate::input::sizes::SizeLine;
 use std::alloc::Global;
 use std::io::Read;
+use std::mem::replace;
 
 /// The records that lines tell, turn by turn.
 #[derive(Debug, Drop)]
@@ -31,8 +32,9 @@ pub struct Turns {
 }
 
 /// One more record.
-fn add(mut told: Turns, bytes: Vec<u8>) -> Result<Turns, CommandError>
-    ensures { Gives turns_seen result (one_more (turns_seen told) bytes.items) }
+fn add(told: &mut Turns, bytes: Vec<u8>) -> Result<(), CommandError>
+    ensures { Gives (λ done. turns_seen told.new) result
+        (one_more (turns_seen told.old) bytes.items) }
 {
     at_most(bytes.len(), MOST_RECORD_BYTES)?;
     if told.count >= MOST_RECORDS {
@@ -40,29 +42,24 @@ fn add(mut told: Turns, bytes: Vec<u8>) -> Result<Turns, CommandError>
     }
     told.current.push(bytes)?;
     told.count += 1;
-    Ok(told)
+    Ok(())
 }
 
 /// The turn at hand ends.
-fn end_turn(alloc: Global, told: Turns) -> Result<Turns, CommandError>
-    ensures { Gives turns_seen result (Ok (next_turn (turns_seen told))) }
+fn end_turn(alloc: Global, told: &mut Turns) -> Result<(), CommandError>
+    ensures { Gives (λ done. turns_seen told.new) result (Ok (next_turn (turns_seen told.old))) }
 {
-    let mut ended = told.ended;
-    ended.push(told.current)?;
-    Ok(Turns {
-        ended,
-        current: Vec::new(alloc),
-        count: told.count,
-        digits: told.digits,
-    })
+    let ended = replace(&mut told.current, Vec::new(alloc));
+    Ok(told.ended.push(ended)?)
 }
 
 /// What the line of a number adds.
-fn add_line(told: Turns, number: usize, line: Line) -> Result<Turns, CommandError>
-    ensures { Gives turns_seen result (after_record number (turns_seen told) (line_seen line)) }
+fn add_line(told: &mut Turns, number: usize, line: Line) -> Result<(), CommandError>
+    ensures { Gives (λ done. turns_seen told.new) result
+        (after_record number (turns_seen told.old) (line_seen line)) }
 {
     match line {
-        Line::Ignored => Ok(told),
+        Line::Ignored => Ok(()),
         Line::Record(bytes) => add(told, bytes),
         Line::Sizes(_) | Line::Bad => Err(CommandError::Fault(Fault::BadLine(number))),
     }
@@ -71,7 +68,7 @@ fn add_line(told: Turns, number: usize, line: Line) -> Result<Turns, CommandErro
 impl TakesLines for Turns {
     ghost takes = { λ number told line result. Gives turns_seen result (take_turn_line number (turns_seen told) line) };
 
-    fn take(mut self, alloc: Global, number: usize, line: &[u8]) -> Result<Turns, CommandError> {
+    fn take(&mut self, alloc: Global, number: usize, line: &[u8]) -> Result<(), CommandError> {
         if line == b"turn".as_slice() {
             return end_turn(alloc, self);
         }

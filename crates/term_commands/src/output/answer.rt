@@ -26,7 +26,7 @@ pub struct Answer {
 
 /// Writes a text and flushes, and answers whether every byte was taken. A write that takes no byte
 /// counts as failed.
-fn write_text<W: Write>(writer: &mut W, text: &[u8]) -> bool
+pub fn write_text<W: Write>(writer: &mut W, text: &[u8]) -> bool
     ensures all { OnTrue result (Appends (W.contents writer.old) (W.contents writer.new) text.now) }
     ensures front { AppendsFront (W.contents writer.old) (W.contents writer.new) text.now }
 {

@@ -1,9 +1,9 @@
 use Rattle.term_commands.specs.Back.{back}
 use Rattle.term_commands.specs.Backward.{answer_to}
-use Rattle.term_commands.specs.Held.{answer_seen}
+use Rattle.term_commands.specs.Held.{written_printed}
 use Rattle.term_commands.proofs.Backward.{written_as_they_end}
 use Rattle.term_commands.proofs.InTurn.{due_by}
 use Rattle.term_commands.proofs.commands.back.back.Goals as goal
 
 pub returns : goal.returns
-returns g c = due_by answer_seen (g.R.Read.remaining c.args.reader.now) answer_to back c.written_read.result written_as_they_end c.written_read.ensures
+returns g c = due_by written_printed (g.R.Read.remaining c.args.reader.now) answer_to back c.read_held.result written_as_they_end c.read_held.ensures
