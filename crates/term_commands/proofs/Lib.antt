@@ -12,6 +12,7 @@ pub mod Forward
 pub mod Answered
 pub mod Checked
 pub mod PlainLines
+pub mod SaidPlain
 pub mod ToldSizes
 pub mod Converted
 pub mod Spaces
