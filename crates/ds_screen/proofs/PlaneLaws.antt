@@ -232,38 +232,6 @@ planes_filled codes now_codes kinds now_kinds from to code kind c is len in_code
     ∙ ap (cond (leb from p && ltb p to) (Char c)) (sym (cell_at-planes codes kinds p (omega (arith, length-planes codes kinds)))))
 
 -- ---- a part that is copied
-pub copied_none : (xs run : List ℕ) (at from p d : ℕ) → get_or xs p d ≡ cond (leb at p && ltb p (at + 0)) (get_or run (from + (p - at)) 0) (get_or xs p d)
-copied_none xs run at from p d =
-    let none : at + 0 ≡ at = omega arith in
-    part_none xs at (get_or run (from + (p - at)) 0) p d ∙ ap (λ e. cond (leb at p && ltb p e) (get_or run (from + (p - at)) 0) (get_or xs p d)) (sym none)
-
-pub copied_more : (old now run : List ℕ) (at from i : ℕ) → at + i < length now
-    → ((p d : ℕ) → get_or now p d ≡ cond (leb at p && ltb p (at + i)) (get_or run (from + (p - at)) 0) (get_or old p d))
-    → (p d : ℕ) → get_or (set now (at + i) (get_or run (from + i) 0)) p d ≡ cond (leb at p && ltb p (at + (i + 1))) (get_or run (from + (p - at)) 0) (get_or old p d)
-copied_more old now run at from i lt so p d =
-    let x : ℕ = get_or run (from + i) 0 in
-    let y : ℕ = get_or run (from + (p - at)) 0 in
-    let next : at + (i + 1) ≡ at + i + 1 = omega arith in
-    elim (cases_eq p (at + i)) [
-      | inl same ↦
-          let there : i ≡ p - at = omega (arith, same) in
-          ap (λ k. get_or (set now (at + i) x) k d) same ∙ get_or-set_same now (at + i) x d lt ∙ ap (λ k. get_or run (from + k) 0) there
-          ∙ sym (ap (λ t. cond (t && ltb p (at + (i + 1))) y (get_or old p d)) (le-leb at p (omega (arith, same)))
-          ∙ ap (λ t. cond t y (get_or old p d)) (lt-ltb p (at + (i + 1)) (omega (arith, same))))
-      | inr apart ↦
-          get_or-set_other now (at + i) p x d apart ∙ so p d
-          ∙ ap (λ t. cond t y (get_or old p d)) (sym (both_ends at (at + i) p (omega arith) apart) ∙ ap (λ e. leb at p && ltb p e) (sym next))
-    ]
-
-pub copied_one : (xs run : List ℕ) (at from : ℕ) → at < length xs
-    → (p d : ℕ) → get_or (set xs at (get_or run from 0)) p d ≡ cond (leb at p && ltb p (at + 1)) (get_or run (from + (p - at)) 0) (get_or xs p d)
-copied_one xs run at from lt p d =
-    let here : at ≡ at + 0 = omega arith in
-    let first : from ≡ from + 0 = omega arith in
-    ap (λ k. get_or (set xs k (get_or run from 0)) p d) here
-    ∙ ap (λ k. get_or (set xs (at + 0) (get_or run k 0)) p d) first
-    ∙ copied_more xs xs run at from 0 (omega (arith, lt)) (λ q e. copied_none xs run at from q e) p d
-
 pub written_each : (codes now_codes run : List ℕ) (kinds now_kinds : List Kind) (at from count p : ℕ)
     → ((q d : ℕ) → get_or now_codes q d ≡ cond (leb at q && ltb q (at + count)) (get_or run (from + (q - at)) 0) (get_or codes q d))
     → ((q : ℕ) (d : Kind) → get_or now_kinds q d ≡ cond (leb at q && ltb q (at + count)) Plain (get_or kinds q d))

@@ -82,9 +82,7 @@ fn copy_part(items: &mut [u8], at: usize, run: &[u8], from: usize, count: usize)
         items[at] = run[from];
         return;
     }
-    'indexes: for i in 0..count {
-        items[at + i] = run[from + i];
-    }
+    items[at..at + count].copy_from_slice(&run[from..from + count]);
 }
 
 impl Planes {
