@@ -8,7 +8,6 @@ pub mod Taking
 pub mod InTurn
 pub mod Joined
 pub mod Backward
-pub mod Forward
 pub mod Answered
 pub mod Checked
 pub mod PlainLines

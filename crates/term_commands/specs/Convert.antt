@@ -22,11 +22,12 @@ abbrev pub lines_printed : Mode → ℕ → List (List ℕ) → Result (List ℕ
 lines_printed mode index [] = Ok []
 lines_printed mode index (bytes ∷ others) = joined (lines_or_refusal index (read_of mode bytes)) (lines_printed mode (index + 1) others)
 
+-- the same as it is printed
+abbrev pub lines_told : Mode → List (List ℕ) → Result Printed Fault
+lines_told mode records = lines_printed mode 0 records >>= λ lines. Ok (printed lines Done)
+
 abbrev pub convert : List ℕ → Result Printed Fault
-convert input = do
-  told ← records_in Allowed input
-  lines ← lines_printed told.geometry.mode 0 told.records
-  Ok (printed lines Done)
+convert input = records_in Allowed input >>= λ told. lines_told told.geometry.mode told.records
 
 -- what `convert` prints for an input, and its status
 abbrev pub printed_convert : List ℕ → Printed

@@ -16,7 +16,6 @@ pub mod DemoLines
 pub mod Check
 pub mod Press
 pub mod Convert
-pub mod Forward
 pub mod Back
 pub mod Backward
 pub mod Held
@@ -27,5 +26,4 @@ pub mod SaysDrafts
 pub mod Law
 pub mod Turns
 pub mod TurnsHeld
-pub mod ForwardHeld
 pub mod Talk

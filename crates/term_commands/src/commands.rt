@@ -4,7 +4,6 @@ mod back;
 pub mod backward;
 mod check;
 mod convert;
-pub mod forward;
 mod press;
 mod show;
 mod talk;
