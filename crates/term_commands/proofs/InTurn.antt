@@ -11,7 +11,7 @@ use Rattle.term_commands.specs.declared.fault.CommandError.TheVariants.{Fault as
 use Rattle.term_commands.specs.Fault.{Gives, GivesOrFails}
 use Rattle.term_commands.specs.Lines.{lines_in, within_limit}
 use Rattle.term_commands.specs.NextLine.{ReadsLines}
-use Rattle.term_commands.specs.Taking.{taken_in, TakesAll, TakesNumbered, TakesInput, CountedSoFar, TakenSoFar, EndsAs}
+use Rattle.term_commands.specs.Taking.{taken_in, TakesAll, TakesNumbered, TakesInput, TakenSoFar, EndsAs}
 use Rattle.term_commands.proofs.Taking.{gives_taken}
 
 -- what is read of what is left
@@ -26,42 +26,6 @@ apart bytes lines rest short (inr long) = absurd (omega arith)
 
 both_lengths : (bytes lines rest : List ℕ) → bytes ≡ lines ++ rest → length bytes ≡ length lines + length rest
 both_lengths bytes lines rest is = ap length is ∙ length-append lines rest
-
--- ---- counting
-
-module _ (whole now new : Option (List ℕ)) (left most : ℕ) (lines : List ℕ) where
-  pub counts_more : CountedSoFar whole now left most → IfSome now (λ bytes. ReadsLines bytes true lines new) → length lines ≤ left
-      → CountedSoFar whole new (left - length lines) most
-  counts_more so reads fits =
-      elim whole as (λ w. CountedSoFar w now left most → CountedSoFar w new (left - length lines) most) [
-        | None ↦ λ so. tt
-        | Some input ↦ λ so.
-            let read = read_of now so.0 lines true new so.1 reads in
-            (read.0, read.1, omega (arith, so.2, both_lengths so.0 lines read.0 read.2))
-      ] so
-
-  pub counts_over : CountedSoFar whole now left most → IfSome now (λ bytes. ReadsLines bytes true lines new) → left < length lines
-      → IfSome whole (λ input. false ≡ nat_le (length input) most)
-  counts_over so reads over =
-      elim whole as (λ w. CountedSoFar w now left most → IfSome w (λ input. false ≡ nat_le (length input) most)) [
-        | None ↦ λ so. tt
-        | Some input ↦ λ so.
-            let read = read_of now so.0 lines true new so.1 reads in
-            sym (lt-leb (length input) most (omega (arith, so.2, both_lengths so.0 lines read.0 read.2)))
-      ] so
-
-  pub counts_all : CountedSoFar whole now left most → IfSome now (λ bytes. ReadsLines bytes false lines new) → IfSome whole (λ input. true ≡ nat_le (length input) most)
-  counts_all so reads =
-      elim whole as (λ w. CountedSoFar w now left most → IfSome w (λ input. true ≡ nat_le (length input) most)) [
-        | None ↦ λ so. tt
-        | Some input ↦ λ so.
-            let none : length so.0 ≡ 0 = ap length (read_of now so.0 lines false new so.1 reads) in
-            sym (le-leb (length input) most (omega (arith, so.2, none)))
-      ] so
-
-pub counts_none : (whole : Option (List ℕ)) (most : ℕ) → CountedSoFar whole whole most most
-counts_none None most = tt
-counts_none (Some input) most = (input, refl, omega arith)
 
 -- ---- taking
 
@@ -106,16 +70,6 @@ module _ {T : Type 0} (takes : ℕ → T → List ℕ → Result T CommandError 
                     so.3 result (subst (λ z. TakesAll takes number told z result) (sym breaks)
                     (takes_both number told next (lines_in lines) (lines_in read.0) result goes.0 (subst (λ n. TakesAll takes n next (lines_in read.0) result) goes.1 rest))),
               )
-        ] so
-
-    pub takes_too_long : TakenSoFar takes none whole now number told left → IfSome now (λ bytes. ReadsLines bytes true lines new) → left < length lines
-        → IfSome whole (λ input. TakesInput takes none input (Err (Told TooLong)))
-    takes_too_long so reads over =
-        elim whole as (λ w. TakenSoFar takes none w now number told left → IfSome w (λ input. TakesInput takes none input (Err (Told TooLong)))) [
-          | None ↦ λ so. tt
-          | Some input ↦ λ so.
-              let read = read_of now so.0 lines true new so.1 reads in
-              inl (omega (arith, so.2, both_lengths so.0 lines read.0 read.2), refl)
         ] so
 
     pub takes_all : TakenSoFar takes none whole now number told left → IfSome now (λ bytes. ReadsLines bytes false lines new) → IfSome whole (λ input. TakesInput takes none input (Ok told))
