@@ -84,7 +84,7 @@ refuses i digits (k, inside, other) = none_from (decode_pairs i digits) (λ byte
 -- ---- parts of a text
 
 -- bytes that are joined of the digits' values
-spelled : (digits values bytes : List ℕ) (n : ℕ) → AreValues digits values (2 * n) → AreJoined values bytes n → AreSpelled digits bytes n
+pub spelled : (digits values bytes : List ℕ) (n : ℕ) → AreValues digits values (2 * n) → AreJoined values bytes n → AreSpelled digits bytes n
 spelled digits values bytes n values_are joined k below =
     of_digits _ _ _ _ (values_are (2 * k) (omega (arith, below))) (values_are (2 * k + 1) (omega (arith, below)))
     ∙ ap (λ byte. Some byte) (sym (joined k below))
@@ -139,26 +139,26 @@ other_in digits m start (k, inside, other) =
 -- ---- digits with zeros after them
 
 abbrev pub zeros_behind : ℕ → List ℕ → List ℕ
-zeros_behind gone digits = put_mid 0 gone (replicate 64 48) digits
+zeros_behind gone digits = put_mid 0 gone (replicate 32 48) digits
 
 padded_front : (digits : List ℕ) (gone k : ℕ) → k < length digits → slice_index (zeros_behind gone digits) k ≡ slice_index digits k
 padded_front digits gone k inside = get_or_append_left digits _ 0 k inside
 
-padded_behind : (digits : List ℕ) (k : ℕ) → length digits ≤ k → k < 64 → slice_index (zeros_behind (length digits) digits) k ≡ 48
+padded_behind : (digits : List ℕ) (k : ℕ) → length digits ≤ k → k < 32 → slice_index (zeros_behind (length digits) digits) k ≡ 48
 padded_behind digits k behind inside =
     let here : length digits + (k - length digits) ≡ k = omega (arith, behind) in
-    get_or-append_right digits (drop (length digits) (replicate 64 48)) (length digits) k 0 refl behind
-    ∙ get_or-drop (length digits) (replicate 64 48) (k - length digits) 0
-    ∙ ap (slice_index (replicate 64 48)) here ∙ get_or-replicate 64 k 48 0 inside
+    get_or-append_right digits (drop (length digits) (replicate 32 48)) (length digits) k 0 refl behind
+    ∙ get_or-drop (length digits) (replicate 32 48) (k - length digits) 0
+    ∙ ap (slice_index (replicate 32 48)) here ∙ get_or-replicate 32 k 48 0 inside
 
-length-padded : (digits : List ℕ) → length digits ≤ 64 → length (zeros_behind (length digits) digits) ≡ 64
+length-padded : (digits : List ℕ) → length digits ≤ 32 → length (zeros_behind (length digits) digits) ≡ 32
 length-padded digits few =
-    let all = length-append {A = ℕ} digits (drop (length digits) (replicate 64 48)) in
-    let rest = length-drop {A = ℕ} (length digits) (replicate 64 48) in
-    let zeros = length-replicate {A = ℕ} 64 48 in
+    let all = length-append {A = ℕ} digits (drop (length digits) (replicate 32 48)) in
+    let rest = length-drop {A = ℕ} (length digits) (replicate 32 48) in
+    let zeros = length-replicate {A = ℕ} 32 48 in
     omega (arith, all, rest, zeros, few)
 
-other_padded : (digits : List ℕ) → length digits ≤ 64 → HasOther (zeros_behind (length digits) digits) → HasOther digits
+other_padded : (digits : List ℕ) → length digits ≤ 32 → HasOther (zeros_behind (length digits) digits) → HasOther digits
 other_padded digits few (k, inside, other) = elim (cases_lt k (length digits)) [
   | inl early ↦ (k, early, rw (padded_front digits (length digits) k early) at other)
   | inr late ↦
@@ -168,12 +168,12 @@ other_padded digits few (k, inside, other) = elim (cases_lt k (length digits)) [
 ]
 
 -- what is no digit is not among the zeros
-pub other_in_front : (digits front : List ℕ) (gone : ℕ) → front ≡ digits → gone ≡ length digits → length digits ≤ 64 → HasOther (zeros_behind gone front) → HasOther digits
+pub other_in_front : (digits front : List ℕ) (gone : ℕ) → front ≡ digits → gone ≡ length digits → length digits ≤ 32 → HasOther (zeros_behind gone front) → HasOther digits
 other_in_front digits front gone same long few others = other_padded digits few (rw (same, long) at others)
 
 -- the front of the joined bytes is what the digits spell
-pub part_spelled : (digits front values joined bytes : List ℕ) (gone n : ℕ) → front ≡ digits → gone ≡ length digits → length digits ≡ 2 * n → n ≤ 32
-    → AreValues (zeros_behind gone front) values (length (zeros_behind gone front)) → AreJoined values joined 32 → bytes ≡ take n joined → AreSpelled digits bytes n
+pub part_spelled : (digits front values joined bytes : List ℕ) (gone n : ℕ) → front ≡ digits → gone ≡ length digits → length digits ≡ 2 * n → n ≤ 16
+    → AreValues (zeros_behind gone front) values (length (zeros_behind gone front)) → AreJoined values joined 16 → bytes ≡ take n joined → AreSpelled digits bytes n
 part_spelled digits front values joined bytes gone n same long two few values_are joined_are cut =
     let known : AreValues (zeros_behind (length digits) digits) values (length (zeros_behind (length digits) digits)) = rw (same, long) at values_are in
     let all = length-padded digits (omega (arith, two, few)) in

@@ -1,15 +1,15 @@
--- A digit's value, by two tests without a branch.
-use Rattle.std.proofs.Common.{◌≡◌, ℕ, zero, suc, ◌+◌, ◌%◌, ◌<◌, ◌≤◌, ◌&&◌, min, eqb, nat_le, nat_lt, Bool, true, cond, bit_or, arith, refl, ap, inl, inr}
+-- A digit's value, in two ways without a branch.
+use Rattle.std.proofs.Common.{◌≡◌, ℕ, zero, suc, ◌+◌, ◌-◌, ◌%◌, ◌<◌, ◌≤◌, ◌&&◌, min, eqb, nat_le, nat_lt, Bool, true, bit_or, arith, refl, ap, inl, inr}
 use Rattle.std.proofs.lemmas.Bool.{and_parts, cases_lt, eqb-true, leb-true, ltb-true}
 use Rattle.std.specs.Prelude.{Option, Some, None}
 use Rattle.hex.specs.Hex.{hex_digit_value}
 
--- what the two tests give
+-- what the two ways give
 abbrev pub by_number : ℕ → ℕ
-by_number digit = cond (nat_lt ((digit + 208) % 256) 10) ((digit + 208) % 256) 255
+by_number digit = ((digit + 198) % 256 - 6 + 16) % 256
 
 abbrev pub by_letter : ℕ → ℕ
-by_letter digit = cond (nat_lt ((bit_or digit 32 + 159) % 256) 6) ((bit_or digit 32 + 159) % 256 + 10) 255
+by_letter digit = min ((bit_or digit 32 + 159) % 256 + 10) 255
 
 -- the value where there is one, and more than 15 where there is none
 abbrev pub IsValue : Option ℕ → ℕ → Type 0

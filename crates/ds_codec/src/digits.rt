@@ -10,6 +10,9 @@ use std::alloc::{AllocError, Global};
 /// How many bytes are worked out together.
 const PART: usize = 32;
 
+/// The last ones are worked out together up to so many.
+const FEW: usize = 16;
+
 /// The value of a hexadecimal digit, of either case, and more than 15 for a byte that is none. It has no branch, so
 /// that many can be worked out together.
 #[inline(always)]
@@ -17,11 +20,13 @@ fn value_of(digit: u8) -> u8
     ensures some { result < 16 → hex_digit_value digit ≡ Some result }
     ensures none { 16 ≤ result → hex_digit_value digit ≡ None }
 {
-    let number = digit.wrapping_sub(0x30);
-    let letter = (digit | 0x20).wrapping_sub(0x61);
-    let by_number = if number < 10 { number } else { 255 };
-    let by_letter = if letter < 6 { letter + 10 } else { 255 };
-    by_number.min(by_letter)
+    // `0` to `9` become F6 to FF and then F0 to F9, every other byte something below F0.
+    let number = digit
+        .wrapping_add(0xC6)
+        .saturating_sub(6)
+        .wrapping_sub(0xF0);
+    let letter = (digit | 0x20).wrapping_sub(0x61).saturating_add(10);
+    number.min(letter)
 }
 
 /// The byte of two hexadecimal digits, of either case; `None` where one of them is no digit.
@@ -68,25 +73,62 @@ fn store_joined(bytes: &mut [u8], values: &[u8])
     }
 }
 
-/// Stores the bytes that the digits of one part spell, and tells whether all of them are digits.
+/// Stores the bytes that the digits of a whole part spell, and tells whether all of them are digits. All is worked out in
+/// local arrays, of which the compiler knows that nothing else changes them.
 #[inline(always)]
-fn store_part(bytes: &mut [u8], digits: &[u8]) -> bool
+fn store_whole(bytes: &mut [u8], digits: &[u8]) -> bool
     requires two { length digits.now ≡ 2 * length bytes.old }
-    requires few { length bytes.old ≤ 32 }
+    requires whole { length bytes.old ≡ 32 }
     ensures whole { length bytes.new ≡ length bytes.old }
     ensures digits { (result ≡ true) → AreSpelled digits.now bytes.new (length bytes.new) }
     ensures others { (result ≡ false) → HasOther digits.now }
 {
-    let mut padded = [b'0'; 2 * PART];
-    padded[..digits.len()].copy_from_slice(digits);
+    let mut read = [0u8; 2 * PART];
+    read.copy_from_slice(digits);
     let mut values = [0u8; 2 * PART];
-    if 16 <= store_values(&mut values, &padded) {
+    if 16 <= store_values(&mut values, &read) {
         return false;
     }
     let mut joined = [0u8; PART];
     store_joined(&mut joined, &values);
+    bytes.copy_from_slice(&joined);
+    true
+}
+
+/// The same of a few digits, which are padded.
+#[inline(always)]
+fn store_few(bytes: &mut [u8], digits: &[u8]) -> bool
+    requires two { length digits.now ≡ 2 * length bytes.old }
+    requires few { length bytes.old ≤ 16 }
+    ensures whole { length bytes.new ≡ length bytes.old }
+    ensures digits { (result ≡ true) → AreSpelled digits.now bytes.new (length bytes.new) }
+    ensures others { (result ≡ false) → HasOther digits.now }
+{
+    let mut padded = [b'0'; 2 * FEW];
+    padded[..digits.len()].copy_from_slice(digits);
+    let mut values = [0u8; 2 * FEW];
+    if 16 <= store_values(&mut values, &padded) {
+        return false;
+    }
+    let mut joined = [0u8; FEW];
+    store_joined(&mut joined, &values);
     bytes.copy_from_slice(&joined[..bytes.len()]);
     true
+}
+
+/// The same of digits that are no whole part.
+fn store_rest(bytes: &mut [u8], digits: &[u8]) -> bool
+    requires two { length digits.now ≡ 2 * length bytes.old }
+    requires few { length bytes.old < 32 }
+    ensures whole { length bytes.new ≡ length bytes.old }
+    ensures digits { (result ≡ true) → AreSpelled digits.now bytes.new (length bytes.new) }
+    ensures others { (result ≡ false) → HasOther digits.now }
+{
+    if bytes.len() <= FEW {
+        return store_few(bytes, digits);
+    }
+    store_few(&mut bytes[..FEW], &digits[..2 * FEW])
+        && store_few(&mut bytes[FEW..], &digits[2 * FEW..])
 }
 
 /// Stores the bytes that digits spell, part by part, and tells whether all of them are digits.
@@ -99,7 +141,7 @@ fn store_bytes(bytes: &mut [u8], digits: &[u8]) -> bool
     let parts = bytes.len() / PART;
     'parts: for part in 0..parts {
         let at = PART * part;
-        if !store_part(
+        if !store_whole(
             &mut bytes[at..at + PART],
             &digits[2 * at..2 * at + 2 * PART],
         ) {
@@ -107,7 +149,7 @@ fn store_bytes(bytes: &mut [u8], digits: &[u8]) -> bool
         }
     }
     let at = PART * parts;
-    store_part(&mut bytes[at..], &digits[2 * at..])
+    store_rest(&mut bytes[at..], &digits[2 * at..])
 }
 
 /// The bytes of hexadecimal digits, of either case, two for each; `None` where the number of digits is odd or one of

@@ -29,4 +29,4 @@ pub use order::{Order, OrderCode, Placed};
 pub use record::{Orders, Record, one_reading};
 pub use refused::{Refused, Why};
 pub use size::{Mode, Size};
-pub use write::{Unwritable, push_character, write_record};
+pub use write::{Unwritable, push_character, push_order, write_record};

@@ -269,8 +269,13 @@ fn is_valid(order: &Order<'_>)
     }
 }
 
-/// An order at the end, unless it has a flaw. Whether it is text is told for the next one.
-fn push_order(
+/// Adds an order as it is written, unless it has a flaw, its address for a buffer of so many cells; and tells whether it is
+/// text, for the order after it. `k` is its number in its record, counted from 0.
+///
+/// # Errors
+///
+/// Its flaw; out of memory.
+pub fn push_order(
     out: &mut Vec<u8>,
     order: &Order<'_>,
     after_text: bool,

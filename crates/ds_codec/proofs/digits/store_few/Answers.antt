@@ -1,6 +1,6 @@
 use Rattle.std.proofs.Common.{length, arith}
 use Rattle.ds_codec.proofs.DigitPairs.{other_in_front, part_spelled}
-use Rattle.ds_codec.proofs.digits.store_part.Goals as goal
+use Rattle.ds_codec.proofs.digits.store_few.Goals as goal
 
 pub returns-then-store_values-ge16-clause-others :
     goal.returns-then-store_values-ge16-clause-others
