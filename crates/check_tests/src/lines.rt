@@ -21,35 +21,51 @@ fn push_flaw(out: &mut String, flaw: Unwritable) -> Result<(), AllocError> {
     push_length(out, order)
 }
 
+/// A command and orders, as lines tell them.
+#[derive(Drop)]
+struct Recorded {
+    command: Command,
+    orders: Vec<OwnedOrder>,
+}
+
+/// The record of orders in turn, for 1,920 cells.
+fn draft_of(alloc: Global, recorded: &Recorded) -> Result<Draft, AllocError> {
+    let mut draft = Draft::new(alloc, recorded.command, Mode::Bits14, 1_920)?;
+    for order in &recorded.orders {
+        draft.push(&order.lend())?;
+    }
+    Ok(draft)
+}
+
 /// The bytes of a record that is written for 1,920 cells, or the flaw and its order.
-fn push_written(alloc: Global, out: &mut String, draft: &Draft) -> Result<(), AllocError> {
-    match draft.write(alloc, Mode::Bits14, 1_920) {
+fn push_written(alloc: Global, out: &mut String, recorded: &Recorded) -> Result<(), AllocError> {
+    match draft_of(alloc, recorded)?.written() {
         Ok(bytes) => push_bytes(out, bytes.as_slice()),
         Err(flaw) => push_flaw(out, flaw),
     }
 }
 
 /// An Erase/Write of no order.
-fn new_draft(alloc: Global) -> Draft {
-    Draft {
+fn no_orders(alloc: Global) -> Recorded {
+    Recorded {
         command: Command::EraseWrite(0xC2),
         orders: Vec::new(alloc),
     }
 }
 
 /// Adds what a line says to a record; whether it says anything.
-fn take_line(alloc: Global, draft: &mut Draft, line: &str) -> Result<bool> {
+fn take_line(alloc: Global, recorded: &mut Recorded, line: &str) -> Result<bool> {
     match read_line(alloc, line.as_bytes())? {
-        Some(Told::Command(command)) => draft.command = command,
-        Some(Told::Order(order)) => draft.orders.push(order)?,
+        Some(Told::Command(command)) => recorded.command = command,
+        Some(Told::Order(order)) => recorded.orders.push(order)?,
         None => return Ok(false),
     }
     Ok(true)
 }
 
 /// Adds what a line must say to a record.
-fn take_order(alloc: Global, draft: &mut Draft, line: &str) -> Result<()> {
-    if take_line(alloc, draft, line)? {
+fn take_order(alloc: Global, recorded: &mut Recorded, line: &str) -> Result<()> {
+    if take_line(alloc, recorded, line)? {
         return Ok(());
     }
     None.context("an order line")
@@ -58,37 +74,37 @@ fn take_order(alloc: Global, draft: &mut Draft, line: &str) -> Result<()> {
 /// What one line between bars says: a command alone, or an order of an Erase/Write.
 fn push_line(alloc: Global, out: &mut String, words: &str) -> Result<()> {
     let line = between_bars(words)?;
-    let mut draft = new_draft(alloc);
-    if !take_line(alloc, &mut draft, line)? {
+    let mut recorded = no_orders(alloc);
+    if !take_line(alloc, &mut recorded, line)? {
         return Ok(out.push_str("nothing")?);
     }
-    Ok(push_written(alloc, out, &draft)?)
+    Ok(push_written(alloc, out, &recorded)?)
 }
 
 /// A record of lines that are parted by commas.
 fn push_draft(alloc: Global, out: &mut String, words: &str) -> Result<()> {
-    let mut draft = new_draft(alloc);
+    let mut recorded = no_orders(alloc);
     for line in words.split(", ") {
-        take_order(alloc, &mut draft, line)?;
+        take_order(alloc, &mut recorded, line)?;
     }
-    Ok(push_written(alloc, out, &draft)?)
+    Ok(push_written(alloc, out, &recorded)?)
 }
 
 /// A record of one line so many times.
-fn draft_of(alloc: Global, line: &str, count: u32) -> Result<Draft> {
-    let mut draft = new_draft(alloc);
+fn recorded_times(alloc: Global, line: &str, count: u32) -> Result<Recorded> {
+    let mut recorded = no_orders(alloc);
     for _ in 0..count {
-        let _taken = take_line(alloc, &mut draft, line)?;
+        let _taken = take_line(alloc, &mut recorded, line)?;
     }
-    Ok(draft)
+    Ok(recorded)
 }
 
 fn push_many(alloc: Global, out: &mut String, words: &str) -> Result<()> {
     let (count, line) = cut_word(words)?;
-    let draft = draft_of(alloc, line, number(count)?)?;
-    push_length(out, draft.orders.len())?;
+    let recorded = recorded_times(alloc, line, number(count)?)?;
+    push_length(out, recorded.orders.len())?;
     out.push_str(" orders, ")?;
-    Ok(push_written(alloc, out, &draft)?)
+    Ok(push_written(alloc, out, &recorded)?)
 }
 
 /// The lines of a record's bytes.
@@ -115,18 +131,18 @@ fn push_printed(alloc: Global, out: &mut String, bytes: &[u8]) -> Result<()> {
 }
 
 /// The record of lines.
-fn draft_of_lines(alloc: Global, lines: &str) -> Result<Draft> {
-    let mut draft = new_draft(alloc);
+fn recorded_of(alloc: Global, lines: &str) -> Result<Recorded> {
+    let mut recorded = no_orders(alloc);
     for line in lines.lines() {
-        let _taken = take_line(alloc, &mut draft, line)?;
+        let _taken = take_line(alloc, &mut recorded, line)?;
     }
-    Ok(draft)
+    Ok(recorded)
 }
 
 /// How many orders a record has, and whether it is written as these bytes.
-fn push_same(alloc: Global, out: &mut String, draft: &Draft, bytes: &[u8]) -> Result<()> {
-    push_length(out, draft.orders.len())?;
-    let written = draft.write(alloc, Mode::Bits14, 1_920)?;
+fn push_same(alloc: Global, out: &mut String, recorded: &Recorded, bytes: &[u8]) -> Result<()> {
+    push_length(out, recorded.orders.len())?;
+    let written = draft_of(alloc, recorded)?.written()?;
     let is_same = written.as_slice() == bytes;
     Ok(out.push_str(if is_same {
         " orders, the same bytes"
@@ -140,8 +156,8 @@ fn push_again(alloc: Global, out: &mut String, bytes: &[u8]) -> Result<()> {
     let lines = lines_of(alloc, bytes)?;
     push_length(out, lines.as_str().len())?;
     out.push_str(" letters, ")?;
-    let draft = draft_of_lines(alloc, lines.as_str())?;
-    push_same(alloc, out, &draft, bytes)
+    let recorded = recorded_of(alloc, lines.as_str())?;
+    push_same(alloc, out, &recorded, bytes)
 }
 
 /// The order of a line.

@@ -7,3 +7,4 @@ pub mod Spelled
 pub mod Inside
 pub mod Said
 pub mod Frequent
+pub mod Halves

@@ -1,5 +1,5 @@
 -- A record as lines of words: the command, then an order a line, then an empty line.
-use Rattle.std.specs.Prelude.{ℕ, ◌/◌, ◌%◌, true, List, [], ◌∷◌, ◌++◌, codes, if◌then◌else◌}
+use Rattle.std.specs.Prelude.{◌≡◌, ◌<◌, ◌+◌, ◌*◌, ℕ, ◌/◌, ◌%◌, true, slice_index, List, [], ◌∷◌, ◌++◌, codes, if◌then◌else◌}
 use Rattle.std.specs.Fmt.{decimal, digit_glyph}
 use Rattle.std.specs.List.{flat_map}
 use Rattle.hex.specs.Hex.{encode_upper}
@@ -57,3 +57,8 @@ order_line site = order_words site.order ++ codes "\n"
 -- the command, each order, and an empty line
 abbrev pub record_lines : Message → List ℕ
 record_lines message = (command_words message.command ++ codes "\n") ++ (flat_map order_line message.orders ++ codes "\n")
+
+-- each two of the first 2 * n digits are a high one and a low one
+abbrev pub AreJoined : List ℕ → List ℕ → List ℕ → ℕ → Type 0
+AreJoined high low digits n =
+    (k : ℕ) → k < n → (slice_index digits (2 * k) ≡ slice_index high k) × (slice_index digits (2 * k + 1) ≡ slice_index low k)

@@ -1,5 +1,6 @@
 //! Laws on the lines of records.
 
+ghost use Rattle.order_lines.specs.Draft.{OrdersAreWrittenInTurn};
 ghost use Rattle.order_lines.specs.Laws.{LinesTellAgain, RecordsAreWrittenAgain, OnlyInsideIsWritten};
 ghost use Rattle.order_lines.specs.Says.{TellsWhatIsSaid};
 
@@ -20,4 +21,10 @@ pub fn record_law()
 /// its contract is the law.
 pub fn told_law()
     ensures { TellsWhatIsSaid }
+{}
+
+/// What a draft's orders are written as, one after the other, is what is written of the whole record; so is why it cannot
+/// be. It does nothing: its contract is the law.
+pub fn draft_law()
+    ensures { OrdersAreWrittenInTurn }
 {}

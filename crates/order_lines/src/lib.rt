@@ -9,7 +9,7 @@ mod told;
 mod words;
 
 pub use draft::Draft;
-pub use law::{line_law, record_law, told_law};
+pub use law::{draft_law, line_law, record_law, told_law};
 pub use owned_order::OwnedOrder;
 pub use print::{push_bytes, push_hex, push_record};
 pub use told::{Told, read_line};

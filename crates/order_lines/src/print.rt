@@ -1,13 +1,13 @@
 //! A record as lines of words.
 
-ghost use Rattle.std.specs.Prelude.{◌≡◌, ◌++◌, ◌≤◌, ◌<◌, ◌*◌, ◌/◌, ◌%◌, true, length, OnOk, codes};
+ghost use Rattle.std.specs.Prelude.{◌≡◌, ◌++◌, ◌≤◌, ◌<◌, ◌*◌, ◌/◌, ◌%◌, ℕ, true, length, slice_index, OnOk, codes};
 ghost use Rattle.std.specs.String.{string_bytes};
 ghost use Rattle.std.specs.Str.{IsAscii};
 ghost use Rattle.std.specs.List.{flat_map};
 ghost use Rattle.std.specs.Fmt.{decimal, digit_glyph};
-ghost use Rattle.hex.specs.Hex.{encode_upper};
+ghost use Rattle.hex.specs.Hex.{encode_upper, upper_digits};
 ghost use Rattle.ds_codec.specs.Order.{item_of, site_of, start_field, text};
-ghost use Rattle.order_lines.specs.Print.{hex_byte, pair_word, pair_words, character_word, order_words, command_words, order_line, record_lines};
+ghost use Rattle.order_lines.specs.Print.{hex_byte, pair_word, pair_words, character_word, order_words, command_words, order_line, record_lines, AreJoined};
 
 use ds_codec::{Char, Command, Order, Placed, Record};
 use std::alloc::AllocError;
@@ -23,7 +23,8 @@ fn digit(value: u8) -> u8
     requires { value < 16 }
     ensures { result ≡ digit_glyph true value }
 {
-    if value < 10 { value + b'0' } else { value + 55 }
+    let to_letter = if value < 10 { 0 } else { 7 };
+    value + b'0' + to_letter
 }
 
 /// The digits of a byte, the high one first.
@@ -50,19 +51,60 @@ pub fn push_hex(out: &mut String, byte: u8) -> Result<(), AllocError>
     push_digits(out, &[high, low])
 }
 
-/// Stores the digits of bytes, two for each. Inlined, so that at an array its number of turns is known.
+/// Stores the high digit and the low one of each byte. Inlined, so that at arrays its number of turns is known.
 #[inline(always)]
-fn store_digits(digits: &mut [u8], bytes: &[u8])
-    requires { length digits.old ≡ 2 * length bytes.now }
-    ensures { digits.new ≡ encode_upper bytes.now }
+fn store_halves(high: &mut [u8], low: &mut [u8], bytes: &[u8])
+    requires high { length high.old ≡ length bytes.now }
+    requires low { length low.old ≡ length bytes.now }
+    ensures whole { (length high.new ≡ length bytes.now) × (length low.new ≡ length bytes.now) }
+    ensures high { (k : ℕ) → k < length bytes.now
+        → slice_index high.new k ≡ slice_index upper_digits (slice_index bytes.now k / 16) }
+    ensures low { (k : ℕ) → k < length bytes.now
+        → slice_index low.new k ≡ slice_index upper_digits (slice_index bytes.now k % 16) }
 {
-    'bytes: for i in 0..bytes.len() {
-        let byte = bytes[i];
-        digits[2 * i] = digit(byte / 16);
-        digits[2 * i + 1] = digit(byte % 16);
+    'bytes: for i in 0..high.len() {
+        high[i] = digit(bytes[i] / 16);
+        low[i] = digit(bytes[i] % 16);
     }
 }
 
+/// Stores the high digits and the low ones in turn. Inlined, as that before it.
+#[inline(always)]
+fn store_joined(digits: &mut [u8], high: &[u8], low: &[u8])
+    requires low { length low.now ≡ length high.now }
+    requires two { length digits.old ≡ 2 * length high.now }
+    ensures whole { length digits.new ≡ length digits.old }
+    ensures joined { AreJoined high.now low.now digits.new (length high.now) }
+{
+    'digits: for i in 0..high.len() {
+        digits[2 * i] = high[i];
+        digits[2 * i + 1] = low[i];
+    }
+}
+
+/// Stores the digits of bytes, two for each, by way of rooms for the high ones and the low ones.
+#[inline(always)]
+fn store_digits(digits: &mut [u8], high: &mut [u8], low: &mut [u8], bytes: &[u8])
+    requires high { length high.old ≡ length bytes.now }
+    requires low { length low.old ≡ length bytes.now }
+    requires two { length digits.old ≡ 2 * length bytes.now }
+    ensures { digits.new ≡ encode_upper bytes.now }
+{
+    store_halves(high, low, bytes);
+    store_joined(digits, high, low);
+}
+
+#[inline(always)]
+fn push_whole(out: &mut String, bytes: &[u8]) -> Result<(), AllocError>
+    requires { length bytes.now ≡ 64 }
+    ensures { OnOk result (string_bytes out.new ≡ string_bytes out.old ++ encode_upper bytes.now) }
+{
+    let mut room = [0u8; 2 * PART];
+    store_digits(&mut room, &mut [0u8; PART], &mut [0u8; PART], bytes);
+    push_digits(out, &room)
+}
+
+/// The last part is padded.
 fn push_part(out: &mut String, bytes: &[u8]) -> Result<(), AllocError>
     requires { length bytes.now ≤ 64 }
     ensures { OnOk result (string_bytes out.new ≡ string_bytes out.old ++ encode_upper bytes.now) }
@@ -70,7 +112,7 @@ fn push_part(out: &mut String, bytes: &[u8]) -> Result<(), AllocError>
     let mut padded = [0u8; PART];
     padded[..bytes.len()].copy_from_slice(bytes);
     let mut room = [0u8; 2 * PART];
-    store_digits(&mut room, &padded);
+    store_digits(&mut room, &mut [0u8; PART], &mut [0u8; PART], &padded);
     push_digits(out, &room[..2 * bytes.len()])
 }
 
@@ -79,12 +121,12 @@ pub fn push_bytes(out: &mut String, bytes: &[u8]) -> Result<(), AllocError>
     ensures { OnOk result (string_bytes out.new ≡ string_bytes out.old ++ encode_upper bytes.now) }
 {
     let mut rest = bytes;
-    while !rest.is_empty() {
-        let (part, others) = rest.split_at(rest.len().min(PART));
-        push_part(out, part)?;
+    while PART <= rest.len() {
+        let (part, others) = rest.split_at(PART);
+        push_whole(out, part)?;
         rest = others;
     }
-    Ok(())
+    push_part(out, rest)
 }
 
 fn push_pair(out: &mut String, kind: u8, value: u8) -> Result<(), AllocError>
@@ -210,7 +252,12 @@ fn push_short_text(out: &mut String, run: &[u8]) -> Result<(), AllocError>
     padded[..run.len()].copy_from_slice(run);
     let mut line = [0u8; 6 + 2 * SHORT];
     line[..5].copy_from_slice(b"TEXT ");
-    store_digits(&mut line[5..5 + 2 * SHORT], &padded);
+    store_digits(
+        &mut line[5..5 + 2 * SHORT],
+        &mut [0u8; SHORT],
+        &mut [0u8; SHORT],
+        &padded,
+    );
     line[5 + 2 * run.len()] = b'\n';
     push_digits(out, &line[..6 + 2 * run.len()])
 }

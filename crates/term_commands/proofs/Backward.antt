@@ -1,4 +1,4 @@
--- Records that are written as they end are those that are written at the end.
+-- Records that are written as their lines come are those that are written at the end.
 use Rattle.std.proofs.Common.{◌≡◌, ℕ, ◌+◌, ◌-◌, ◌==◌, Bool, true, false, cond, List, [], ◌∷◌, ◌++◌, length, Option, Some, None, Ok, Err, refl, sym, ap, ◌∙◌, arith, append-nil, length-append}
 use Rattle.std.specs.Prelude.{Result}
 use Rattle.std.specs.Str.{is_utf8}
@@ -8,7 +8,8 @@ use Rattle.ds_codec.specs.Geometry.{Sizes, cells_of}
 use Rattle.ds_codec.specs.Order.{Item}
 use Rattle.ds_codec.specs.Reading.{◌>>=◌}
 use Rattle.order_lines.specs.Told.{Told, command, order, told_of}
-use Rattle.order_lines.specs.Draft.{Draft, written_of}
+use Rattle.order_lines.specs.Draft.{Draft, written_of, Partial}
+use Rattle.order_lines.proofs.Drafts.{partial_of, begun_is, with_order_is, bytes_in_is}
 use Rattle.term_commands.specs.declared.fault.Fault.{Fault}
 use Rattle.term_commands.specs.declared.input.sizes.SizeLine.{SizeLine}
 use Rattle.term_commands.specs.declared.input.sizes.SizeLine.TheVariants.{Allowed, Refused}
@@ -60,16 +61,30 @@ abbrev count_of : ℕ → Option Draft → ℕ
 count_of count None = count
 count_of count (Some draft) = count + 1
 
-abbrev back_of : Drafts → Backward
-back_of drafts =
+-- the size of the record after those that have ended
+abbrev size_of : Drafts → Command → Size
+size_of drafts it = size_after drafts.geometry (size_over drafts.geometry drafts.geometry.default drafts.ended) it
+
+abbrev partly : Drafts → Draft → Partial
+partly drafts draft = partial_of drafts.geometry.mode (cells_of (size_of drafts draft.command)) draft
+
+abbrev current_of : Drafts → Option Draft → Option Partial
+current_of drafts None = None
+current_of drafts (Some draft) = Some (partly drafts draft)
+
+abbrev told_of_drafts : Drafts → SizeLine → ℕ → Option Partial → Backward
+told_of_drafts drafts size_line count current =
     record {
-      size_line = drafts.size_line;
+      size_line = size_line;
       geometry = drafts.geometry;
       size = size_over drafts.geometry drafts.geometry.default drafts.ended;
-      count = count_of (length drafts.ended) drafts.current;
-      current = drafts.current;
+      count = count;
+      current = current;
       text = lines_written drafts.geometry drafts.geometry.default 0 drafts.ended;
     }
+
+abbrev back_of : Drafts → Backward
+back_of drafts = told_of_drafts drafts drafts.size_line (count_of (length drafts.ended) drafts.current) (current_of drafts drafts.current)
 
 -- while a line of sizes may come, there is no record
 abbrev IsFirst : Drafts → Type 0
@@ -83,7 +98,7 @@ not_first : (drafts : Drafts) (draft : Draft) → drafts.current ≡ Some draft 
 not_first drafts draft is first allowed = let none : None ≡ Some draft = sym (first allowed).1 ∙ is in cc
 
 ended_follows : (drafts : Drafts) (current : Option Draft) → drafts.current ≡ current → IsFirst drafts
-    → Follows (Ok (record drafts { ended = all_drafts drafts.ended current; current = None })) (Ok (ended (back_of drafts) current))
+    → Follows (Ok (record drafts { ended = all_drafts drafts.ended current; current = None })) (Ok (ended (back_of drafts) (current_of drafts current)))
 ended_follows drafts None is first = (rw is refl, λ allowed. ((first allowed).0, refl))
 ended_follows drafts (Some draft) is first =
     let geometry = drafts.geometry in
@@ -91,23 +106,28 @@ ended_follows drafts (Some draft) is first =
     let text = lines_written-last geometry geometry.default 0 (length drafts.ended + 1 - 1) drafts.ended draft index in
     let size = size_over-last geometry geometry.default drafts.ended draft in
     let count : length (drafts.ended ++ draft ∷ []) ≡ length drafts.ended + 1 = length-append drafts.ended (draft ∷ []) in
-    (rw (is, text, size, count) refl, λ allowed. absurd (not_first drafts draft is first allowed))
+    let bytes = bytes_in_is geometry.mode (cells_of (size_of drafts draft.command)) draft in
+    (rw (is, bytes, text, size, count) refl, λ allowed. absurd (not_first drafts draft is first allowed))
 
-few_follow : (room : Result (Unit {0}) Fault) (drafts : Drafts) → IsFirst drafts → Follows (room >>= λ few. Ok drafts) (room >>= λ few. Ok (back_of drafts))
-few_follow (Ok few) drafts first = (refl, first)
-few_follow (Err fault) drafts first = refl
+few_follow : (room : Result (Unit {0}) Fault) (drafts : Drafts) (told : Backward) → told ≡ back_of drafts → IsFirst drafts
+    → Follows (room >>= λ few. Ok drafts) (room >>= λ few. Ok told)
+few_follow (Ok few) drafts told is first = (rw is refl, first)
+few_follow (Err fault) drafts told is first = refl
 
 begun_follows : (number : ℕ) (drafts : Drafts) (it : Command) (current : Option Draft) → drafts.current ≡ current
-    → Follows (after_command number drafts it current) (begun number (back_of drafts) it current)
+    → Follows (after_command number drafts it current) (begun number (back_of drafts) it (current_of drafts current))
 begun_follows number drafts it (Some draft) is = refl
 begun_follows number drafts it None is =
     let next : Drafts = record drafts { size_line = Refused; current = Some (record { command = it; orders = [] }) } in
-    rw is (few_follow (at_most (length drafts.ended + 1) 1000) next (λ allowed. absurd cc))
+    let same = ap (λ (p : Partial). told_of_drafts drafts Refused (length drafts.ended + 1) (Some p)) (begun_is drafts.geometry.mode (cells_of (size_of drafts it)) it) in
+    rw is (few_follow (at_most (length drafts.ended + 1) 1000) next _ same (λ allowed. absurd cc))
 
 added_follows : (number : ℕ) (drafts : Drafts) (it : Item) (current : Option Draft) → drafts.current ≡ current → IsFirst drafts
-    → Follows (after_order number drafts it current) (added number (back_of drafts) it current)
+    → Follows (after_order number drafts it current) (added number (back_of drafts) it (current_of drafts current))
 added_follows number drafts it None is first = refl
-added_follows number drafts it (Some draft) is first = (rw is refl, λ allowed. absurd (not_first drafts draft is first allowed))
+added_follows number drafts it (Some draft) is first =
+    let same = ap (λ (p : Partial). told_of_drafts drafts drafts.size_line (length drafts.ended + 1) (Some p)) (with_order_is drafts.geometry.mode (cells_of (size_of drafts draft.command)) draft it) in
+    (rw (is, same) refl, λ allowed. absurd (not_first drafts draft is first allowed))
 
 follows : (number : ℕ) (drafts : Drafts) (line : OrderLine) → IsFirst drafts → ((geometry : Sizes) → line ≡ sizes geometry → drafts.size_line ≡ Allowed)
     → Follows (after_told number drafts line) (after_line number (back_of drafts) line)
@@ -115,7 +135,8 @@ follows number drafts empty first may = ended_follows drafts drafts.current refl
 follows number drafts comment first may = (refl, first)
 follows number drafts (sizes geometry) first may =
     let none : drafts.ended ≡ [] = (first (may geometry refl)).0 in
-    (rw none refl, λ allowed. absurd cc)
+    let ended : drafts.current ≡ None = (first (may geometry refl)).1 in
+    (rw (none, ended) refl, λ allowed. absurd cc)
 follows number drafts (words (command it)) first may = begun_follows number drafts it drafts.current refl
 follows number drafts (words (order it)) first may = added_follows number drafts it drafts.current refl first
 follows number drafts bad first may = refl

@@ -1,5 +1,5 @@
 -- Lines taken in turn as they are read.
-use Rattle.std.proofs.Common.{◌≡◌, ◌⊎◌, ℕ, ◌+◌, ◌-◌, ◌<◌, ◌≤◌, Bool, true, false, cond, nat_lt, nat_le, List, [], ◌∷◌, ◌++◌, length, length-append, map, Ok, Err, refl, sym, ◌∙◌, ap, subst, inl, inr, arith}
+use Rattle.std.proofs.Common.{◌≡◌, ◌⊎◌, ℕ, ◌+◌, ◌-◌, ◌<◌, ◌≤◌, true, false, cond, nat_lt, nat_le, List, [], ◌∷◌, ◌++◌, length, length-append, map, Ok, Err, refl, sym, ◌∙◌, ap, subst, inl, inr, arith}
 use Rattle.std.specs.Prelude.{Option, Some, None, IfSome, Result}
 use Rattle.std.proofs.lemmas.Bool.{le-leb, lt-leb, leb-true, leb-false}
 use Rattle.bstr.specs.Text.{without_terminator}
@@ -10,14 +10,19 @@ use Rattle.term_commands.specs.declared.fault.CommandError.{CommandError}
 use Rattle.term_commands.specs.declared.fault.CommandError.TheVariants.{Fault as Told, ReadFailed, OutOfMemory}
 use Rattle.term_commands.specs.Fault.{Gives, GivesOrFails}
 use Rattle.term_commands.specs.Lines.{lines_in, within_limit}
-use Rattle.term_commands.specs.NextLine.{ReadsLines}
-use Rattle.term_commands.specs.Taking.{taken_in, TakesAll, TakesNumbered, TakesInput, TakenSoFar, EndsAs}
+use Rattle.term_commands.specs.NextLine.{ReadsFront, ReadsSome}
+use Rattle.term_commands.specs.Taking.{taken_in, TakesAll, TakesNumbered, TakesInput, TakesWhole, TakenSoFar, EndsAs}
 use Rattle.term_commands.proofs.Taking.{gives_taken}
 
 -- what is read of what is left
-read_of : (now : Option (List ℕ)) (rest lines : List ℕ) (more : Bool) (new : Option (List ℕ)) → now ≡ Some rest → IfSome now (λ bytes. ReadsLines bytes more lines new)
-    → ReadsLines rest more lines new
-read_of now rest lines more new is reads = subst (λ z. IfSome z (λ bytes. ReadsLines bytes more lines new)) is reads
+read_of : (now : Option (List ℕ)) (rest front : List ℕ) (new : Option (List ℕ)) → now ≡ Some rest → IfSome now (λ bytes. ReadsFront bytes front new)
+    → ReadsFront rest front new
+read_of now rest front new is reads = subst (λ z. IfSome z (λ bytes. ReadsFront bytes front new)) is reads
+
+-- of some bytes so much is known as of any
+pub front_of : (now : Option (List ℕ)) (front : List ℕ) (new : Option (List ℕ)) → IfSome now (λ bytes. ReadsSome bytes true front new) → IfSome now (λ bytes. ReadsFront bytes front new)
+front_of None front new reads = tt
+front_of (Some bytes) front new reads = reads.1
 
 -- lines that are not too long break where they end
 apart : (bytes lines rest : List ℕ) → length lines ≤ 16777216 → (lines_in bytes ≡ lines_in lines ++ lines_in rest) ⊎ (16777216 < length lines) → lines_in bytes ≡ lines_in lines ++ lines_in rest
@@ -55,14 +60,14 @@ module _ {T : Type 0} (takes : ℕ → T → List ℕ → Result T CommandError 
   takes_first number told (x ∷ xs) ys error (inr (mid, goes, rest)) = inr (mid, goes, takes_first (number + 1) mid xs ys error rest)
 
   module _ (whole now new : Option (List ℕ)) (number : ℕ) (told : T) (left : ℕ) (lines : List ℕ) where
-    pub takes_more : (next : T) (after : ℕ) → TakenSoFar takes none whole now number told left → IfSome now (λ bytes. ReadsLines bytes true lines new) → length lines ≤ left
+    pub takes_more : (next : T) (after : ℕ) → TakenSoFar takes none whole now number told left → IfSome now (λ bytes. ReadsFront bytes lines new) → length lines ≤ left
         → left ≤ 16777216 → TakesNumbered takes number told (lines_in lines) (Ok (next, after)) → TakenSoFar takes none whole new after next (left - length lines)
     takes_more next after so reads fits few goes =
         elim whole as (λ w. TakenSoFar takes none w now number told left → TakenSoFar takes none w new after next (left - length lines)) [
           | None ↦ λ so. tt
           | Some input ↦ λ so.
-              let read = read_of now so.0 lines true new so.1 reads in
-              let breaks = apart so.0 lines read.0 (omega arith) read.4 in (
+              let read = read_of now so.0 lines new so.1 reads in
+              let breaks = apart so.0 lines read.0 (omega arith) read.3 in (
                 read.0,
                 read.1,
                 omega (arith, so.2, both_lengths so.0 lines read.0 read.2),
@@ -72,12 +77,12 @@ module _ {T : Type 0} (takes : ℕ → T → List ℕ → Result T CommandError 
               )
         ] so
 
-    pub takes_all : TakenSoFar takes none whole now number told left → IfSome now (λ bytes. ReadsLines bytes false lines new) → IfSome whole (λ input. TakesInput takes none input (Ok told))
+    pub takes_all : TakenSoFar takes none whole now number told left → IfSome now (λ bytes. ReadsSome bytes false lines new) → IfSome whole (λ input. TakesInput takes none input (Ok told))
     takes_all so reads =
         elim whole as (λ w. TakenSoFar takes none w now number told left → IfSome w (λ input. TakesInput takes none input (Ok told))) [
           | None ↦ λ so. tt
           | Some input ↦ λ so.
-              let over = read_of now so.0 lines false new so.1 reads in
+              let over : so.0 ≡ [] = subst (λ z. IfSome z (λ bytes. ReadsSome bytes false lines new)) so.1 reads in
               let no_rest : length so.0 ≡ 0 = ap length over in (
                 omega (arith, so.2, no_rest),
                 so.3 (Ok told) (subst (λ z. TakesAll takes number told z (Ok told)) (sym (ap lines_in over ∙ ap (map without_terminator) lines-nil)) refl),
@@ -97,21 +102,42 @@ module _ {T : Type 0} (takes : ℕ → T → List ℕ → Result T CommandError 
     ends_so input rest ReadFailed result counts fits all is = rw is tt
     ends_so input rest OutOfMemory result counts fits all is = rw is tt
 
-    pub takes_fault : (error result : CommandError) → TakenSoFar takes none whole now number told left → IfSome now (λ bytes. ReadsLines bytes true lines new) → length lines ≤ left
+    pub takes_fault : (error result : CommandError) → TakenSoFar takes none whole now number told left → IfSome now (λ bytes. ReadsFront bytes lines new) → length lines ≤ left
         → left ≤ 16777216 → TakesAll takes number told (lines_in lines) (Err error) → IfSome new (λ rest. EndsAs (nat_le (length rest) (left - length lines)) error result)
         → IfSome whole (λ input. TakesInput takes none input (Err result))
     takes_fault error result so reads fits few fails ends =
         elim whole as (λ w. TakenSoFar takes none w now number told left → IfSome w (λ input. TakesInput takes none input (Err result))) [
           | None ↦ λ so. tt
           | Some input ↦ λ so.
-              let read = read_of now so.0 lines true new so.1 reads in
-              let breaks = apart so.0 lines read.0 (omega arith) read.4 in
+              let read = read_of now so.0 lines new so.1 reads in
+              let breaks = apart so.0 lines read.0 (omega arith) read.3 in
               let all : TakesAll takes 1 none (lines_in input) (Err error) =
               so.3 (Err error) (subst (λ z. TakesAll takes number told z (Err error)) (sym breaks) (takes_first number told (lines_in lines) (lines_in read.0) error fails)) in
               let counts : length input + left ≡ 16777216 + (length lines + length read.0) = omega (arith, so.2, both_lengths so.0 lines read.0 read.2) in
               ends_so input read.0 error result counts fits all
               (subst (λ z. IfSome z (λ rest. EndsAs (nat_le (length rest) (left - length lines)) error result)) read.1 ends)
         ] so
+
+-- the same of whole lines that a reader showed
+pub shown_more : {T : Type 0} (takes : ℕ → T → List ℕ → Result T CommandError → Type 0) (none : T) (whole now new : Option (List ℕ)) (number : ℕ) (told : T) (left count : ℕ) (next : T) (after : ℕ)
+    → TakenSoFar takes none whole now number told left → TakesWhole takes number told now new count (Ok (next, after)) → count ≤ left → left ≤ 16777216
+    → TakenSoFar takes none whole new after next (left - count)
+shown_more takes none whole now new number told left count next after so (lines, long, reads, goes) fits few =
+    subst (λ n. TakenSoFar takes none whole new after next (left - n)) long
+    (takes_more takes none whole now new number told left lines next after so reads (omega (arith, long, fits)) few goes)
+
+pub shown_fault : {T : Type 0} (takes : ℕ → T → List ℕ → Result T CommandError → Type 0) (none : T) (whole now new : Option (List ℕ)) (number : ℕ) (told : T) (left count : ℕ) (error result : CommandError)
+    → TakenSoFar takes none whole now number told left → TakesWhole takes number told now new count (Err error) → count ≤ left → left ≤ 16777216
+    → IfSome new (λ rest. EndsAs (nat_le (length rest) (left - count)) error result) → IfSome whole (λ input. TakesInput takes none input (Err result))
+shown_fault takes none whole now new number told left count error result so (lines, long, reads, fails) fits few ends =
+    takes_fault takes none whole now new number told left lines error result so reads (omega (arith, long, fits)) few fails
+    (subst (λ n. IfSome new (λ rest. EndsAs (nat_le (length rest) (left - n)) error result)) (sym long) ends)
+
+-- what no lines tell
+pub takes_nothing : {T : Type 0} (takes : ℕ → T → List ℕ → Result T CommandError → Type 0) (number : ℕ) (told : T) → TakesNumbered takes number told (lines_in []) (Ok (told, number))
+takes_nothing takes number told =
+    let none : lines_in [] ≡ [] = ap (map without_terminator) lines-nil in
+    rw none (refl, omega arith)
 
 -- ---- what is given of an input
 

@@ -1,9 +1,9 @@
 pub mod Rows
 pub mod Prefixes
 pub mod Pieces
+mod ShownLines
 pub mod Parts
 pub mod NextLines
-mod ShownLines
 pub mod Taking
 pub mod InTurn
 pub mod Joined

@@ -1,4 +1,4 @@
--- The next lines of a reader.
+-- Lines that a reader shows.
 use Rattle.std.proofs.Common.{◌≡◌, ◌==◌, ℕ, zero, suc, ◌+◌, ◌-◌, ◌<◌, ◌≤◌, not, Bool, length-append, List, [], ◌++◌, length, map, true, false, refl, sym, ◌∙◌, ap, subst, inl, inr, arith, append_assoc}
 use Rattle.std.specs.Prelude.{slice_index, Option, None, Some, IfSome, OnSome}
 use Rattle.std.specs.Io.KnownBytes.{Consumes, IsAtEnd}
@@ -7,7 +7,7 @@ use Rattle.std.proofs.lemmas.List.{append-nil, map-append, nil_from_length, get_
 use Rattle.bstr.specs.Text.{lines_of, without_terminator}
 use Rattle.bstr.proofs.lemmas.LineLemmas.{EndsLine, lines-append, lines-nil}
 use Rattle.term_commands.specs.Lines.{lines_in}
-use Rattle.term_commands.specs.NextLine.{ReadsLines, EndsLines}
+use Rattle.term_commands.specs.NextLine.{ReadsFront, ReadsSome}
 
 -- lines break behind an LF, and at the end
 lines_apart : (xs ys : List ℕ) → EndsLine xs → lines_in (xs ++ ys) ≡ lines_in xs ++ lines_in ys
@@ -32,23 +32,20 @@ at_end : (b c : Option (List ℕ)) (ys zs : List ℕ) → b ≡ Some ys → c �
 at_end b c ys zs is so end = subst IsAtEnd so (subst (λ o. OnSome o (IsAtEnd c)) is end)
 
 pub lines_ended : (a b c : Option (List ℕ)) (done part lines : List ℕ) (empty : Bool) → lines ≡ done ++ part → Consumes a b done → Consumes b c part
-    → EndsLines true part b c → empty ≡ (length lines == 0) → IfSome a (λ xs. ReadsLines xs (not empty) lines c)
-lines_ended None b c done part lines empty joined first last ends is = tt
-lines_ended (Some xs) None c done part lines empty joined first last ends is = absurd first
-lines_ended (Some xs) (Some ys) None done part lines empty joined first last ends is = absurd last
-lines_ended (Some xs) (Some ys) (Some zs) done part lines true joined first last ends is =
+    → (0 < length part → slice_index part (length part - 1) ≡ 10) → (length part ≡ 0 → OnSome b (IsAtEnd c)) → empty ≡ (length lines == 0) → IfSome a (λ xs. ReadsSome xs (not empty) lines c)
+lines_ended None b c done part lines empty joined first last ends end is = tt
+lines_ended (Some xs) None c done part lines empty joined first last ends end is = absurd first
+lines_ended (Some xs) (Some ys) None done part lines empty joined first last ends end is = absurd last
+lines_ended (Some xs) (Some ys) (Some zs) done part lines true joined first last ends end is =
     let none : length lines ≡ 0 = eqb-true (length lines) 0 (sym is) in
     let no_part : length part ≡ 0 = omega (arith, none, ap length joined, length-append done part) in
     let no_done : length done ≡ 0 = omega (arith, none, ap length joined, length-append done part) in
-    let over : zs ≡ [] = ends.1 no_part in
+    let over : zs ≡ [] = end no_part in
     first ∙ ap (λ l. l ++ ys) (nil_from_length done no_done) ∙ last ∙ ap (λ l. l ++ zs) (nil_from_length part no_part) ∙ over
-lines_ended (Some xs) (Some ys) (Some zs) done part lines false joined first last ends is =
+lines_ended (Some xs) (Some ys) (Some zs) done part lines false joined first last ends end is =
     let all : xs ≡ lines ++ zs = first ∙ ap (λ l. done ++ l) last ∙ sym (append_assoc done part zs) ∙ ap (λ l. l ++ zs) (sym joined) in (
-      zs,
-      refl,
-      all,
       some_length (length lines) (sym is),
-      inl (ap lines_in all ∙ subst (λ l. lines_in (l ++ zs) ≡ lines_in l ++ lines_in zs) (sym joined) (apart done part zs ends.0 ends.1)),
+      (zs, refl, all, inl (ap lines_in all ∙ subst (λ l. lines_in (l ++ zs) ≡ lines_in l ++ lines_in zs) (sym joined) (apart done part zs ends end))),
     )
   where
     some_length : (n : ℕ) → (n == 0) ≡ false → 0 < n
@@ -56,9 +53,20 @@ lines_ended (Some xs) (Some ys) (Some zs) done part lines false joined first las
     some_length (suc n) none = omega arith
 
 pub lines_long : (a b c : Option (List ℕ)) (done part lines : List ℕ) → lines ≡ done ++ part → Consumes a b done → Consumes b c part → 16777219 ≤ length lines
-    → IfSome a (λ xs. ReadsLines xs true lines c)
+    → IfSome a (λ xs. ReadsSome xs true lines c)
 lines_long None b c done part lines joined first last long = tt
 lines_long (Some xs) None c done part lines joined first last long = absurd first
 lines_long (Some xs) (Some ys) None done part lines joined first last long = absurd last
 lines_long (Some xs) (Some ys) (Some zs) done part lines joined first last long =
-    (zs, refl, first ∙ ap (λ l. done ++ l) last ∙ sym (append_assoc done part zs) ∙ ap (λ l. l ++ zs) (sym joined), omega (arith, long), inr (omega (arith, long)))
+    (omega (arith, long), (zs, refl, first ∙ ap (λ l. done ++ l) last ∙ sym (append_assoc done part zs) ∙ ap (λ l. l ++ zs) (sym joined), inr (omega (arith, long))))
+
+-- whole lines that were shown are read from the front, or nothing is
+pub shown_front : (a c : Option (List ℕ)) (front : List ℕ) → Consumes a c front → (0 < length front → slice_index front (length front - 1) ≡ 10)
+    → IfSome a (λ xs. ReadsFront xs front c)
+shown_front None c front takes ends = tt
+shown_front (Some xs) None front takes ends = absurd takes
+shown_front (Some xs) (Some ys) front takes ends = (ys, refl, takes, inl (ap lines_in takes ∙ lines_apart front ys (ends_line (length front) refl)))
+  where
+    ends_line : (n : ℕ) → length front ≡ n → EndsLine front
+    ends_line zero none = inl none
+    ends_line (suc n) some = inr (ends (omega (arith, some)))

@@ -1,12 +1,12 @@
--- Order lines whose records are written as they end. This is for the code's own proofs.
-use Rattle.std.specs.Prelude.{ℕ, ◌+◌, ◌-◌, List, [], ◌∷◌, ◌++◌, Option, Some, None, Result, Ok, Err}
+-- Order lines whose records are written as they come. This is for the code's own proofs.
+use Rattle.std.specs.Prelude.{ℕ, ◌+◌, ◌-◌, List, [], Option, Some, None, Result, Ok, Err}
 use Rattle.ds_codec.specs.declared.size.Size.{Size}
 use Rattle.ds_codec.specs.declared.command.Command.{Command}
 use Rattle.ds_codec.specs.Geometry.{Sizes, cells_of}
 use Rattle.ds_codec.specs.Order.{Item}
 use Rattle.ds_codec.specs.Reading.{◌>>=◌}
 use Rattle.order_lines.specs.Told.{command, order}
-use Rattle.order_lines.specs.Draft.{Draft, written_of}
+use Rattle.order_lines.specs.Draft.{Partial, begun as no_order, with_order, bytes_in}
 use Rattle.term_commands.specs.declared.fault.Fault.{Fault}
 use Rattle.term_commands.specs.declared.fault.Fault.TheVariants.{BadLine}
 use Rattle.term_commands.specs.declared.input.sizes.SizeLine.{SizeLine}
@@ -26,33 +26,33 @@ pub record Backward : Type 0 where
   pub geometry : Sizes
   pub size : Size
   pub count : ℕ
-  pub current : Option Draft
+  pub current : Option Partial
   pub text : Result (List ℕ) Fault
 
 abbrev pub nothing : Backward
 nothing = record { size_line = Allowed; geometry = usual_sizes; size = usual_sizes.default; count = 0; current = None; text = Ok [] }
 
 -- a record has ended, and its line follows
-abbrev pub with_line : Backward → Draft → Size → Backward
+abbrev pub with_line : Backward → Partial → Size → Backward
 with_line told draft size =
-    record told { size = size; current = None; text = joined told.text (line_or_flaw (told.count - 1) (written_of told.geometry.mode (cells_of size) draft)) }
+    record told { size = size; current = None; text = joined told.text (line_or_flaw (told.count - 1) (bytes_in draft)) }
 
 -- the record that has begun has ended
-abbrev pub ended : Backward → Option Draft → Backward
+abbrev pub ended : Backward → Option Partial → Backward
 ended told None = told
 ended told (Some draft) = with_line told draft (size_after told.geometry told.size draft.command)
 
 -- a command begins a record, of which there are at most 1,000
-abbrev pub begun : ℕ → Backward → Command → Option Draft → Result Backward Fault
+abbrev pub begun : ℕ → Backward → Command → Option Partial → Result Backward Fault
 begun number told it (Some draft) = Err (BadLine number)
 begun number told it None =
     at_most (told.count + 1) 1000 >>= λ few.
-    Ok (record told { size_line = Refused; count = told.count + 1; current = Some (record { command = it; orders = [] }) })
+    Ok (record told { size_line = Refused; count = told.count + 1; current = Some (no_order told.geometry.mode (cells_of (size_after told.geometry told.size it)) it) })
 
 -- an order belongs to the record that has begun
-abbrev pub added : ℕ → Backward → Item → Option Draft → Result Backward Fault
+abbrev pub added : ℕ → Backward → Item → Option Partial → Result Backward Fault
 added number told it None = Err (BadLine number)
-added number told it (Some draft) = Ok (record told { current = Some (record draft { orders = draft.orders ++ it ∷ [] }) })
+added number told it (Some draft) = Ok (record told { current = Some (with_order draft it) })
 
 -- what the line of this number adds
 abbrev pub after_line : ℕ → Backward → OrderLine → Result Backward Fault

@@ -1,7 +1,6 @@
 -- Inputs and answers as the program holds them.
 use Rattle.std.specs.Prelude.{◌≡◌, ℕ, List, map, Option, Some, None, Result, Ok, Err}
 use Rattle.std.specs.List.{flat_map}
-use Rattle.std.specs.Option.{option_map}
 use Rattle.std.specs.Global.{Vec}
 use Rattle.std.specs.String.{string_bytes}
 use Rattle.ds_codec.specs.declared.size.Size.{Size}
@@ -10,7 +9,6 @@ use Rattle.ds_keys.specs.declared.key.Key.{Key}
 use Rattle.ds_screen.specs.Picture.{Picture}
 use Rattle.ds_terminal.specs.Runs.{RefusedRecord, all_shown}
 use Rattle.order_lines.specs.Told.{told_held}
-use Rattle.order_lines.specs.Draft.{draft_held}
 use Rattle.term_commands.specs.declared.fault.Fault.{Fault}
 use Rattle.term_commands.specs.declared.fault.Fault.TheVariants.{RecordRefused}
 use Rattle.term_commands.specs.declared.input.records.Line as held_line
@@ -82,7 +80,7 @@ backward_seen told =
       geometry = told.geometry;
       size = size_in_use told.geometry told.size;
       count = told.count;
-      current = option_map draft_held told.current;
+      current = told.current;
       text = text_unless told.flaw (flat_map written_line told.records.items);
     }
 

@@ -1,5 +1,5 @@
--- The next line of a reader, as it is read, and the next lines.
-use Rattle.std.specs.Prelude.{◌≡◌, ◌≢◌, ◌⊎◌, ◌<◌, ◌≤◌, ◌+◌, ◌-◌, ℕ, Bool, true, false, List, [], ◌∷◌, ◌++◌, All, length, slice_index, Option, Some, OnSome}
+-- The next line of a reader, as it is read.
+use Rattle.std.specs.Prelude.{◌≡◌, ◌≢◌, ◌⊎◌, ◌<◌, ◌≤◌, ◌+◌, ℕ, Bool, true, false, List, [], ◌∷◌, ◌++◌, All, length, Option, Some, OnSome}
 use Rattle.std.specs.Io.{StopsAt, IsEmptyOrEndsWith}
 use Rattle.std.specs.Io.KnownBytes.{IsAtEnd}
 use Rattle.bstr.specs.Text.{without_terminator}
@@ -19,12 +19,16 @@ ReadsLine bytes true line left =
     × (0 < length line) × (length line ≤ length bytes) × (length line < 16777219 → length line + length rest ≡ length bytes)
 ReadsLine bytes false line left = (lines_in bytes ≡ []) × (bytes ≡ [])
 
--- Lines were read with their ends from the front of these bytes, unless the first is too long; or there is none.
-abbrev pub ReadsLines : List ℕ → Bool → List ℕ → Option (List ℕ) → Type 0
-ReadsLines bytes true lines left =
-    (rest : List ℕ) × (left ≡ Some rest) × (bytes ≡ lines ++ rest) × (0 < length lines)
-    × ((lines_in bytes ≡ lines_in lines ++ lines_in rest) ⊎ (16777216 < length lines))
-ReadsLines bytes false lines left = bytes ≡ []
+-- bytes were read from the front of these, and no line goes on behind them, unless they are too many
+abbrev pub ReadsFront : List ℕ → List ℕ → Option (List ℕ) → Type 0
+ReadsFront bytes front left =
+    (rest : List ℕ) × (left ≡ Some rest) × (bytes ≡ front ++ rest)
+    × ((lines_in bytes ≡ lines_in front ++ lines_in rest) ⊎ (16777216 < length front))
+
+-- the same of some bytes, or there are none
+abbrev pub ReadsSome : List ℕ → Bool → List ℕ → Option (List ℕ) → Type 0
+ReadsSome bytes true front left = (0 < length front) × ReadsFront bytes front left
+ReadsSome bytes false front left = bytes ≡ []
 
 -- ---- for the code's own proofs: a part of a line that a reader showed
 
@@ -32,8 +36,3 @@ ReadsLines bytes false lines left = bytes ≡ []
 abbrev pub EndsPart : Bool → List ℕ → Option (List ℕ) → Option (List ℕ) → Type 0
 EndsPart true part old new = StopsAt part 10 × IsEmptyOrEndsWith part 10 × (length part ≡ 0 → OnSome old (IsAtEnd new))
 EndsPart false part old new = All (λ b. b ≢ 10) part
-
--- the last line ends with the part, by an LF or where nothing is left; or no LF is in it
-abbrev pub EndsLines : Bool → List ℕ → Option (List ℕ) → Option (List ℕ) → Type 0
-EndsLines true part old new = (0 < length part → slice_index part (length part - 1) ≡ 10) × (length part ≡ 0 → OnSome old (IsAtEnd new))
-EndsLines false part old new = All (λ b. b ≢ 10) part

@@ -7,6 +7,7 @@ use Rattle.term_commands.specs.declared.fault.CommandError.{CommandError}
 use Rattle.term_commands.specs.declared.fault.CommandError.TheVariants.{Fault as Told, ReadFailed, OutOfMemory}
 use Rattle.term_commands.specs.Fault.{IsNoFault}
 use Rattle.term_commands.specs.Lines.{lines_in, within_limit}
+use Rattle.term_commands.specs.NextLine.{ReadsFront}
 
 -- what the lines add, of which the first has this number
 abbrev pub taken : {A : Type 0} → (ℕ → A → List ℕ → Result A Fault) → ℕ → A → List (List ℕ) → Result A Fault
@@ -47,6 +48,11 @@ TakesInput takes none input (Err ReadFailed) = Unit {0}
 TakesInput takes none input (Err OutOfMemory) = Unit {0}
 
 -- ---- for the code's own proofs
+
+-- whole lines of so many bytes were read from the front, and this is what they tell
+abbrev pub TakesWhole : {T : Type 0} → (ℕ → T → List ℕ → Result T CommandError → Type 0) → ℕ → T → Option (List ℕ) → Option (List ℕ) → ℕ → Result (T × ℕ) CommandError → Type 0
+TakesWhole takes number told old new count taken =
+    (whole : List ℕ) × (length whole ≡ count) × IfSome old (λ bytes. ReadsFront bytes whole new) × TakesNumbered takes number told (lines_in whole) taken
 
 -- lines were read from the front of these bytes, and so many of the most may come yet
 abbrev pub CountedSoFar : Option (List ℕ) → Option (List ℕ) → ℕ → ℕ → Type 0

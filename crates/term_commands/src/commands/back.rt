@@ -1,9 +1,9 @@
 //! The command `convert --back`: order lines as records.
 
-ghost use Rattle.std.specs.Prelude.{◌≡◌, ◌≤◌, IfSome, Ok, None, length};
+ghost use Rattle.std.specs.Prelude.{◌≡◌, ◌≤◌, IfOk, IfSome, Ok, None, length};
 ghost use Rattle.std.specs.List.{flat_map};
-ghost use Rattle.ds_codec.specs.Geometry.{Sizes, IsGood};
-ghost use Rattle.order_lines.specs.Draft.{draft_held};
+ghost use Rattle.ds_codec.specs.Geometry.{Sizes, IsGood, cells_of};
+ghost use Rattle.order_lines.specs.Draft.{begun as no_order};
 ghost use Rattle.term_commands.specs.Fault.{Gives, GivesOrFails};
 ghost use Rattle.order_lines.specs.Told.{item_held, told_held};
 ghost use Rattle.term_commands.specs.declared.input.sizes.SizeLine.TheVariants.{Refused};
@@ -26,7 +26,7 @@ use crate::input::sizes::{SizeLine, usual_geometry};
 use crate::output::answer::{Answer, finish};
 use crate::output::pieces::{PrintsLines, lines_of, write_lines};
 use crate::status::Status;
-use ds_codec::{Command, Geometry, Size, Unwritable};
+use ds_codec::{Command, Geometry, Size};
 use order_lines::{Draft, OwnedOrder, Told, push_bytes};
 use std::alloc::{AllocError, Global};
 use std::io::{Read, Write};
@@ -62,37 +62,43 @@ impl PrintsLines for WrittenRecord {
     }
 }
 
-/// A record that has ended is written for the size in use, or it is told why it cannot be.
-fn push_draft(alloc: Global, told: &mut Backward, draft: &Draft) -> Result<(), CommandError>
+/// The line of a record that has ended, or why it cannot be written.
+fn push_written(told: &mut Backward, draft: Draft) -> Result<(), CommandError>
     requires ended { told.old.current ≡ None }
     requires good { told.old.flaw ≡ None }
     ensures { Gives (λ done. backward_seen told.new) result (Ok (with_line (backward_seen told.old)
-        (draft_held draft.now) (backward_seen told.old).size)) }
+        draft (backward_seen told.old).size)) }
 {
     let index = told.count.saturating_sub(1);
-    let mode = told.geometry.mode();
-    let size = size_in_use(&told.geometry, told.size);
-    match draft.write(alloc, mode, size.cells()) {
+    match draft.written() {
         Ok(bytes) => told.records.push(WrittenRecord { bytes })?,
-        Err(Unwritable::OutOfMemory) => return Err(CommandError::OutOfMemory),
         Err(flaw) => told.flaw = Some(Fault::Unwritable(index, flaw)),
     }
     Ok(())
 }
 
-/// The record that has begun ends. It is written, unless one before it cannot be.
-fn end(alloc: Global, told: &mut Backward) -> Result<(), CommandError>
+/// The record that has begun ends. Its line follows, unless one before it cannot be written.
+fn end(told: &mut Backward) -> Result<(), CommandError>
     ensures { Gives (λ done. backward_seen told.new) result
         (Ok (ended (backward_seen told.old) (backward_seen told.old).current)) }
 {
     let Some(draft) = told.current.take() else {
         return Ok(());
     };
-    told.size = size_after(told.size, draft.command);
+    told.size = size_after(told.size, draft.command());
     match told.flaw {
         Some(_) => Ok(()),
-        None => push_draft(alloc, told, &draft),
+        None => push_written(told, draft),
     }
+}
+
+/// A record of no order so far, for the size that its command sets.
+fn new_draft(alloc: Global, told: &Backward, command: Command) -> Result<Draft, AllocError>
+    ensures { IfOk result (λ draft. draft ≡ no_order told.now.geometry.mode
+        (cells_of (size_after told.now.geometry (backward_seen told.now).size command)) command) }
+{
+    let size = size_in_use(&told.geometry, size_after(told.size, command));
+    Draft::new(alloc, command, told.geometry.mode(), size.cells())
 }
 
 /// A record begins.
@@ -111,22 +117,19 @@ fn begin(
     if told.count >= MOST_RECORDS {
         return Err(CommandError::Fault(Fault::TooLong));
     }
+    told.current = Some(new_draft(alloc, told, command)?);
     told.size_line = SizeLine::Refused;
     told.count += 1;
-    told.current = Some(Draft {
-        command,
-        orders: Vec::new(alloc),
-    });
     Ok(())
 }
 
 /// An order of the record that has begun.
-fn add(told: &mut Backward, number: usize, order: OwnedOrder) -> Result<(), CommandError>
+fn add(told: &mut Backward, number: usize, order: &OwnedOrder) -> Result<(), CommandError>
     ensures { Gives (λ done. backward_seen told.new) result
-        (added number (backward_seen told.old) (item_held order) (backward_seen told.old).current) }
+        (added number (backward_seen told.old) (item_held order.now) (backward_seen told.old).current) }
 {
     match &mut told.current {
-        Some(draft) => Ok(draft.orders.push(order)?),
+        Some(draft) => Ok(draft.push(&order.lend())?),
         None => Err(CommandError::Fault(Fault::BadLine(number))),
     }
 }
@@ -153,7 +156,7 @@ fn add_words(
 {
     match words {
         Told::Command(command) => begin(alloc, told, number, command),
-        Told::Order(order) => add(told, number, order),
+        Told::Order(order) => add(told, number, &order),
     }
 }
 
@@ -168,7 +171,7 @@ fn add_line(
         (after_line number (backward_seen told.old) (order_line_seen line)) }
 {
     match line {
-        OrderLine::Empty => end(alloc, told),
+        OrderLine::Empty => end(told),
         OrderLine::Comment => Ok(()),
         OrderLine::Sizes(geometry) => {
             resize(told, geometry);
@@ -209,11 +212,11 @@ fn records_of(told: Backward) -> Result<Vec<WrittenRecord>, CommandError>
 }
 
 /// The records, once the last one has ended.
-fn all_written(alloc: Global, mut told: Backward) -> Result<Vec<WrittenRecord>, CommandError>
+fn all_written(mut told: Backward) -> Result<Vec<WrittenRecord>, CommandError>
     ensures { Gives (λ records. flat_map written_line records.items) result
         (text_after (backward_seen told)) }
 {
-    end(alloc, &mut told)?;
+    end(&mut told)?;
     records_of(told)
 }
 
@@ -238,7 +241,7 @@ fn written(alloc: Global, lines: &[u8]) -> Result<Answer, CommandError>
     ensures { Gives answer_seen result (answer_to lines.now) }
 {
     let text = within_limit(lines)?;
-    let records = all_written(alloc, take_text(alloc, text, nothing(alloc))?)?;
+    let records = all_written(take_text(alloc, text, nothing(alloc))?)?;
     Ok(Answer {
         text: lines_of(alloc, &records)?,
         status: Status::Done,
@@ -262,7 +265,7 @@ fn read_held<R: Read>(alloc: Global, reader: &mut R) -> Result<Vec<WrittenRecord
     ensures { IfSome (R.remaining reader.old)
         (λ input. GivesOrFails written_printed result (answer_to input)) }
 {
-    all_written(alloc, read_added(alloc, reader, nothing(alloc))?)
+    all_written(read_added(alloc, reader, nothing(alloc))?)
 }
 
 /// What `convert --back` answers to a text of order lines.

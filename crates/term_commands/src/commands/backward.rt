@@ -1,4 +1,4 @@
-//! Order lines whose records are written as they end, and printed once all of them can be written.
+//! Order lines whose records are written as they come, and printed once all of them can be written.
 
 use crate::fault::Fault;
 use crate::input::sizes::SizeLine;

@@ -1,12 +1,12 @@
-//! The next line of a reader, and the next lines that it shows.
+//! The next line of a reader.
 
 ghost use Rattle.std.specs.Prelude.{◌≡◌, ◌≢◌, ◌↔◌, ◌++◌, ◌<◌, ◌≤◌, ◌-◌, ◌+◌, List, ℕ, All, IsTrue, length, take, slice_index, true, false, min, IfOk, IfSome};
 ghost use Rattle.std.specs.IoError.{error_kind};
 ghost use Rattle.std.specs.Io.KnownBytes.{Consumes};
 ghost use Rattle.bstr.specs.Text.{no_cr, without_terminator};
-ghost use Rattle.term_commands.specs.NextLine.{ReadsLine, ReadsLines, EndsPart, EndsLines};
+ghost use Rattle.term_commands.specs.NextLine.{ReadsLine, ReadsSome, EndsPart};
 
-use memchr::{memchr, memrchr};
+use memchr::memchr;
 use std::io;
 use std::io::{BufRead, ErrorKind};
 
@@ -15,14 +15,14 @@ const READ_LIMIT: usize = 16_777_219;
 /// The most times that a reader is asked for a line. Each brings a byte, unless it was interrupted.
 const MOST_TURNS: u64 = 4_294_967_296;
 
-fn is_interrupted(error: &io::Error) -> bool
+pub(crate) fn is_interrupted(error: &io::Error) -> bool
     ensures { IsTrue result ↔ (error_kind error.now ≡ ErrorKind.Interrupted) }
 {
     error.kind() == ErrorKind::Interrupted
 }
 
 /// So many bytes, or all where there are fewer.
-fn front(bytes: &[u8], most: usize) -> &[u8]
+pub(crate) fn front(bytes: &[u8], most: usize) -> &[u8]
     ensures count { length result.now ≡ min most (length bytes.now) }
     ensures front { result.now ≡ take (length result.now) bytes.now }
     ensures few { length result.now ≤ most }
@@ -91,6 +91,8 @@ fn take_part<R: BufRead>(reader: &mut R, most: usize, line: &mut Vec<u8>) -> io:
 pub fn next_line<R: BufRead>(reader: &mut R, line: &mut Vec<u8>) -> io::Result<bool>
     ensures line { IfSome (R.remaining reader.old) (λ bytes. IfOk result (λ more.
         ReadsLine bytes more line.new.items (R.remaining reader.new))) }
+    ensures front { IfSome (R.remaining reader.old) (λ bytes. IfOk result (λ more.
+        ReadsSome bytes more line.new.items (R.remaining reader.new))) }
     ensures some { IfOk result (λ more. more ≡ true → 0 < length line.new.items) }
 {
     line.clear();
@@ -100,65 +102,6 @@ pub fn next_line<R: BufRead>(reader: &mut R, line: &mut Vec<u8>) -> io::Result<b
             return Ok(!line.is_empty());
         }
         if READ_LIMIT <= line.len() {
-            return Ok(true);
-        }
-    }
-    Err(io::Error::from(ErrorKind::TimedOut))
-}
-
-/// How many bytes lie before the end of the last line that ends among these, or all where none does.
-fn lines_len(bytes: &[u8]) -> usize
-    ensures inside { result ≤ length bytes.now }
-    ensures some { result ≡ 0 → length bytes.now ≡ 0 }
-    ensures none { 0 < result → slice_index bytes.now (result - 1) ≢ 10
-        → All (λ b. b ≢ 10) (take result bytes.now) }
-{
-    match memrchr(b'\n', bytes) {
-        Some(at) => at + 1,
-        None => bytes.len(),
-    }
-}
-
-/// Takes what a reader shows of lines, at most so many bytes, and tells whether the last of them ends with it.
-fn take_shown<R: BufRead>(reader: &mut R, most: usize, lines: &mut Vec<u8>) -> io::Result<bool>
-    requires { 0 < most }
-    ensures { IfOk result (λ ends. (part : List ℕ) × (lines.new.items ≡ lines.old.items ++ part)
-        × (length part ≤ most) × Consumes (R.remaining reader.old) (R.remaining reader.new) part
-        × EndsLines ends part (R.remaining reader.old) (R.remaining reader.new)) }
-{
-    let shown = match reader.fill_buf() {
-        Ok(shown) => shown,
-        Err(error) => {
-            return if is_interrupted(&error) {
-                Ok(false)
-            } else {
-                Err(error)
-            };
-        }
-    };
-    let seen = front(shown, most);
-    let count = lines_len(seen);
-    let part = &seen[..count];
-    lines.extend_from_slice(part)?;
-    let ended = ends_line(part);
-    reader.consume(count);
-    Ok(ended)
-}
-
-/// Reads the next lines, as many as end in what the reader shows, or else the next one; and tells whether there are any. Of a
-/// line that is too long so much is read as shows that: 16,777,219 bytes.
-pub fn next_lines<R: BufRead>(reader: &mut R, lines: &mut Vec<u8>) -> io::Result<bool>
-    ensures lines { IfSome (R.remaining reader.old) (λ bytes. IfOk result (λ more.
-        ReadsLines bytes more lines.new.items (R.remaining reader.new))) }
-    ensures some { IfOk result (λ more. more ≡ true → 0 < length lines.new.items) }
-{
-    lines.clear();
-    'parts: for _turn in 0..MOST_TURNS {
-        let ends = take_shown(reader, READ_LIMIT - lines.len(), lines)?;
-        if ends {
-            return Ok(!lines.is_empty());
-        }
-        if READ_LIMIT <= lines.len() {
             return Ok(true);
         }
     }

@@ -1,7 +1,6 @@
-use Rattle.std.proofs.Common.{◌≡◌, ◌++◌, ℕ, List, [], string_bytes, ap, sym, ◌∙◌}
-use Rattle.std.proofs.lemmas.Bool.{eqb-true}
-use Rattle.std.proofs.lemmas.List.{append_assoc, append-nil, nil_from_length, take-append-drop}
-use Rattle.hex.specs.Hex.{encode_with, encode_upper, upper_digits}
+use Rattle.std.proofs.Common.{◌≡◌, ◌++◌, ℕ, List, string_bytes, ap, sym, ◌∙◌}
+use Rattle.std.proofs.lemmas.List.{append_assoc, take-append-drop}
+use Rattle.hex.specs.Hex.{encode_upper, upper_digits}
 use Rattle.order_lines.proofs.Plain.{encode-append}
 use Rattle.order_lines.proofs.print.push_bytes.Goals as goal
 
@@ -13,14 +12,7 @@ part_spelled before part others =
 pub loop-rest-preserved : goal.loop-rest-preserved
 loop-rest-preserved c =
     let rest = c.loop-rest.rest.now in
-    let n = c.min.result in
     let cut : c.split_at.result.0.now ++ c.split_at.result.1.now ≡ rest =
-    rw (c.split_at.ensures.front, c.split_at.ensures.back) (take-append-drop n rest) in
-    rw c.in_ok-push_part.ensures (part_spelled (string_bytes c.loop-rest.out) c.split_at.result.0.now c.split_at.result.1.now)
+    rw (c.split_at.ensures.front, c.split_at.ensures.back) (take-append-drop 64 rest) in
+    rw c.in_ok-push_whole.ensures (part_spelled (string_bytes c.loop-rest.out) c.split_at.result.0.now c.split_at.result.1.now)
     ∙ ap (λ (xs : List ℕ). string_bytes c.loop-rest.out ++ encode_upper xs) cut ∙ c.loop-rest.invariant
-
-pub returns : goal.returns
-unfolding encode_with
-returns c =
-    let none : c.loop-rest.rest.now ≡ [] = nil_from_length _ (eqb-true _ _ (sym c.is_empty.ensures ∙ c.loop-rest-test.false)) in
-    rw (none, append-nil) at c.loop-rest.invariant
