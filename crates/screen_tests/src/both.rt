@@ -2,14 +2,12 @@
 
 use crate::Setup;
 use crate::generated::{draw, draw_from, record_of};
+use crate::inbound::{push_buffer, push_modified};
 use crate::screens::opened;
-use anyhow::Result;
 use ds_codec::{Aid, Attr, Cell, Mode, Record};
-use ds_inbound::{write_buffer, write_inbound};
 use ds_keys::{Key, press};
 use ds_screen::{Cells, PlainCells, PlaneCells, Screen, attr_before_counted};
-use std::alloc::{AllocError, Global};
-use test_words::{cut_word, number, push_number, push_word_number};
+use test_words::Row;
 
 /// A screen of each kind.
 #[derive(Drop)]
@@ -61,21 +59,30 @@ fn have_same_cells(pair: &Pair) -> bool {
     true
 }
 
+/// Whether they answer the same to Read Modified All and to Read Buffer.
+fn have_same_answers(row: &mut Row, pair: &Pair) -> bool {
+    let mut plain = Row::new(row.alloc());
+    push_sent(&mut plain, &pair.plain);
+    let mut planes = Row::new(row.alloc());
+    push_sent(&mut planes, &pair.planes);
+    plain.says(planes.text.as_str())
+}
+
+/// What a screen answers to Read Modified All and to Read Buffer.
+fn push_sent<C: Cells>(row: &mut Row, screen: &Screen<C>) {
+    push_modified(row, screen, true);
+    row.word(" ");
+    push_buffer(row, screen);
+}
+
 /// Whether cells, size, cursor, keyboard, attention identifier and answers are the same.
-fn are_alike(alloc: Global, pair: &Pair) -> Result<bool, AllocError> {
-    if pair.plain.size() != pair.planes.size()
-        || pair.plain.cursor() != pair.planes.cursor()
-        || pair.plain.lock() != pair.planes.lock()
-        || pair.plain.aid() != pair.planes.aid()
-        || !have_same_cells(pair)
-    {
-        return Ok(false);
-    }
-    let plain = write_inbound(alloc, &pair.plain, true)?;
-    let planes = write_inbound(alloc, &pair.planes, true)?;
-    let shown = write_buffer(alloc, &pair.plain)?;
-    let other = write_buffer(alloc, &pair.planes)?;
-    Ok(plain.as_slice() == planes.as_slice() && shown.as_slice() == other.as_slice())
+fn are_alike(row: &mut Row, pair: &Pair) -> bool {
+    pair.plain.size() == pair.planes.size()
+        && pair.plain.cursor() == pair.planes.cursor()
+        && pair.plain.lock() == pair.planes.lock()
+        && pair.plain.aid() == pair.planes.aid()
+        && have_same_cells(pair)
+        && have_same_answers(row, pair)
 }
 
 /// Presses a key on both; whether they answer alike.
@@ -85,51 +92,58 @@ fn press_alike(pair: &mut Pair, key: &Key) -> bool {
     plain == planes
 }
 
-/// Whether a generated record and some keys leave both alike.
-fn is_alike_after(alloc: Global, pair: &mut Pair, seed: &mut u32) -> Result<bool> {
-    let bytes = record_of(alloc, seed)?;
-    let record = Record::read(Mode::Bits14, bytes.as_slice())?;
-    let mut alike = take_alike(pair, &record) && are_alike(alloc, pair)?;
+/// Whether some keys leave both alike.
+fn stay_alike(row: &mut Row, pair: &mut Pair, seed: &mut u32) -> bool {
+    let mut alike = true;
     for _ in 0..4 {
         let key = key_of(seed);
-        alike = alike && press_alike(pair, &key);
-        alike = alike && are_alike(alloc, pair)?;
+        alike = alike && press_alike(pair, &key) && are_alike(row, pair);
     }
-    Ok(alike)
+    alike
+}
+
+/// Whether a generated record and some keys leave both alike.
+fn is_alike_after(row: &mut Row, pair: &mut Pair, seed: &mut u32) -> bool {
+    let bytes = record_of(row, seed);
+    let alike = match Record::read(Mode::Bits14, bytes.as_slice()) {
+        Ok(record) => take_alike(pair, &record) && are_alike(row, pair),
+        Err(_) => false,
+    };
+    stay_alike(row, pair, seed) && alike
 }
 
 /// After how many of so many generated records, each with some keys, both are alike.
-fn count_alike(alloc: Global, pair: &mut Pair, count: u32) -> Result<u32> {
+fn count_alike(row: &mut Row, pair: &mut Pair, count: u32) -> u32 {
     let mut seed = 19_990u32;
     let mut alike = 0u32;
     for _ in 0..count {
-        if is_alike_after(alloc, pair, &mut seed)? {
+        if is_alike_after(row, pair, &mut seed) {
             alike = alike.saturating_add(1);
         }
     }
-    Ok(alike)
+    alike
 }
 
-fn push_both(alloc: Global, setup: &Setup, out: &mut String, words: &str) -> Result<()> {
-    let count = number(words)?;
-    let mut pair = Pair {
-        plain: opened(alloc, setup)?,
-        planes: opened(alloc, setup)?,
-    };
-    let alike = count_alike(alloc, &mut pair, count)?;
-    Ok(push_alike_count(out, alike)?)
+fn opened_pair(row: &mut Row, setup: &Setup) -> Option<Pair> {
+    let plain = opened(row, setup)?;
+    let planes = opened(row, setup)?;
+    Some(Pair { plain, planes })
 }
 
-/// How many are alike.
-pub(crate) fn push_alike_count(out: &mut String, count: u32) -> Result<(), AllocError> {
-    push_number(out, count)?;
-    out.push_str(" alike")
+fn push_both(row: &mut Row, setup: &Setup, words: &str) {
+    let count = row.read_number(words);
+    match opened_pair(row, setup) {
+        Some(mut pair) => {
+            let alike = count_alike(row, &mut pair, count);
+            row.number(alike);
+            row.word(" alike");
+        }
+        None => row.spoil(),
+    }
 }
 
-/// Planes of so many positions, with an attribute at each so manieth.
-fn planes_of(alloc: Global, count: u32, apart: u32) -> Result<PlaneCells, AllocError> {
-    let mut cells = PlaneCells::reserved(alloc, count)?;
-    cells.clear(count);
+/// Puts an attribute at each so manieth position.
+fn put_apart(cells: &mut PlaneCells, count: u32, apart: u32) {
     let mut left = 0u32;
     for p in 0..count {
         if p < cells.len() && left == 0 && apart != 0 {
@@ -138,7 +152,6 @@ fn planes_of(alloc: Global, count: u32, apart: u32) -> Result<PlaneCells, AllocE
         }
         left = left.saturating_sub(1);
     }
-    Ok(cells)
 }
 
 /// The first attribute that is listed.
@@ -151,40 +164,41 @@ fn first_listed(cells: &PlaneCells) -> Option<u32> {
 }
 
 /// The attribute before a place, and how many were looked at to find it.
-fn push_looked(out: &mut String, cells: &PlaneCells, place: u32) -> Result<(), AllocError> {
+fn push_looked(row: &mut Row, cells: &PlaneCells, place: u32) {
     let mut probed = cells.probed();
-    push_word_number(out, "among ", probed.len())?;
+    row.word_number("among ", probed.len());
     match attr_before_counted(&mut probed, place) {
-        Some(q) => push_word_number(out, " at ", q)?,
-        None => out.push_str(" none")?,
+        Some(q) => row.word_number(" at ", q),
+        None => row.word(" none"),
     }
-    let looks = probed.probes();
-    write!(out, " looks {looks}")
+    row.word(" looks ");
+    row.show(&probed.probes());
+    if let Some(first) = first_listed(cells) {
+        row.word_number(" first ", first);
+    }
 }
 
-fn push_looks(alloc: Global, out: &mut String, words: &str) -> Result<()> {
-    let (count, rest) = cut_word(words)?;
-    let (apart, place) = cut_word(rest)?;
-    let cells = planes_of(alloc, number(count)?, number(apart)?)?;
-    push_looked(out, &cells, number(place)?)?;
-    if let Some(first) = first_listed(&cells) {
-        push_word_number(out, " first ", first)?;
+/// The same in planes of so many positions, with an attribute at each so manieth.
+fn push_looks(row: &mut Row, words: &str) {
+    let (count, rest) = row.cut(words, " ");
+    let count = row.read_number(count);
+    let (apart, place) = row.read_numbers(rest);
+    match PlaneCells::reserved(row.alloc(), count) {
+        Ok(mut cells) => {
+            cells.clear(count);
+            put_apart(&mut cells, count, apart);
+            push_looked(row, &cells, place);
+        }
+        Err(_) => row.spoil(),
     }
-    Ok(())
 }
 
 /// Adds what a verb answers; whether it is one of these.
-pub(crate) fn push_answer(
-    alloc: Global,
-    setup: &Setup,
-    out: &mut String,
-    verb: &str,
-    words: &str,
-) -> Result<bool> {
+pub(crate) fn push_answer(row: &mut Row, setup: &Setup, verb: &str, words: &str) -> bool {
     match verb {
-        "both" => push_both(alloc, setup, out, words)?,
-        "looks" => push_looks(alloc, out, words)?,
-        _ => return Ok(false),
+        "both" => push_both(row, setup, words),
+        "looks" => push_looks(row, words),
+        _ => return false,
     }
-    Ok(true)
+    true
 }

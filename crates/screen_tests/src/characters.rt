@@ -1,22 +1,23 @@
 //! Characters as they are printed.
 
-use anyhow::{Context, Result};
 use ds_codec::Char;
 use ds_screen::text_of;
-use test_words::byte;
+use test_words::Row;
 
 /// What is printed for a character.
-fn push_printed(out: &mut String, code: u8, alt: bool) -> Result<()> {
-    let character = Char::new(code, alt).context("a character")?;
-    Ok(out.push(char::from(text_of(character)))?)
+fn push_printed(row: &mut Row, word: &str, alt: bool) {
+    match Char::new(row.read_byte(word), alt) {
+        Some(character) => row.show(&char::from(text_of(character))),
+        None => row.spoil(),
+    }
 }
 
 /// Adds what a verb answers; whether it is one of these.
-pub(crate) fn push_answer(out: &mut String, verb: &str, words: &str) -> Result<bool> {
+pub(crate) fn push_answer(row: &mut Row, verb: &str, words: &str) -> bool {
     match verb {
-        "printed" => push_printed(out, byte(words)?, false)?,
-        "printed-alternate" => push_printed(out, byte(words)?, true)?,
-        _ => return Ok(false),
+        "printed" => push_printed(row, words, false),
+        "printed-alternate" => push_printed(row, words, true),
+        _ => return false,
     }
-    Ok(true)
+    true
 }

@@ -1,125 +1,83 @@
 //! Answers written and read.
 
-use crate::Setup;
-use crate::refusals::push_answer_refused;
-use crate::screens::screen_after;
-use crate::script::bytes_of;
-use anyhow::{Context, Result};
 use ds_codec::{Aid, Char, Mode};
 use ds_inbound::{Inbound, chars, write_buffer, write_inbound};
 use ds_screen::{Cells, Screen};
-use std::alloc::{AllocError, Global};
-use test_words::{
-    byte, cut_word, number, push_bytes, push_hex, push_length, push_word_hex, push_word_number,
-};
+use test_words::Row;
 
 /// Bytes, and how many characters they are.
-fn push_characters(out: &mut String, raw: &[u8]) -> Result<(), AllocError> {
-    push_bytes(out, raw)?;
-    out.push_str(" of ")?;
-    push_length(out, chars(raw).count())
+fn push_characters(row: &mut Row, raw: &[u8]) {
+    row.bytes(raw);
+    row.word_length(" of ", chars(raw).count());
 }
 
-fn push_cursor(out: &mut String, cursor: Option<u32>) -> Result<(), AllocError> {
-    match cursor {
-        Some(cursor) => push_word_number(out, " cursor ", cursor),
-        None => Ok(()),
+fn push_lead(row: &mut Row, lead: &[u8]) {
+    if !lead.is_empty() {
+        row.word(" lead ");
+        push_characters(row, lead);
     }
 }
 
-fn push_lead(out: &mut String, lead: &[u8]) -> Result<(), AllocError> {
-    if lead.is_empty() {
-        return Ok(());
+fn push_inbound(row: &mut Row, answer: &Inbound<'_>) {
+    row.hex(answer.aid().byte());
+    if let Some(cursor) = answer.cursor() {
+        row.word_number(" cursor ", cursor);
     }
-    out.push_str(" lead ")?;
-    push_characters(out, lead)
-}
-
-fn push_fields(out: &mut String, answer: &Inbound<'_>) -> Result<(), AllocError> {
+    push_lead(row, answer.lead());
     for field in answer.fields() {
-        push_word_number(out, ", ", field.place)?;
-        out.push(' ')?;
-        push_characters(out, field.raw)?;
+        row.word_number(", ", field.place);
+        row.word(" ");
+        push_characters(row, field.raw);
     }
-    Ok(())
-}
-
-fn push_inbound(out: &mut String, answer: &Inbound<'_>) -> Result<(), AllocError> {
-    push_hex(out, answer.aid().byte())?;
-    push_cursor(out, answer.cursor())?;
-    push_lead(out, answer.lead())?;
-    push_fields(out, answer)
 }
 
 /// What bytes say of a buffer of so many cells.
-fn push_read(alloc: Global, mode: Mode, out: &mut String, words: &str) -> Result<()> {
-    let (cells, bytes) = cut_word(words)?;
-    let cells = number(cells)?;
-    let bytes = bytes_of(alloc, bytes)?;
+pub(crate) fn push_read(row: &mut Row, mode: Mode, words: &str) {
+    let (cells, bytes) = row.cut(words, " ");
+    let cells = row.read_number(cells);
+    let bytes = row.read_bytes(bytes);
     match Inbound::read(mode, cells, bytes.as_slice()) {
-        Ok(answer) => Ok(push_inbound(out, &answer)?),
-        Err(refused) => Ok(push_answer_refused(out, refused)?),
+        Ok(answer) => push_inbound(row, &answer),
+        Err(refused) => row.show(&refused),
     }
 }
 
-fn push_character(out: &mut String, character: Char) -> Result<(), AllocError> {
-    push_word_hex(
-        out,
-        if character.alt() { " GE " } else { " " },
-        character.code(),
-    )
+fn push_character(row: &mut Row, character: Char) {
+    row.word(if character.alt() { " GE " } else { " " });
+    row.hex(character.code());
 }
 
 /// The characters of bytes.
-fn push_codes(out: &mut String, raw: &[u8]) -> Result<(), AllocError> {
-    out.push_str("characters")?;
-    for character in chars(raw) {
-        push_character(out, character)?;
+pub(crate) fn push_codes(row: &mut Row, words: &str) {
+    let raw = row.read_bytes(words);
+    row.word("characters");
+    for character in chars(raw.as_slice()) {
+        push_character(row, character);
     }
-    Ok(())
 }
 
-fn push_modified<C: Cells>(
-    alloc: Global,
-    out: &mut String,
-    screen: &Screen<C>,
-    all: bool,
-) -> Result<()> {
-    let bytes = write_inbound(alloc, screen, all)?;
-    Ok(push_bytes(out, bytes.as_slice())?)
+pub(crate) fn push_modified<C: Cells>(row: &mut Row, screen: &Screen<C>, all: bool) {
+    match write_inbound(row.alloc(), screen, all) {
+        Ok(bytes) => row.bytes(bytes.as_slice()),
+        Err(_) => row.spoil(),
+    }
 }
 
-/// What a screen answers to Read Modified and to Read Modified All, after a key and more records.
-fn push_sent<C: Cells>(alloc: Global, setup: &Setup, out: &mut String, words: &str) -> Result<()> {
-    let (aid, records) = words.split_once(' ').unwrap_or((words, ""));
-    let aid = Aid::from_byte(byte(aid)?).context("an attention identifier")?;
-    let mut screen = screen_after::<C>(alloc, setup, records)?;
-    screen.set_aid(aid);
-    push_modified(alloc, out, &screen, false)?;
-    out.push_str(" all ")?;
-    push_modified(alloc, out, &screen, true)
+/// What a screen answers to Read Modified and to Read Modified All, after a key.
+pub(crate) fn push_sent<C: Cells>(row: &mut Row, screen: &mut Screen<C>, aid: &str) {
+    match Aid::from_byte(row.read_byte(aid)) {
+        Some(aid) => screen.set_aid(aid),
+        None => row.spoil(),
+    }
+    push_modified(row, screen, false);
+    row.word(" all ");
+    push_modified(row, screen, true);
 }
 
 /// What a screen answers to Read Buffer.
-fn push_buffer<C: Cells>(alloc: Global, out: &mut String, screen: &Screen<C>) -> Result<()> {
-    let bytes = write_buffer(alloc, screen)?;
-    Ok(push_bytes(out, bytes.as_slice())?)
-}
-
-/// Adds what a verb answers; whether it is one of these.
-pub(crate) fn push_answer<C: Cells>(
-    alloc: Global,
-    setup: &Setup,
-    out: &mut String,
-    verb: &str,
-    words: &str,
-) -> Result<bool> {
-    match verb {
-        "answer" => push_read(alloc, setup.mode, out, words)?,
-        "characters" => push_codes(out, bytes_of(alloc, words)?.as_slice())?,
-        "sent" => push_sent::<C>(alloc, setup, out, words)?,
-        "buffer" => push_buffer(alloc, out, &screen_after::<C>(alloc, setup, words)?)?,
-        _ => return Ok(false),
+pub(crate) fn push_buffer<C: Cells>(row: &mut Row, screen: &Screen<C>) {
+    match write_buffer(row.alloc(), screen) {
+        Ok(bytes) => row.bytes(bytes.as_slice()),
+        Err(_) => row.spoil(),
     }
-    Ok(true)
 }

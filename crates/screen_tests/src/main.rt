@@ -16,19 +16,16 @@ mod inbound;
 mod keys;
 mod large;
 mod outlines;
-mod refusals;
 mod ring;
 mod screens;
-mod script;
 mod searches;
 mod terminal;
 mod words;
 
-use anyhow::{Context, Result};
+use anyhow::Result;
 use ds_codec::{Mode, Size};
 use ds_screen::{Cells, PlainCells, PlaneCells};
-use std::alloc::Global;
-use test_words::is_row;
+use test_words::{Row, is_row};
 
 /// What the screens of a script's lines begin with.
 #[derive(Drop)]
@@ -40,115 +37,129 @@ pub(crate) struct Setup {
 }
 
 /// The size of a text such as `24x80`, whether a terminal can have it or not.
-pub(crate) fn size_of(text: &str) -> Result<Size> {
-    let (rows, cols) = text.split_once('x').context("a size")?;
-    let rows = u16::from_str_radix(rows, 10)?;
-    let cols = u16::from_str_radix(cols, 10)?;
-    Ok(Size { rows, cols })
+fn read_size(row: &mut Row, text: &str) -> Size {
+    let (rows, cols) = row.cut(text, "x");
+    let rows = row.read_short(rows);
+    let cols = row.read_short(cols);
+    Size { rows, cols }
 }
 
-fn set_sizes(setup: &mut Setup, sizes: &str) -> Result<()> {
+fn set_sizes(row: &mut Row, setup: &mut Setup, sizes: &str) {
     let (default, alternate) = sizes.split_once(' ').unwrap_or((sizes, sizes));
-    setup.default = size_of(default)?;
-    setup.alternate = size_of(alternate)?;
-    Ok(())
+    setup.default = read_size(row, default);
+    setup.alternate = read_size(row, alternate);
 }
 
-fn mode_of(bits: &str) -> Result<Mode> {
+fn set_mode(row: &mut Row, setup: &mut Setup, bits: &str) {
     match bits {
-        "14" => Ok(Mode::Bits14),
-        "16" => Ok(Mode::Bits16),
-        _ => None.context("14 or 16"),
+        "14" => setup.mode = Mode::Bits14,
+        "16" => setup.mode = Mode::Bits16,
+        _ => row.spoil(),
+    }
+}
+
+fn set_after(row: &mut Row, setup: &mut Setup, records: &str) {
+    match String::from_str(row.alloc(), records) {
+        Ok(after) => setup.after = after,
+        Err(_) => row.spoil(),
     }
 }
 
 /// Takes a line that says what the screens begin with; whether it is one.
-fn take_line(alloc: Global, setup: &mut Setup, line: &str) -> Result<bool> {
-    let (verb, words) = line.split_once(' ').unwrap_or((line, ""));
+fn take_line(row: &mut Row, setup: &mut Setup, verb: &str, words: &str) -> bool {
     match verb {
-        "screen" => set_sizes(setup, words)?,
-        "addresses" => setup.mode = mode_of(words)?,
-        "after" => setup.after = String::from_str(alloc, words)?,
-        _ => return Ok(false),
+        "screen" => set_sizes(row, setup, words),
+        "addresses" => set_mode(row, setup, words),
+        "after" => set_after(row, setup, words),
+        _ => return false,
     }
-    Ok(true)
+    true
 }
 
-/// Adds what a verb answers that begins with a screen of one kind; whether it is one.
-fn push_screen_answer<C: Cells>(
-    alloc: Global,
-    setup: &Setup,
-    out: &mut String,
-    verb: &str,
-    words: &str,
-) -> Result<bool> {
-    Ok(
-        screens::push_answer::<C>(alloc, setup, out, verb, words)?
-            || searches::push_answer::<C>(alloc, setup, out, verb, words)?
-            || keys::push_answer::<C>(alloc, setup, out, verb, words)?
-            || terminal::push_answer::<C>(alloc, setup, out, verb, words)?
-            || inbound::push_answer::<C>(alloc, setup, out, verb, words)?
-            || large::push_answer::<C>(alloc, setup, out, verb, words)?,
-    )
+/// Adds what a verb answers that makes its own screens, or none; whether it is one.
+fn push_own_answer<C: Cells>(row: &mut Row, setup: &Setup, verb: &str, words: &str) -> bool {
+    match verb {
+        "each" => keys::push_each::<C>(row, setup, words),
+        "word" => keys::push_word(row, words),
+        "take" => terminal::push_two::<C>(row, setup, words),
+        "reserved" => searches::push_reserved::<C>(row, words),
+        "answer" => inbound::push_read(row, setup.mode, words),
+        "characters" => inbound::push_codes(row, words),
+        "counted" => large::push_counted(row, words),
+        _ => return false,
+    }
+    true
+}
+
+/// Adds what a verb answers that begins with a screen after the setup's records; whether it is one.
+fn push_screen_answer<C: Cells>(row: &mut Row, setup: &Setup, verb: &str, words: &str) -> bool {
+    match screens::opened::<C>(row, setup) {
+        Some(mut screen) => {
+            screens::push_answer(row, &mut screen, verb, words)
+                || searches::push_answer(row, &screen, verb, words)
+                || keys::push_answer(row, &mut screen, verb, words)
+        }
+        None => {
+            row.spoil();
+            false
+        }
+    }
+}
+
+/// Adds what a verb answers with one way of keeping a buffer; whether it is one.
+fn push_kept_answer<C: Cells>(row: &mut Row, setup: &Setup, verb: &str, words: &str) -> bool {
+    push_own_answer::<C>(row, setup, verb, words)
+        || terminal::push_answer::<C>(row, setup, verb, words)
+        || push_screen_answer::<C>(row, setup, verb, words)
 }
 
 /// Adds what a verb answers with either way of keeping a buffer, and both answers where they differ; whether it is one.
-fn push_either_answer(
-    alloc: Global,
-    setup: &Setup,
-    out: &mut String,
-    verb: &str,
-    words: &str,
-) -> Result<bool> {
-    let mut planes = String::new(alloc);
-    let is_verb = push_screen_answer::<PlaneCells>(alloc, setup, &mut planes, verb, words)?;
-    let mut plain = String::new(alloc);
-    let _same = push_screen_answer::<PlainCells>(alloc, setup, &mut plain, verb, words)?;
-    out.push_str(plain.as_str())?;
-    if plain.as_str() != planes.as_str() {
-        out.push_str(" but planes ")?;
-        out.push_str(planes.as_str())?;
+fn push_either_answer(row: &mut Row, setup: &Setup, verb: &str, words: &str) -> bool {
+    let mut planes = Row::new(row.alloc());
+    let is_verb = push_kept_answer::<PlaneCells>(&mut planes, setup, verb, words);
+    let mut plain = Row::new(row.alloc());
+    let _same = push_kept_answer::<PlainCells>(&mut plain, setup, verb, words);
+    row.join(&plain);
+    if !planes.says(plain.text.as_str()) {
+        row.word(" but planes ");
+        row.join(&planes);
     }
-    Ok(is_verb)
+    is_verb
 }
 
 /// Adds what a row answers.
-fn push_answer(alloc: Global, setup: &Setup, out: &mut String, line: &str) -> Result<()> {
-    let (verb, words) = line.split_once(' ').unwrap_or((line, ""));
-    if ring::push_answer(out, verb, words)?
-        || characters::push_answer(out, verb, words)?
-        || words::push_answer(out, verb)?
-        || both::push_answer(alloc, setup, out, verb, words)?
-        || outlines::push_answer(alloc, setup, out, verb, words)?
-        || push_either_answer(alloc, setup, out, verb, words)?
-    {
-        return Ok(());
-    }
-    Ok(out.push_str("no such verb")?)
+fn push_answer(row: &mut Row, setup: &Setup, verb: &str, words: &str) {
+    row.word(" > ");
+    let is_verb = ring::push_answer(row, verb, words)
+        || characters::push_answer(row, verb, words)
+        || words::push_answer(row, verb)
+        || both::push_answer(row, setup, verb, words)
+        || outlines::push_answer(row, setup, verb, words)
+        || push_either_answer(row, setup, verb, words);
+    row.word_if(!is_verb, "no such verb");
 }
 
-/// A line as it is printed: of a row with its answer.
-fn printed(alloc: Global, setup: &mut Setup, line: &str) -> Result<String> {
-    let mut out = String::from_str(alloc, line)?;
-    if is_row(line) && !take_line(alloc, setup, line)? {
-        out.push_str(" > ")?;
-        push_answer(alloc, setup, &mut out, line)?;
+/// Adds a line as it is printed: of a row with its answer.
+fn push_line(row: &mut Row, setup: &mut Setup, line: &str) {
+    row.word(line);
+    let (verb, words) = line.split_once(' ').unwrap_or((line, ""));
+    if is_row(line) && !take_line(row, setup, verb, words) {
+        push_answer(row, setup, verb, words);
     }
-    Ok(out)
 }
 
 fn main(rt: HostRuntime) -> Result<()> {
-    let alloc = rt.alloc();
     let small = Size { rows: 2, cols: 10 };
     let mut setup = Setup {
         default: small,
         alternate: small,
         mode: Mode::Bits14,
-        after: String::new(alloc),
+        after: String::new(rt.alloc()),
     };
-    for line in rt.lines(alloc) {
-        let line = line?;
-        let text = printed(alloc, &mut setup, line.as_str())?;
+    for line in rt.lines(rt.alloc()) {
+        let mut row = Row::new(rt.alloc());
+        push_line(&mut row, &mut setup, line?.as_str());
+        let text = row.finish()?;
         println!(rt; "{text}")?;
     }
     Ok(())

@@ -1,92 +1,97 @@
 //! What records leave of an outline.
 
 use crate::Setup;
-use crate::both::push_alike_count;
 use crate::generated::count_alike;
-use crate::refusals::push_apply_refused;
-use crate::screens::{opened, push_field, push_state};
-use crate::script::bytes_of;
-use anyhow::Result;
-use ds_codec::{Geometry, Record, last_attr};
+use crate::screens::{geometry_of, opened, push_field, push_state};
+use ds_codec::{Record, last_attr};
 use ds_screen::{Outline, PlainCells};
-use std::alloc::{AllocError, Global};
-use test_words::{number, push_hex};
+use test_words::Row;
 
 /// A new outline of the setup's sizes.
-fn blank(alloc: Global, setup: &Setup) -> Result<Outline> {
-    let geometry = Geometry::new(setup.default, setup.alternate, setup.mode)?;
-    Ok(Outline::new(alloc, geometry)?)
+fn blank(row: &Row, setup: &Setup) -> Option<Outline> {
+    Outline::new(row.alloc(), geometry_of(setup)?).ok()
 }
 
 /// Applies a record; tells why it is refused.
-fn take(alloc: Global, out: &mut String, outline: &mut Outline, text: &str) -> Result<()> {
-    let bytes = bytes_of(alloc, text)?;
-    let record = Record::read(outline.geometry().mode(), bytes.as_slice())?;
-    if let Err(refused) = outline.apply(&record) {
-        push_apply_refused(out, refused)?;
-        out.push_str("; ")?;
+fn apply(row: &mut Row, outline: &mut Outline, record: &Record<'_>) {
+    if let Err(refused) = outline.apply(record) {
+        row.show(&refused);
+        row.word("; ");
     }
-    Ok(())
+}
+
+fn take(row: &mut Row, outline: &mut Outline, text: &str) {
+    let bytes = row.read_bytes(text);
+    match Record::read(outline.geometry().mode(), bytes.as_slice()) {
+        Ok(record) => apply(row, outline, &record),
+        Err(_) => row.spoil(),
+    }
 }
 
 /// Applies records that are parted by semicolons.
-fn take_all(alloc: Global, out: &mut String, outline: &mut Outline, records: &str) -> Result<()> {
+fn take_all(row: &mut Row, outline: &mut Outline, records: &str) {
     for text in records.split(';') {
         if !text.is_empty() {
-            take(alloc, out, outline, text)?;
+            take(row, outline, text);
         }
     }
-    Ok(())
 }
 
 /// The size, the cursor, the keyboard and the fields.
-fn push_outline(out: &mut String, outline: &Outline) -> Result<(), AllocError> {
-    push_state(out, outline.size(), outline.cursor(), outline.lock())?;
+fn push_outline(row: &mut Row, outline: &Outline) {
+    push_state(row, outline.size(), outline.cursor(), outline.lock());
     for field in outline.fields() {
-        push_field(out, field)?;
+        push_field(row, field);
     }
-    Ok(())
 }
 
 /// The outline after the setup's records and some more.
-fn push_after(alloc: Global, setup: &Setup, out: &mut String, records: &str) -> Result<()> {
-    let mut outline = blank(alloc, setup)?;
-    take_all(alloc, out, &mut outline, setup.after.as_str())?;
-    take_all(alloc, out, &mut outline, records)?;
-    Ok(push_outline(out, &outline)?)
+fn push_after(row: &mut Row, setup: &Setup, outline: &mut Outline, records: &str) {
+    take_all(row, outline, setup.after.as_str());
+    take_all(row, outline, records);
+    push_outline(row, outline);
 }
 
 /// After how many generated records an outline and a screen are alike.
-fn push_alike(alloc: Global, setup: &Setup, out: &mut String, words: &str) -> Result<()> {
-    let count = number(words)?;
-    let mut outline = blank(alloc, setup)?;
-    let mut screen = opened::<PlainCells>(alloc, setup)?;
-    let alike = count_alike(alloc, &mut outline, &mut screen, count)?;
-    Ok(push_alike_count(out, alike)?)
+fn push_alike(row: &mut Row, setup: &Setup, outline: &mut Outline, words: &str) {
+    let count = row.read_number(words);
+    match opened::<PlainCells>(row, setup) {
+        Some(mut screen) => {
+            let alike = count_alike(row, outline, &mut screen, count);
+            row.number(alike);
+            row.word(" alike");
+        }
+        None => row.spoil(),
+    }
 }
 
 /// The bits of the last attribute among pairs.
-fn push_last(alloc: Global, out: &mut String, words: &str) -> Result<()> {
-    let bytes = bytes_of(alloc, words)?;
-    match last_attr(bytes.as_slice()) {
-        Some(attribute) => Ok(push_hex(out, attribute.bits())?),
-        None => Ok(out.push_str("none")?),
+fn push_last(row: &mut Row, words: &str) {
+    let pairs = row.read_bytes(words);
+    match last_attr(pairs.as_slice()) {
+        Some(attribute) => row.hex(attribute.bits()),
+        None => row.word("none"),
+    }
+}
+
+/// Adds what a verb answers that begins with an outline.
+fn push_outlined(row: &mut Row, setup: &Setup, verb: &str, words: &str) {
+    let Some(mut outline) = blank(row, setup) else {
+        return row.spoil();
+    };
+    if verb == "outline" {
+        push_after(row, setup, &mut outline, words);
+    } else {
+        push_alike(row, setup, &mut outline, words);
     }
 }
 
 /// Adds what a verb answers; whether it is one of these.
-pub(crate) fn push_answer(
-    alloc: Global,
-    setup: &Setup,
-    out: &mut String,
-    verb: &str,
-    words: &str,
-) -> Result<bool> {
+pub(crate) fn push_answer(row: &mut Row, setup: &Setup, verb: &str, words: &str) -> bool {
     match verb {
-        "outline" => push_after(alloc, setup, out, words)?,
-        "alike" => push_alike(alloc, setup, out, words)?,
-        "last" => push_last(alloc, out, words)?,
-        _ => return Ok(false),
+        "outline" | "alike" => push_outlined(row, setup, verb, words),
+        "last" => push_last(row, words),
+        _ => return false,
     }
-    Ok(true)
+    true
 }

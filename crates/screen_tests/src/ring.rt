@@ -1,47 +1,48 @@
 //! Steps round the ring of positions.
 
-use anyhow::{Context, Result};
 use ds_screen::ring::{backward, distance, forward, next, previous};
-use test_words::{number, push_number, push_word_number};
+use test_words::Row;
 
 /// The positions after and before one of so many.
-fn push_beside(out: &mut String, n: u32, p: u32) -> Result<()> {
+fn push_beside(row: &mut Row, n: u32, p: u32) {
     if p >= n {
-        return None.context("a position inside");
+        return row.spoil();
     }
-    push_number(out, next(n, p))?;
-    Ok(push_word_number(out, " ", previous(n, p))?)
+    row.number(next(n, p));
+    row.word_number(" ", previous(n, p));
 }
 
 /// The positions so many steps on and back.
-fn push_far(out: &mut String, n: u32, p: u32, steps: u32) -> Result<()> {
+fn push_far(row: &mut Row, n: u32, p: u32, steps: u32) {
     if p >= n || steps > n {
-        return None.context("a position inside");
+        return row.spoil();
     }
-    push_number(out, forward(n, p, steps))?;
-    Ok(push_word_number(out, " ", backward(n, p, steps))?)
+    row.number(forward(n, p, steps));
+    row.word_number(" ", backward(n, p, steps));
 }
 
 /// The steps from one position on to another.
-fn push_distance(out: &mut String, n: u32, from: u32, to: u32) -> Result<()> {
+fn push_distance(row: &mut Row, n: u32, from: u32, to: u32) {
     if from >= n {
-        return None.context("a position inside");
+        return row.spoil();
     }
-    Ok(push_number(out, distance(n, from, to))?)
+    row.number(distance(n, from, to));
 }
 
 /// Adds what a verb answers of three numbers, the last 0 where there are two; whether it is one of these.
-pub(crate) fn push_answer(out: &mut String, verb: &str, words: &str) -> Result<bool> {
+pub(crate) fn push_answer(row: &mut Row, verb: &str, words: &str) -> bool {
     if verb != "beside" && verb != "far" && verb != "distance" {
-        return Ok(false);
+        return false;
     }
-    let (n, rest) = words.split_once(' ').context("a position")?;
+    let (n, rest) = row.cut(words, " ");
     let (first, second) = rest.split_once(' ').unwrap_or((rest, "0"));
-    let (n, first, second) = (number(n)?, number(first)?, number(second)?);
+    let n = row.read_number(n);
+    let first = row.read_number(first);
+    let second = row.read_number(second);
     match verb {
-        "beside" => push_beside(out, n, first)?,
-        "far" => push_far(out, n, first, second)?,
-        _ => push_distance(out, n, first, second)?,
+        "beside" => push_beside(row, n, first),
+        "far" => push_far(row, n, first, second),
+        _ => push_distance(row, n, first, second),
     }
-    Ok(true)
+    true
 }

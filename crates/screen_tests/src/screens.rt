@@ -1,76 +1,67 @@
 //! What records do to screens, and what keys change on them.
 
 use crate::Setup;
-use crate::refusals::push_apply_refused;
-use crate::script::bytes_of;
-use anyhow::{Context, Result};
+use crate::inbound::{push_buffer, push_sent};
+use crate::large::{push_buffers, push_sends};
 use ds_codec::{Aid, Attr, Char, Geometry, Record, Size};
 use ds_screen::{Cells, Effect, FieldAt, Lock, Screen};
-use std::alloc::{AllocError, Global};
-use test_words::{
-    byte, cut_word, number, push_bool, push_letters, push_number, push_word_hex, push_word_number,
-};
+use test_words::Row;
 
-/// A new screen of the setup's sizes after its records.
-pub(crate) fn opened<C: Cells>(alloc: Global, setup: &Setup) -> Result<Screen<C>> {
-    let geometry = Geometry::new(setup.default, setup.alternate, setup.mode)?;
-    let mut screen = Screen::new(alloc, geometry)?;
-    write_all(alloc, &mut screen, setup.after.as_str())?;
-    Ok(screen)
+/// The verbs that say what a screen is after more records.
+const AFTER: &[&str] = &["cells", "all", "fields", "clear", "buffer"];
+
+/// The verbs of a screen after records that end at a mark.
+const BEFORE_MARK: &[&str] = &["sends", "buffers"];
+
+/// The setup's sizes.
+pub(crate) fn geometry_of(setup: &Setup) -> Option<Geometry> {
+    Geometry::new(setup.default, setup.alternate, setup.mode).ok()
 }
 
-/// The same after some more records.
-pub(crate) fn screen_after<C: Cells>(
-    alloc: Global,
-    setup: &Setup,
-    records: &str,
-) -> Result<Screen<C>> {
-    let mut screen = opened::<C>(alloc, setup)?;
-    write_all(alloc, &mut screen, records)?;
-    Ok(screen)
+/// A new screen of the setup's sizes after its records.
+pub(crate) fn opened<C: Cells>(row: &mut Row, setup: &Setup) -> Option<Screen<C>> {
+    let mut screen = Screen::new(row.alloc(), geometry_of(setup)?).ok()?;
+    write_all(row, &mut screen, setup.after.as_str());
+    Some(screen)
 }
 
 /// Applies a record.
-fn write<C: Cells>(alloc: Global, screen: &mut Screen<C>, text: &str) -> Result<Effect> {
-    let bytes = bytes_of(alloc, text)?;
-    let record = Record::read(screen.geometry().mode(), bytes.as_slice())?;
-    Ok(screen.apply(&record)?)
+fn write<C: Cells>(row: &mut Row, screen: &mut Screen<C>, text: &str) -> Option<Effect> {
+    let bytes = row.read_bytes(text);
+    match Record::read(screen.geometry().mode(), bytes.as_slice()) {
+        Ok(record) => screen.apply(&record).ok(),
+        Err(_) => None,
+    }
 }
 
 /// Applies records that are parted by semicolons.
-pub(crate) fn write_all<C: Cells>(
-    alloc: Global,
-    screen: &mut Screen<C>,
-    records: &str,
-) -> Result<()> {
+pub(crate) fn write_all<C: Cells>(row: &mut Row, screen: &mut Screen<C>, records: &str) {
     for text in records.split(';') {
-        if !text.is_empty() {
-            let _effect = write(alloc, screen, text)?;
+        if !text.is_empty() && write(row, screen, text).is_none() {
+            row.spoil();
         }
     }
-    Ok(())
 }
 
-/// All rows, one after the other.
-fn rows_of<C: Cells>(alloc: Global, screen: &Screen<C>) -> Result<String, AllocError> {
-    let mut text = String::new(alloc);
-    let size = screen.size();
-    for row in 0..size.rows {
-        let line = screen.shown_row(alloc, row)?;
-        text.push_str(line.as_str())?;
+/// Adds a row of a screen to a text.
+fn add_row<C: Cells>(row: &mut Row, text: &mut String, screen: &Screen<C>, index: u16) {
+    if index >= screen.size().rows {
+        return;
     }
-    Ok(text)
+    match screen.shown_row(row.alloc(), index) {
+        Ok(line) => row.note(text.push_str(line.as_str())),
+        Err(_) => row.spoil(),
+    }
 }
 
 /// All rows, one after the other, and the cursor.
-pub(crate) fn push_cells<C: Cells>(
-    alloc: Global,
-    out: &mut String,
-    screen: &Screen<C>,
-) -> Result<(), AllocError> {
-    let rows = rows_of(alloc, screen)?;
-    push_letters(out, rows.as_str())?;
-    push_word_number(out, " ", screen.cursor())
+pub(crate) fn push_cells<C: Cells>(row: &mut Row, screen: &Screen<C>) {
+    let mut text = String::new(row.alloc());
+    for index in 0..screen.size().rows {
+        add_row(row, &mut text, screen, index);
+    }
+    row.letters(text.as_str());
+    row.word_number(" ", screen.cursor());
 }
 
 fn name_of(lock: Lock) -> &'static str {
@@ -81,238 +72,236 @@ fn name_of(lock: Lock) -> &'static str {
     }
 }
 
-fn push_size(out: &mut String, size: Size) -> Result<(), AllocError> {
-    push_number(out, u32::from(size.rows))?;
-    push_word_number(out, "x", u32::from(size.cols))
+fn push_size(row: &mut Row, size: Size) {
+    row.number(u32::from(size.rows));
+    row.word_number("x", u32::from(size.cols));
 }
 
 /// The cells with the size, the keyboard and the attention identifier.
-pub(crate) fn push_all<C: Cells>(
-    alloc: Global,
-    out: &mut String,
-    screen: &Screen<C>,
-) -> Result<(), AllocError> {
-    push_cells(alloc, out, screen)?;
-    out.push(' ')?;
-    push_size(out, screen.size())?;
-    out.push(' ')?;
-    out.push_str(name_of(screen.lock()))?;
-    push_word_hex(out, " ", screen.aid().byte())
+pub(crate) fn push_all<C: Cells>(row: &mut Row, screen: &Screen<C>) {
+    push_cells(row, screen);
+    row.word(" ");
+    push_size(row, screen.size());
+    row.word(" ");
+    row.word(name_of(screen.lock()));
+    row.word_hex(" ", screen.aid().byte());
 }
 
 /// Where a field's attribute stands, its bits, its first place and its length.
-pub(crate) fn push_field(out: &mut String, field: FieldAt) -> Result<(), AllocError> {
-    push_word_number(out, ", ", field.at)?;
-    push_word_hex(out, " ", field.attr.bits())?;
-    push_word_number(out, " ", field.place)?;
-    push_word_number(out, " ", field.length)
+pub(crate) fn push_field(row: &mut Row, field: FieldAt) {
+    row.word_number(", ", field.at);
+    row.word_hex(" ", field.attr.bits());
+    row.word_number(" ", field.place);
+    row.word_number(" ", field.length);
 }
 
-fn push_fields<C: Cells>(out: &mut String, screen: &Screen<C>) -> Result<(), AllocError> {
-    out.push_str("fields")?;
+fn push_fields<C: Cells>(row: &mut Row, screen: &Screen<C>) {
+    row.word("fields");
     for field in screen.fields() {
-        push_field(out, field)?;
+        push_field(row, field);
     }
-    Ok(())
 }
 
 /// Applies a record; why it is refused.
-fn push_applied<C: Cells>(
-    out: &mut String,
-    screen: &mut Screen<C>,
-    record: &Record<'_>,
-) -> Result<(), AllocError> {
+fn push_applied<C: Cells>(row: &mut Row, screen: &mut Screen<C>, record: &Record<'_>) {
     match screen.apply(record) {
-        Ok(_) => out.push_str("applied"),
-        Err(refused) => push_apply_refused(out, refused),
+        Ok(_) => row.word("applied"),
+        Err(refused) => row.show(&refused),
     }
 }
 
 /// Why a record is refused, and the cells after it.
-fn push_refused<C: Cells>(
-    alloc: Global,
-    setup: &Setup,
-    out: &mut String,
-    text: &str,
-) -> Result<()> {
-    let mut screen = opened::<C>(alloc, setup)?;
-    let bytes = bytes_of(alloc, text)?;
-    let record = Record::read(setup.mode, bytes.as_slice())?;
-    push_applied(out, &mut screen, &record)?;
-    out.push_str(": ")?;
-    Ok(push_cells(alloc, out, &screen)?)
+fn push_refused<C: Cells>(row: &mut Row, screen: &mut Screen<C>, text: &str) {
+    let bytes = row.read_bytes(text);
+    match Record::read(screen.geometry().mode(), bytes.as_slice()) {
+        Ok(record) => push_applied(row, screen, &record),
+        Err(_) => row.spoil(),
+    }
+    row.word(": ");
+    push_cells(row, screen);
 }
 
 /// The size, the cursor and the keyboard.
-pub(crate) fn push_state(
-    out: &mut String,
-    size: Size,
-    cursor: u32,
-    lock: Lock,
-) -> Result<(), AllocError> {
-    push_size(out, size)?;
-    push_word_number(out, " ", cursor)?;
-    out.push(' ')?;
-    out.push_str(name_of(lock))
+pub(crate) fn push_state(row: &mut Row, size: Size, cursor: u32, lock: Lock) {
+    push_size(row, size);
+    row.word_number(" ", cursor);
+    row.word(" ");
+    row.word(name_of(lock));
 }
 
 /// What a record does besides, with the size, the cursor and the keyboard after it.
-fn push_effect<C: Cells>(
-    out: &mut String,
-    effect: Effect,
-    screen: &Screen<C>,
-) -> Result<(), AllocError> {
-    out.push_str("alarm ")?;
-    push_bool(out, effect.alarm)?;
-    out.push_str(" restored ")?;
-    push_bool(out, effect.restored)?;
-    out.push(' ')?;
-    push_state(out, screen.size(), screen.cursor(), screen.lock())?;
-    out.push_str("; ")
+fn push_effect<C: Cells>(row: &mut Row, effect: Effect, screen: &Screen<C>) {
+    row.word("alarm ");
+    row.truth(effect.alarm);
+    row.word(" restored ");
+    row.truth(effect.restored);
+    row.word(" ");
+    push_state(row, screen.size(), screen.cursor(), screen.lock());
+    row.word("; ");
 }
 
 /// What records do besides, one after the other.
-fn push_effects<C: Cells>(
-    alloc: Global,
-    setup: &Setup,
-    out: &mut String,
-    records: &str,
-) -> Result<()> {
-    let mut screen = opened::<C>(alloc, setup)?;
+fn push_effects<C: Cells>(row: &mut Row, screen: &mut Screen<C>, records: &str) {
     for text in records.split(';') {
-        let effect = write(alloc, &mut screen, text)?;
-        push_effect(out, effect, &screen)?;
+        match write(row, screen, text) {
+            Some(effect) => push_effect(row, effect, screen),
+            None => row.spoil(),
+        }
     }
-    Ok(())
 }
 
 /// A copy, once records came to the screen, and once they came to the copy too.
-fn push_copy<C: Cells>(
-    alloc: Global,
-    setup: &Setup,
-    out: &mut String,
-    records: &str,
-) -> Result<()> {
-    let mut screen = opened::<C>(alloc, setup)?;
+fn push_both<C: Cells>(row: &mut Row, screen: &mut Screen<C>, copy: &mut Screen<C>, records: &str) {
+    write_all(row, screen, records);
+    push_all(row, copy);
+    row.word_if(copy.geometry() == screen.geometry(), " of the same sizes");
+    row.word(", then ");
+    write_all(row, copy, records);
+    push_cells(row, copy);
+}
+
+fn push_copy<C: Cells>(row: &mut Row, screen: &mut Screen<C>, records: &str) {
     screen.set_aid(Aid::enter());
-    let mut copy = screen.copied(alloc)?;
-    write_all(alloc, &mut screen, records)?;
-    push_all(alloc, out, &copy)?;
-    let is_same = copy.geometry() == screen.geometry();
-    out.push_str(if is_same {
-        " of the same sizes, then "
-    } else {
-        ", then "
-    })?;
-    write_all(alloc, &mut copy, records)?;
-    Ok(push_cells(alloc, out, &copy)?)
+    match screen.copied(row.alloc()) {
+        Ok(mut copy) => push_both(row, screen, &mut copy, records),
+        Err(_) => row.spoil(),
+    }
+}
+
+/// A plain character of a code.
+fn read_character(row: &mut Row, code: &str) -> Char {
+    match Char::new(row.read_byte(code), false) {
+        Some(character) => character,
+        None => {
+            row.spoil();
+            Char::null()
+        }
+    }
 }
 
 /// The screen once a character was put at a place and the cursor moved there.
-fn push_put<C: Cells>(alloc: Global, setup: &Setup, out: &mut String, words: &str) -> Result<()> {
-    let (place, code) = cut_word(words)?;
-    let (place, code) = (number(place)?, byte(code)?);
-    let character = Char::new(code, false).context("a character")?;
-    let mut screen = opened::<C>(alloc, setup)?;
+fn push_put<C: Cells>(row: &mut Row, screen: &mut Screen<C>, words: &str) {
+    let (place, code) = row.cut(words, " ");
+    let place = row.read_number(place);
+    let character = read_character(row, code);
     if place < screen.size().cells() {
         screen.put_char(place, character);
         screen.move_cursor(place);
     }
-    Ok(push_all(alloc, out, &screen)?)
+    push_all(row, screen);
 }
 
 /// The screen once a character was put at each place from one up to another.
-fn push_repeated<C: Cells>(
-    alloc: Global,
-    setup: &Setup,
-    out: &mut String,
-    words: &str,
-) -> Result<()> {
-    let (place, words) = cut_word(words)?;
-    let (stop, code) = cut_word(words)?;
-    let (place, stop, code) = (number(place)?, number(stop)?, byte(code)?);
-    let character = Char::new(code, false).context("a character")?;
-    let mut screen = opened::<C>(alloc, setup)?;
+fn push_repeated<C: Cells>(row: &mut Row, screen: &mut Screen<C>, words: &str) {
+    let (place, words) = row.cut(words, " ");
+    let (stop, code) = row.cut(words, " ");
+    let place = row.read_number(place);
+    let stop = row.read_number(stop);
+    let character = read_character(row, code);
     let cells = screen.size().cells();
     if place < cells && stop < cells {
         screen.repeat_char(place, stop, character);
     }
-    Ok(push_all(alloc, out, &screen)?)
+    push_all(row, screen);
 }
 
 /// The fields once the attribute before a place was set.
-fn push_set<C: Cells>(alloc: Global, setup: &Setup, out: &mut String, words: &str) -> Result<()> {
-    let (place, bits) = cut_word(words)?;
-    let (place, bits) = (number(place)?, byte(bits)?);
-    let mut screen = opened::<C>(alloc, setup)?;
+fn push_set<C: Cells>(row: &mut Row, screen: &mut Screen<C>, words: &str) {
+    let (place, bits) = row.cut(words, " ");
+    let place = row.read_number(place);
+    let bits = row.read_byte(bits);
     if place < screen.size().cells() {
         if let Some(at) = screen.attr_before(place) {
             screen.set_attr(at, Attr::new(bits));
         }
     }
-    Ok(push_fields(out, &screen)?)
+    push_fields(row, screen);
 }
 
 /// The screen in error and with Enter, then erased.
-fn push_erased<C: Cells>(alloc: Global, setup: &Setup, out: &mut String) -> Result<()> {
-    let mut screen = opened::<C>(alloc, setup)?;
+fn push_erased<C: Cells>(row: &mut Row, screen: &mut Screen<C>) {
     screen.set_lock(Lock::Error);
     screen.set_aid(Aid::enter());
-    push_all(alloc, out, &screen)?;
+    push_all(row, screen);
     screen.erase_default();
-    out.push_str(", then ")?;
-    Ok(push_cells(alloc, out, &screen)?)
+    row.word(", then ");
+    push_cells(row, screen);
 }
 
 /// The cells and the fields once all that is unprotected was cleared.
-fn push_cleared<C: Cells>(
-    alloc: Global,
-    setup: &Setup,
-    out: &mut String,
-    records: &str,
-) -> Result<()> {
-    let mut screen = screen_after::<C>(alloc, setup, records)?;
+fn push_cleared<C: Cells>(row: &mut Row, screen: &mut Screen<C>) {
     screen.clear_unprotected();
-    push_all(alloc, out, &screen)?;
-    out.push(' ')?;
-    Ok(push_fields(out, &screen)?)
+    push_all(row, screen);
+    row.word(" ");
+    push_fields(row, screen);
+}
+
+/// Adds what a verb answers after more records; whether it is one of these.
+fn push_after<C: Cells>(row: &mut Row, screen: &mut Screen<C>, verb: &str, records: &str) -> bool {
+    if !AFTER.contains(&verb) {
+        return false;
+    }
+    write_all(row, screen, records);
+    match verb {
+        "cells" => push_cells(row, screen),
+        "all" => push_all(row, screen),
+        "fields" => push_fields(row, screen),
+        "clear" => push_cleared(row, screen),
+        _ => push_buffer(row, screen),
+    }
+    true
+}
+
+/// Adds what a verb answers after records that end at a mark; whether it is one of these.
+fn push_before_mark<C: Cells>(
+    row: &mut Row,
+    screen: &mut Screen<C>,
+    verb: &str,
+    words: &str,
+) -> bool {
+    if !BEFORE_MARK.contains(&verb) {
+        return false;
+    }
+    let (records, wanted) = row.cut(words, " = ");
+    write_all(row, screen, records);
+    match verb {
+        "sends" => push_sends(row, screen, wanted),
+        _ => push_buffers(row, screen, wanted),
+    }
+    true
+}
+
+/// What a screen answers after a key and more records.
+fn push_sent_after<C: Cells>(row: &mut Row, screen: &mut Screen<C>, words: &str) {
+    let (aid, records) = words.split_once(' ').unwrap_or((words, ""));
+    write_all(row, screen, records);
+    push_sent(row, screen, aid);
 }
 
 /// Adds what a verb answers that changes its screen; whether it is one of these.
-fn push_changed<C: Cells>(
-    alloc: Global,
-    setup: &Setup,
-    out: &mut String,
-    verb: &str,
-    words: &str,
-) -> Result<bool> {
+fn push_changed<C: Cells>(row: &mut Row, screen: &mut Screen<C>, verb: &str, words: &str) -> bool {
     match verb {
-        "put" => push_put::<C>(alloc, setup, out, words)?,
-        "repeat" => push_repeated::<C>(alloc, setup, out, words)?,
-        "set" => push_set::<C>(alloc, setup, out, words)?,
-        "erase" => push_erased::<C>(alloc, setup, out)?,
-        "clear" => push_cleared::<C>(alloc, setup, out, words)?,
-        "effects" => push_effects::<C>(alloc, setup, out, words)?,
-        "copy" => push_copy::<C>(alloc, setup, out, words)?,
-        _ => return Ok(false),
+        "put" => push_put(row, screen, words),
+        "repeat" => push_repeated(row, screen, words),
+        "set" => push_set(row, screen, words),
+        "erase" => push_erased(row, screen),
+        "effects" => push_effects(row, screen, words),
+        "copy" => push_copy(row, screen, words),
+        "refused" => push_refused(row, screen, words),
+        "sent" => push_sent_after(row, screen, words),
+        _ => return false,
     }
-    Ok(true)
+    true
 }
 
 /// Adds what a verb answers; whether it is one of these.
 pub(crate) fn push_answer<C: Cells>(
-    alloc: Global,
-    setup: &Setup,
-    out: &mut String,
+    row: &mut Row,
+    screen: &mut Screen<C>,
     verb: &str,
     words: &str,
-) -> Result<bool> {
-    match verb {
-        "cells" => push_cells(alloc, out, &screen_after::<C>(alloc, setup, words)?)?,
-        "all" => push_all(alloc, out, &screen_after::<C>(alloc, setup, words)?)?,
-        "fields" => push_fields(out, &screen_after::<C>(alloc, setup, words)?)?,
-        "refused" => push_refused::<C>(alloc, setup, out, words)?,
-        _ => return push_changed::<C>(alloc, setup, out, verb, words),
-    }
-    Ok(true)
+) -> bool {
+    push_after(row, screen, verb, words)
+        || push_before_mark(row, screen, verb, words)
+        || push_changed(row, screen, verb, words)
 }

@@ -1,99 +1,99 @@
 //! Places that are searched on a screen, and buffers by themselves.
 
-use crate::Setup;
-use crate::screens::opened;
-use anyhow::{Context, Result};
-use ds_codec::{Attr, Cell, Char};
+use ds_codec::{Cell, Char};
 use ds_screen::{Cells, Screen};
-use std::alloc::{AllocError, Global};
-use test_words::{number, push_bool, push_hex, push_number, push_word_hex, push_word_number};
+use test_words::Row;
 
-fn push_found(out: &mut String, place: Option<u32>) -> Result<(), AllocError> {
-    let Some(place) = place else {
-        return out.push_str("None");
-    };
-    push_word_number(out, "Some(", place)?;
-    out.push(')')
+fn push_found(row: &mut Row, place: Option<u32>) {
+    match place {
+        Some(place) => {
+            row.word_number("Some(", place);
+            row.word(")");
+        }
+        None => row.word("None"),
+    }
 }
 
 /// The attribute that governs a place, and the next one from there on.
-fn push_around<C: Cells>(out: &mut String, screen: &Screen<C>, place: u32) -> Result<()> {
+fn push_around<C: Cells>(row: &mut Row, screen: &Screen<C>, place: u32) {
     if place >= screen.size().cells() {
-        return None.context("a place inside");
+        return row.spoil();
     }
-    push_found(out, screen.attr_before(place))?;
-    out.push(' ')?;
-    Ok(push_found(out, screen.attr_from(place))?)
+    push_found(row, screen.attr_before(place));
+    row.word(" ");
+    push_found(row, screen.attr_from(place));
 }
 
 /// Whether a place is open, and the first open one from there on.
-fn push_open<C: Cells>(out: &mut String, screen: &Screen<C>, place: u32) -> Result<()> {
+fn push_open<C: Cells>(row: &mut Row, screen: &Screen<C>, place: u32) {
     if place >= screen.size().cells() {
-        return None.context("a place inside");
+        return row.spoil();
     }
-    push_bool(out, screen.is_open(place))?;
-    Ok(push_word_number(out, " ", screen.first_open(place))?)
+    row.truth(screen.is_open(place));
+    row.word_number(" ", screen.first_open(place));
 }
 
-fn push_attribute(out: &mut String, attribute: Attr) -> Result<(), AllocError> {
-    push_word_hex(out, "attribute ", attribute.bits())
+fn push_character(row: &mut Row, character: Char) {
+    row.hex(character.code());
+    row.word(" ");
+    row.truth(character.alt());
 }
 
-fn push_character(out: &mut String, character: Char) -> Result<(), AllocError> {
-    push_hex(out, character.code())?;
-    out.push(' ')?;
-    push_bool(out, character.alt())
-}
-
-fn push_cell(out: &mut String, cell: Cell) -> Result<(), AllocError> {
+fn push_cell(row: &mut Row, cell: Cell) {
     match cell {
-        Cell::Field(attribute) => push_attribute(out, attribute),
-        Cell::Char(character) => push_character(out, character),
+        Cell::Field(attribute) => row.word_hex("attribute ", attribute.bits()),
+        Cell::Char(character) => push_character(row, character),
     }
 }
 
 /// The cell at a place.
-fn push_cell_at<C: Cells>(out: &mut String, screen: &Screen<C>, place: u32) -> Result<()> {
+fn push_cell_at<C: Cells>(row: &mut Row, screen: &Screen<C>, place: u32) {
     if place >= screen.size().cells() {
-        return None.context("a place inside");
+        return row.spoil();
     }
-    Ok(push_cell(out, screen.cell(place))?)
+    push_cell(row, screen.cell(place));
 }
 
 /// The length of a buffer, its last cell, and whether it has no attribute.
-fn push_buffer<C: Cells>(out: &mut String, cells: &C) -> Result<(), AllocError> {
+fn push_buffer<C: Cells>(row: &mut Row, cells: &C) {
     let length = cells.len();
-    push_number(out, length)?;
-    out.push(' ')?;
+    row.number(length);
+    row.word(" ");
     if length == 0 {
-        return Ok(());
+        return;
     }
-    push_cell(out, cells.cell(length - 1))?;
+    push_cell(row, cells.cell(length - 1));
     let is_plain = cells.attr_before(0).is_none() && cells.attr_from(0).is_none();
-    out.push_str(if is_plain { " unformatted" } else { "" })
+    row.word_if(is_plain, " unformatted");
 }
 
 /// A buffer of so many nulls.
-fn push_reserved<C: Cells>(alloc: Global, out: &mut String, count: u32) -> Result<()> {
-    let mut cells = C::reserved(alloc, count)?;
-    cells.clear(count);
-    Ok(push_buffer(out, &cells)?)
+pub(crate) fn push_reserved<C: Cells>(row: &mut Row, words: &str) {
+    let count = row.read_number(words);
+    match C::reserved(row.alloc(), count) {
+        Ok(mut cells) => {
+            cells.clear(count);
+            push_buffer(row, &cells);
+        }
+        Err(_) => row.spoil(),
+    }
 }
 
-/// Adds what a verb answers; whether it is one of these.
+/// Adds what a verb answers of a place; whether it is one of these.
 pub(crate) fn push_answer<C: Cells>(
-    alloc: Global,
-    setup: &Setup,
-    out: &mut String,
+    row: &mut Row,
+    screen: &Screen<C>,
     verb: &str,
     words: &str,
-) -> Result<bool> {
-    match verb {
-        "around" => push_around(out, &opened::<C>(alloc, setup)?, number(words)?)?,
-        "open" => push_open(out, &opened::<C>(alloc, setup)?, number(words)?)?,
-        "cell" => push_cell_at(out, &opened::<C>(alloc, setup)?, number(words)?)?,
-        "reserved" => push_reserved::<C>(alloc, out, number(words)?)?,
-        _ => return Ok(false),
+) -> bool {
+    if verb != "around" && verb != "open" && verb != "cell" {
+        return false;
     }
-    Ok(true)
+    let place = row.read_number(words);
+    match verb {
+        "around" => push_around(row, screen, place),
+        "open" => push_open(row, screen, place),
+        _ => push_cell_at(row, screen, place),
+    }
+    true
 }

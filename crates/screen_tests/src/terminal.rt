@@ -1,100 +1,84 @@
 //! Terminals: records and keys with their replies.
 
 use crate::Setup;
-use crate::refusals::{push_apply_refused, push_read_refused, push_terminal_refused};
-use crate::script::bytes_of;
-use anyhow::{Context, Result};
-use ds_codec::Geometry;
+use crate::screens::geometry_of;
 use ds_keys::key_of_line;
 use ds_screen::{Cells, Effect, Screen};
 use ds_terminal::{
     KeyReply, RecordReply, Refused, Terminal, apply_record, read_record, take_record,
 };
-use std::alloc::{AllocError, Global};
-use test_words::{push_bool, push_bytes, push_length, push_number, push_word_number};
+use test_words::Row;
 
-/// Shows a record.
-fn show<C: Cells>(alloc: Global, terminal: &mut Terminal<C>, text: &str) -> Result<()> {
-    let bytes = bytes_of(alloc, text)?;
-    let _effect = terminal.show(bytes.as_slice())?;
-    Ok(())
-}
+/// The verbs of a terminal.
+const VERBS: &[&str] = &["receive", "reply", "show"];
 
 /// Shows records that are parted by semicolons.
-fn show_all<C: Cells>(alloc: Global, terminal: &mut Terminal<C>, records: &str) -> Result<()> {
+fn show_all<C: Cells>(row: &mut Row, terminal: &mut Terminal<C>, records: &str) {
     for text in records.split(';') {
         if !text.is_empty() {
-            show(alloc, terminal, text)?;
+            let bytes = row.read_bytes(text);
+            if terminal.show(bytes.as_slice()).is_err() {
+                row.spoil();
+            }
         }
     }
-    Ok(())
 }
 
 /// A terminal of the setup's sizes after its records.
-fn opened<C: Cells>(alloc: Global, setup: &Setup) -> Result<Terminal<C>> {
-    let geometry = Geometry::new(setup.default, setup.alternate, setup.mode)?;
-    let mut terminal = Terminal::new(alloc, geometry)?;
-    show_all(alloc, &mut terminal, setup.after.as_str())?;
-    Ok(terminal)
+fn opened<C: Cells>(row: &mut Row, setup: &Setup) -> Option<Terminal<C>> {
+    let mut terminal = Terminal::new(row.alloc(), geometry_of(setup)?).ok()?;
+    show_all(row, &mut terminal, setup.after.as_str());
+    Some(terminal)
 }
 
-fn push_shown(out: &mut String, effect: Effect) -> Result<(), AllocError> {
-    out.push_str("shown alarm ")?;
-    push_bool(out, effect.alarm)?;
-    out.push_str(" restored ")?;
-    push_bool(out, effect.restored)
+fn push_shown(row: &mut Row, effect: Effect) {
+    row.word("shown alarm ");
+    row.truth(effect.alarm);
+    row.word(" restored ");
+    row.truth(effect.restored);
 }
 
-fn push_sent(out: &mut String, bytes: &[u8]) -> Result<(), AllocError> {
-    out.push_str("sent ")?;
-    push_bytes(out, bytes)
+fn push_sent(row: &mut Row, bytes: &[u8]) {
+    row.word("sent ");
+    row.bytes(bytes);
 }
 
 /// A reply to a record.
-fn push_record_reply(out: &mut String, reply: &RecordReply) -> Result<(), AllocError> {
+fn push_record_reply(row: &mut Row, reply: &RecordReply) {
     match reply {
-        RecordReply::Shown(effect) => push_shown(out, *effect),
-        RecordReply::Sent(bytes) => push_sent(out, bytes.as_slice()),
-        RecordReply::Nothing => out.push_str("nothing"),
-        RecordReply::Refused(refused) => push_terminal_refused(out, *refused),
+        RecordReply::Shown(effect) => push_shown(row, *effect),
+        RecordReply::Sent(bytes) => push_sent(row, bytes.as_slice()),
+        RecordReply::Nothing => row.word("nothing"),
+        RecordReply::Refused(refused) => row.show(refused),
     }
 }
 
 /// A reply to a key.
-fn push_key_reply(out: &mut String, reply: &KeyReply) -> Result<(), AllocError> {
+fn push_key_reply(row: &mut Row, reply: &KeyReply) {
     match reply {
-        KeyReply::Done => out.push_str("done"),
-        KeyReply::Inhibited => out.push_str("inhibited"),
-        KeyReply::Ignored => out.push_str("ignored"),
-        KeyReply::Sent(bytes) => push_sent(out, bytes.as_slice()),
+        KeyReply::Done => row.word("done"),
+        KeyReply::Inhibited => row.word("inhibited"),
+        KeyReply::Ignored => row.word("ignored"),
+        KeyReply::Sent(bytes) => push_sent(row, bytes.as_slice()),
     }
 }
 
 /// Receives a record, and adds the reply.
-fn push_received<C: Cells>(
-    alloc: Global,
-    out: &mut String,
-    terminal: &mut Terminal<C>,
-    text: &str,
-) -> Result<()> {
-    let bytes = bytes_of(alloc, text)?;
-    let reply = terminal.receive(alloc, bytes.as_slice())?;
-    push_record_reply(out, &reply)?;
-    Ok(out.push_str("; ")?)
+fn push_received<C: Cells>(row: &mut Row, terminal: &mut Terminal<C>, text: &str) {
+    let bytes = row.read_bytes(text);
+    match terminal.receive(row.alloc(), bytes.as_slice()) {
+        Ok(reply) => push_record_reply(row, &reply),
+        Err(_) => row.spoil(),
+    }
+    row.word("; ");
 }
 
 /// The replies to records, and the cursor at last.
-fn push_replies<C: Cells>(
-    alloc: Global,
-    setup: &Setup,
-    out: &mut String,
-    records: &str,
-) -> Result<()> {
-    let mut terminal = opened::<C>(alloc, setup)?;
+fn push_replies<C: Cells>(row: &mut Row, terminal: &mut Terminal<C>, records: &str) {
     for text in records.split(';') {
-        push_received(alloc, out, &mut terminal, text)?;
+        push_received(row, terminal, text);
     }
-    Ok(push_word_number(out, "cursor ", terminal.screen().cursor())?)
+    row.word_number("cursor ", terminal.screen().cursor());
 }
 
 fn count_fields<C: Cells>(screen: &Screen<C>) -> u32 {
@@ -105,163 +89,149 @@ fn count_fields<C: Cells>(screen: &Screen<C>) -> u32 {
     count
 }
 
-/// Presses the key of a line, and adds the reply.
-fn push_key<C: Cells>(
-    alloc: Global,
-    out: &mut String,
-    terminal: &mut Terminal<C>,
-    line: &str,
-) -> Result<()> {
-    let key = key_of_line(line).context("a key")?;
-    let reply = terminal.press(alloc, key)?;
-    push_key_reply(out, &reply)?;
-    Ok(out.push_str("; ")?)
+/// Presses the key of a line; none where there is no such key, or no memory.
+fn press_line<C: Cells>(row: &Row, terminal: &mut Terminal<C>, line: &str) -> Option<KeyReply> {
+    let key = key_of_line(line)?;
+    terminal.press(row.alloc(), key).ok()
 }
 
-fn push_keys<C: Cells>(
-    alloc: Global,
-    out: &mut String,
-    terminal: &mut Terminal<C>,
-    keys: &str,
-) -> Result<()> {
+/// Presses keys, and adds each reply.
+fn push_keys<C: Cells>(row: &mut Row, terminal: &mut Terminal<C>, keys: &str) {
     for line in keys.split(", ") {
-        push_key(alloc, out, terminal, line)?;
+        match press_line(row, terminal, line) {
+            Some(reply) => push_key_reply(row, &reply),
+            None => row.spoil(),
+        }
+        row.word("; ");
     }
-    Ok(())
 }
 
 /// How many cells, fields and which cursor a screen has, and how many fields another one.
-fn push_counts<C: Cells>(
-    out: &mut String,
-    screen: &Screen<C>,
-    before: &Screen<C>,
-) -> Result<(), AllocError> {
-    push_word_number(out, "cells ", screen.size().cells())?;
-    push_word_number(out, " fields ", count_fields(screen))?;
-    push_word_number(out, " of ", count_fields(before))?;
-    push_word_number(out, " cursor ", screen.cursor())
+fn push_counts<C: Cells>(row: &mut Row, screen: &Screen<C>, before: &Screen<C>) {
+    row.word_number("cells ", screen.size().cells());
+    row.word_number(" fields ", count_fields(screen));
+    row.word_number(" of ", count_fields(before));
+    row.word_number(" cursor ", screen.cursor());
 }
 
 /// The replies to keys, then how many cells, fields and which cursor the terminal has, and how many fields a copy from
 /// before has.
-fn push_pressed<C: Cells>(
-    alloc: Global,
-    setup: &Setup,
-    out: &mut String,
-    keys: &str,
-) -> Result<()> {
-    let mut terminal = opened::<C>(alloc, setup)?;
-    let before = terminal.copied(alloc)?;
-    push_keys(alloc, out, &mut terminal, keys)?;
-    Ok(push_counts(out, terminal.screen(), before.screen())?)
+fn push_pressed<C: Cells>(row: &mut Row, terminal: &mut Terminal<C>, keys: &str) {
+    match terminal.copied(row.alloc()) {
+        Ok(before) => {
+            push_keys(row, terminal, keys);
+            push_counts(row, terminal.screen(), before.screen());
+        }
+        Err(_) => row.spoil(),
+    }
 }
 
 /// A refusal by its parts.
-fn push_parts(out: &mut String, refused: Refused) -> Result<(), AllocError> {
-    push_length(out, refused.at())?;
-    out.push(' ')?;
-    out.push_str(refused.words())?;
-    out.push_str(": ")?;
-    push_terminal_refused(out, refused)
+fn push_parts(row: &mut Row, refused: Refused) {
+    row.length(refused.at());
+    row.word(" ");
+    row.word(refused.words());
+    row.word(": ");
+    row.show(&refused);
 }
 
 /// Why a terminal does not show a record, by its parts.
-fn push_unshown<C: Cells>(
-    alloc: Global,
-    setup: &Setup,
-    out: &mut String,
-    record: &str,
-) -> Result<()> {
-    let mut terminal = opened::<C>(alloc, setup)?;
-    let bytes = bytes_of(alloc, record)?;
+fn push_unshown<C: Cells>(row: &mut Row, terminal: &mut Terminal<C>, record: &str) {
+    let bytes = row.read_bytes(record);
     match terminal.show(bytes.as_slice()) {
-        Ok(_) => Ok(out.push_str("shown")?),
-        Err(refused) => Ok(push_parts(out, refused)?),
+        Ok(_) => row.word("shown"),
+        Err(refused) => push_parts(row, refused),
     }
 }
 
 /// A refusal, and whether the record was read.
-fn push_stage(out: &mut String, refused: Refused) -> Result<(), AllocError> {
+fn push_stage(row: &mut Row, refused: Refused) {
     match refused {
         Refused::Read(refused) => {
-            out.push_str("read ")?;
-            push_read_refused(out, refused)
+            row.word("read ");
+            row.show(&refused);
         }
         Refused::Apply(refused) => {
-            out.push_str("apply ")?;
-            push_apply_refused(out, refused)
+            row.word("apply ");
+            row.show(&refused);
         }
     }
 }
 
 /// What a record did, and the cursor after it.
-fn push_restored(out: &mut String, effect: Effect, cursor: u32) -> Result<(), AllocError> {
-    out.push_str("restored ")?;
-    push_bool(out, effect.restored)?;
-    push_word_number(out, " ", cursor)
+fn push_restored(row: &mut Row, effect: Effect, cursor: u32) {
+    row.word("restored ");
+    row.truth(effect.restored);
+    row.word_number(" ", cursor);
 }
 
 /// A record that a screen takes at once; whether it does.
-fn push_taken<C: Cells>(
-    out: &mut String,
-    screen: &mut Screen<C>,
-    bytes: &[u8],
-) -> Result<bool, AllocError> {
+fn push_taken<C: Cells>(row: &mut Row, screen: &mut Screen<C>, bytes: &[u8]) -> bool {
     match take_record(screen, bytes) {
-        Ok(effect) => push_restored(out, effect, screen.cursor())?,
+        Ok(effect) => {
+            push_restored(row, effect, screen.cursor());
+            true
+        }
         Err(refused) => {
-            out.push_str("not taken, ")?;
-            push_terminal_refused(out, refused)?;
-            return Ok(false);
+            row.word("not taken, ");
+            row.show(&refused);
+            false
         }
     }
-    out.push_str(", ")?;
-    Ok(true)
 }
 
 /// A record that a screen reads and then applies.
-fn push_read_applied<C: Cells>(
-    out: &mut String,
-    screen: &mut Screen<C>,
-    bytes: &[u8],
-) -> Result<(), AllocError> {
+fn push_read_applied<C: Cells>(row: &mut Row, screen: &mut Screen<C>, bytes: &[u8]) {
     let record = match read_record(screen, bytes) {
         Ok(record) => record,
-        Err(refused) => return push_stage(out, refused),
+        Err(refused) => return push_stage(row, refused),
     };
     match apply_record(screen, &record) {
-        Ok(effect) => push_restored(out, effect, screen.cursor()),
-        Err(refused) => push_stage(out, refused),
+        Ok(effect) => push_restored(row, effect, screen.cursor()),
+        Err(refused) => push_stage(row, refused),
     }
 }
 
 /// A record that a screen takes at once, and one that it reads and then applies.
-fn push_two<C: Cells>(alloc: Global, setup: &Setup, out: &mut String, records: &str) -> Result<()> {
-    let (first, second) = records.split_once(';').context("two records")?;
-    let geometry = Geometry::new(setup.default, setup.alternate, setup.mode)?;
-    let mut screen = Screen::<C>::new(alloc, geometry)?;
-    let first = bytes_of(alloc, first)?;
-    let second = bytes_of(alloc, second)?;
-    if push_taken(out, &mut screen, first.as_slice())? {
-        push_read_applied(out, &mut screen, second.as_slice())?;
+fn push_both<C: Cells>(row: &mut Row, screen: &mut Screen<C>, records: &str) {
+    let (first, second) = row.cut(records, ";");
+    let first = row.read_bytes(first);
+    let second = row.read_bytes(second);
+    if push_taken(row, screen, first.as_slice()) {
+        row.word(", ");
+        push_read_applied(row, screen, second.as_slice());
     }
-    Ok(())
+}
+
+fn blank<C: Cells>(row: &Row, setup: &Setup) -> Option<Screen<C>> {
+    Screen::new(row.alloc(), geometry_of(setup)?).ok()
+}
+
+/// The same of a new screen.
+pub(crate) fn push_two<C: Cells>(row: &mut Row, setup: &Setup, records: &str) {
+    match blank::<C>(row, setup) {
+        Some(mut screen) => push_both(row, &mut screen, records),
+        None => row.spoil(),
+    }
+}
+
+/// Adds what a verb of a terminal answers.
+fn push_terminal<C: Cells>(row: &mut Row, terminal: &mut Terminal<C>, verb: &str, words: &str) {
+    match verb {
+        "receive" => push_replies(row, terminal, words),
+        "reply" => push_pressed(row, terminal, words),
+        _ => push_unshown(row, terminal, words),
+    }
 }
 
 /// Adds what a verb answers; whether it is one of these.
-pub(crate) fn push_answer<C: Cells>(
-    alloc: Global,
-    setup: &Setup,
-    out: &mut String,
-    verb: &str,
-    words: &str,
-) -> Result<bool> {
-    match verb {
-        "receive" => push_replies::<C>(alloc, setup, out, words)?,
-        "reply" => push_pressed::<C>(alloc, setup, out, words)?,
-        "show" => push_unshown::<C>(alloc, setup, out, words)?,
-        "take" => push_two::<C>(alloc, setup, out, words)?,
-        _ => return Ok(false),
+pub(crate) fn push_answer<C: Cells>(row: &mut Row, setup: &Setup, verb: &str, words: &str) -> bool {
+    if !VERBS.contains(&verb) {
+        return false;
     }
-    Ok(true)
+    match opened::<C>(row, setup) {
+        Some(mut terminal) => push_terminal(row, &mut terminal, verb, words),
+        None => row.spoil(),
+    }
+    true
 }

@@ -1,63 +1,72 @@
 //! The words of every refusal, and the laws.
 
-use crate::refusals::{
-    push_answer_refused, push_answer_why, push_apply_refused, push_apply_why, push_terminal_refused,
-};
-use anyhow::Result;
-use std::alloc::AllocError;
+use test_words::Row;
 
-/// A comma, words and a semicolon.
-fn push_last(out: &mut String, words: &str) -> Result<(), AllocError> {
-    out.push_str(", ")?;
-    out.push_str(words)?;
-    out.push_str("; ")
-}
+/// Why a record is not applied.
+const REFUSALS: &[ds_screen::Why] = &[
+    ds_screen::Why::AddressOutside,
+    ds_screen::Why::NoFieldHere,
+    ds_screen::Why::NotAWrite,
+];
 
-fn push_apply(out: &mut String, why: ds_screen::Why) -> Result<(), AllocError> {
-    push_apply_why(out, why)?;
-    out.push_str(", ")?;
-    push_apply_refused(out, ds_screen::Refused { at: 7, why })?;
-    push_last(out, why.words())
-}
+/// Why an answer is not read.
+const UNREAD: &[ds_inbound::Why] = &[
+    ds_inbound::Why::Empty,
+    ds_inbound::Why::UnknownAid,
+    ds_inbound::Why::Truncated,
+    ds_inbound::Why::BadAddress,
+    ds_inbound::Why::BadCharacter,
+    ds_inbound::Why::Null,
+];
 
-fn push_applying(out: &mut String) -> Result<(), AllocError> {
-    push_apply(out, ds_screen::Why::AddressOutside)?;
-    push_apply(out, ds_screen::Why::NoFieldHere)?;
-    push_apply(out, ds_screen::Why::NotAWrite)
-}
-
-fn push_unread(out: &mut String, why: ds_inbound::Why) -> Result<(), AllocError> {
-    push_answer_why(out, why)?;
-    out.push_str(", ")?;
-    push_answer_refused(out, ds_inbound::Refused { at: 7, why })?;
-    push_last(out, why.words())
-}
-
-fn push_answers(out: &mut String) -> Result<(), AllocError> {
-    push_unread(out, ds_inbound::Why::Empty)?;
-    push_unread(out, ds_inbound::Why::UnknownAid)?;
-    push_unread(out, ds_inbound::Why::Truncated)?;
-    push_unread(out, ds_inbound::Why::BadAddress)?;
-    push_unread(out, ds_inbound::Why::BadCharacter)?;
-    push_unread(out, ds_inbound::Why::Null)
-}
-
-fn push_terminals(out: &mut String) -> Result<(), AllocError> {
-    let read = ds_terminal::Refused::Read(ds_codec::Refused {
+/// Why a terminal shows nothing: a record that is not read, and one that is not applied.
+const UNSHOWN: &[ds_terminal::Refused] = &[
+    ds_terminal::Refused::Read(ds_codec::Refused {
         at: 2,
         why: ds_codec::Why::Truncated,
-    });
-    let apply = ds_terminal::Refused::Apply(ds_screen::Refused {
+    }),
+    ds_terminal::Refused::Apply(ds_screen::Refused {
         at: 6,
         why: ds_screen::Why::NoFieldHere,
-    });
-    push_terminal_refused(out, read)?;
-    out.push_str("; ")?;
-    push_terminal_refused(out, apply)
+    }),
+];
+
+/// A comma, words and a semicolon.
+fn push_last(row: &mut Row, words: &str) {
+    row.word(", ");
+    row.word(words);
+    row.word("; ");
+}
+
+fn push_applying(row: &mut Row) {
+    for why in REFUSALS {
+        row.show(why);
+        row.word(", ");
+        row.show(&ds_screen::Refused { at: 7, why: *why });
+        push_last(row, why.words());
+    }
+}
+
+fn push_answers(row: &mut Row) {
+    for why in UNREAD {
+        row.show(why);
+        row.word(", ");
+        row.show(&ds_inbound::Refused { at: 7, why: *why });
+        push_last(row, why.words());
+    }
+}
+
+fn push_terminals(row: &mut Row) {
+    let mut parting = "";
+    for refused in UNSHOWN {
+        row.word(parting);
+        row.show(refused);
+        parting = "; ";
+    }
 }
 
 /// Each law does nothing.
-fn push_laws(out: &mut String) -> Result<(), AllocError> {
+fn push_laws(row: &mut Row) {
     ds_screen::one_effect();
     ds_screen::records_stay_sound();
     ds_screen::open_is_unprotected();
@@ -72,17 +81,17 @@ fn push_laws(out: &mut String) -> Result<(), AllocError> {
     ds_keys::sound_law();
     ds_inbound::one_answer();
     ds_inbound::answers_say_themselves();
-    out.push_str("done")
+    row.word("done");
 }
 
 /// Adds what a verb answers; whether it is one of these.
-pub(crate) fn push_answer(out: &mut String, verb: &str) -> Result<bool> {
+pub(crate) fn push_answer(row: &mut Row, verb: &str) -> bool {
     match verb {
-        "applying" => push_applying(out)?,
-        "answers" => push_answers(out)?,
-        "terminals" => push_terminals(out)?,
-        "laws" => push_laws(out)?,
-        _ => return Ok(false),
+        "applying" => push_applying(row),
+        "answers" => push_answers(row),
+        "terminals" => push_terminals(row),
+        "laws" => push_laws(row),
+        _ => return false,
     }
-    Ok(true)
+    true
 }

@@ -3,9 +3,11 @@
 
 mod printed;
 mod read;
+mod row;
 
 pub use printed::{
     push_bool, push_bytes, push_hex, push_length, push_letters, push_number, push_word_hex,
     push_word_number,
 };
 pub use read::{between_bars, byte, cut_word, is_row, number, push_words, two_bytes, two_numbers};
+pub use row::Row;
