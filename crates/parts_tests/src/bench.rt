@@ -3,21 +3,30 @@
 //! It takes about a megabyte N times, and prints the time of N plain copies and of N times through the deframer.
 
 use anyhow::Result;
-use std::alloc::{AllocError, Global};
 use std::rt::Clock;
 use std::time::Instant;
+use test_words::Row;
 use tn_wire::{Deframer, Event, Step, WireFault, frame};
 
-/// Framed records of 1,920 bytes, one FF in each: about a megabyte.
-fn make_stream(alloc: Global) -> Result<Vec<u8>, AllocError> {
-    let mut record = vec![in alloc; 0xC1u8; 1_919]?;
-    record.push(0xFF)?;
-    let framed = frame(alloc, &record)?;
-    let mut stream = Vec::new(alloc);
+/// A record of 1,920 bytes, one FF among them.
+const RECORD: &str = "C1*1919 FF";
+
+/// Adds a framed record so often that it is about a megabyte.
+fn push_often(row: &mut Row, stream: &mut Vec<u8>, framed: &[u8]) {
     for _ in 0..520 {
-        stream.extend_from_slice(&framed)?;
+        row.note(stream.extend_from_slice(framed));
     }
-    Ok(stream)
+}
+
+/// About a megabyte of framed records.
+fn make_stream(row: &mut Row) -> Vec<u8> {
+    let record = row.read_bytes(RECORD);
+    let mut stream = Vec::new(row.alloc());
+    match frame(row.alloc(), record.as_slice()) {
+        Ok(framed) => push_often(row, &mut stream, framed.as_slice()),
+        Err(_) => row.spoil(),
+    }
+    stream
 }
 
 /// How many bytes the records of a stream have.
@@ -35,42 +44,71 @@ fn count_bytes(deframer: &mut Deframer, stream: &[u8]) -> Result<u64, WireFault>
     }
 }
 
-/// The microseconds of N copies.
-fn copy_time(rt: &(impl Clock + AllocGlobal), stream: &[u8], times: u32) -> Result<u128> {
-    let mut copy = Vec::with_capacity(rt.alloc(), stream.len())?;
+/// Adds the microseconds of N copies.
+fn push_copy_time(rt: &impl Clock, row: &mut Row, stream: &[u8], times: u32) -> Result<()> {
+    let mut copy = Vec::new(row.alloc());
     let start = Instant::now(rt)?;
     for _ in 0..times {
         copy.clear();
-        copy.extend_from_slice(stream)?;
+        row.note(copy.extend_from_slice(stream));
     }
-    Ok(start.elapsed(rt)?.as_micros())
-}
-
-/// The microseconds of N times through a deframer.
-fn deframer_time(rt: &(impl Clock + AllocGlobal), stream: &[u8], times: u32) -> Result<u128> {
-    let mut deframer = Deframer::new(rt.alloc())?;
-    let start = Instant::now(rt)?;
-    for _ in 0..times {
-        let _bytes = count_bytes(&mut deframer, stream)?;
-    }
-    Ok(start.elapsed(rt)?.as_micros())
-}
-
-/// Adds how many bytes the records of about a megabyte have.
-pub(crate) fn push_megabyte(alloc: Global, out: &mut String) -> Result<()> {
-    let stream = make_stream(alloc)?;
-    let mut deframer = Deframer::new(alloc)?;
-    let bytes = count_bytes(&mut deframer, &stream)?;
-    write!(out, " {bytes} bytes in records")?;
+    row.show(&start.elapsed(rt)?.as_micros());
     Ok(())
 }
 
-/// Prints the time of so many copies and of so many times through a deframer.
+/// Adds the microseconds of N times through a deframer.
+fn push_deframer_time(
+    rt: &impl Clock,
+    row: &mut Row,
+    deframer: &mut Deframer,
+    stream: &[u8],
+    times: u32,
+) -> Result<()> {
+    let start = Instant::now(rt)?;
+    for _ in 0..times {
+        if count_bytes(deframer, stream).is_err() {
+            row.spoil();
+        }
+    }
+    row.show(&start.elapsed(rt)?.as_micros());
+    Ok(())
+}
+
+/// Adds how many bytes the records of about a megabyte have.
+pub(crate) fn push_megabyte(row: &mut Row) {
+    let stream = make_stream(row);
+    let Ok(mut deframer) = Deframer::new(row.alloc()) else {
+        return row.spoil();
+    };
+    match count_bytes(&mut deframer, stream.as_slice()) {
+        Ok(bytes) => {
+            row.word(" ");
+            row.show(&bytes);
+        }
+        Err(_) => row.spoil(),
+    }
+    row.word(" bytes in records");
+}
+
+/// Adds the time of so many copies and of so many times through a deframer.
+fn push_times(rt: &impl Clock, row: &mut Row, stream: &[u8], times: u32) -> Result<()> {
+    row.number(times);
+    row.word_length(" times ", stream.len());
+    row.word(" bytes: copy ");
+    push_copy_time(rt, row, stream, times)?;
+    let mut deframer = Deframer::new(row.alloc())?;
+    row.word(" us, deframer ");
+    push_deframer_time(rt, row, &mut deframer, stream, times)?;
+    row.word(" us");
+    Ok(())
+}
+
+/// Prints the same of about a megabyte.
 pub(crate) fn measure(rt: &(impl Clock + Print + AllocGlobal), times: u32) -> Result<()> {
-    let stream = make_stream(rt.alloc())?;
-    let len = stream.len();
-    let copy = copy_time(rt, &stream, times)?;
-    let deframer = deframer_time(rt, &stream, times)?;
-    println!(rt; "{times} times {len} bytes: copy {copy} us, deframer {deframer} us")?;
+    let mut row = Row::new(rt.alloc());
+    let stream = make_stream(&mut row);
+    push_times(rt, &mut row, stream.as_slice(), times)?;
+    let text = row.finish()?;
+    println!(rt; "{text}")?;
     Ok(())
 }

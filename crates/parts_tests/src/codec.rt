@@ -3,19 +3,12 @@
 ghost use Rattle.std.specs.Prelude.{◌≡◌};
 ghost use Rattle.ds_codec.specs.Geometry.{limit_of};
 
-use crate::refusals::{push_bad_size, push_refused};
-use crate::script::bytes_of;
-use anyhow::{Context, Result};
 use ds_codec::{
-    Attr, Char, Command, CommandCode, Geometry, Mode, Order, Placed, Record, Size, Unwritable,
+    Char, Command, CommandCode, Geometry, Mode, Order, Placed, Record, Size, Unwritable,
     decode_address, encode_address, write_record,
 };
 use order_lines::{OwnedOrder, Told, read_line};
-use std::alloc::{AllocError, Global};
-use test_words::{
-    cut_word, number, push_bytes, push_length, push_number, push_word_hex, push_word_number,
-    two_bytes, two_numbers,
-};
+use test_words::Row;
 
 /// The most cells of a terminal.
 fn most_cells(mode: Mode) -> u32
@@ -41,277 +34,295 @@ fn name_of(code: CommandCode) -> &'static str {
     }
 }
 
-fn push_wcc(out: &mut String, words: &str, wcc: Option<u8>) -> Result<(), AllocError> {
-    match wcc {
-        Some(wcc) => push_word_hex(out, words, wcc),
-        None => Ok(()),
+fn push_wcc(row: &mut Row, words: &str, wcc: Option<u8>) {
+    if let Some(wcc) = wcc {
+        row.word_hex(words, wcc);
     }
 }
 
-fn push_command(out: &mut String, command: Command) -> Result<(), AllocError> {
-    out.push_str(name_of(command.code()))?;
-    push_wcc(out, " ", command.wcc())
+fn push_command(row: &mut Row, command: Command) {
+    row.word(name_of(command.code()));
+    push_wcc(row, " ", command.wcc());
 }
 
 /// An order with bytes.
-fn push_run(out: &mut String, name: &str, bytes: &[u8]) -> Result<(), AllocError> {
-    out.push_str(name)?;
-    push_bytes(out, bytes)
+fn push_run(row: &mut Row, name: &str, bytes: &[u8]) {
+    row.word(name);
+    row.bytes(bytes);
 }
 
-fn push_attribute(out: &mut String, attribute: Attr) -> Result<(), AllocError> {
-    push_word_hex(out, "SF ", attribute.bits())
+fn push_set(row: &mut Row, kind: u8, value: u8) {
+    row.word_hex("SA ", kind);
+    row.word_hex("=", value);
 }
 
-fn push_set(out: &mut String, kind: u8, value: u8) -> Result<(), AllocError> {
-    push_word_hex(out, "SA ", kind)?;
-    push_word_hex(out, "=", value)
+fn push_repeat(row: &mut Row, address: u32, character: Char) {
+    row.word_number("RA ", address);
+    row.word(if character.alt() { " GE " } else { " " });
+    row.hex(character.code());
 }
 
-fn push_repeat(out: &mut String, address: u32, character: Char) -> Result<(), AllocError> {
-    push_word_number(out, "RA ", address)?;
-    push_word_hex(
-        out,
-        if character.alt() { " GE " } else { " " },
-        character.code(),
-    )
-}
-
-fn push_order(out: &mut String, order: &Order<'_>) -> Result<(), AllocError> {
+fn push_order(row: &mut Row, order: &Order<'_>) {
     match order {
-        Order::Text(run) => push_run(out, "TEXT ", *run),
-        Order::Sf(attribute) => push_attribute(out, *attribute),
-        Order::Sfe(pairs) => push_run(out, "SFE ", *pairs),
-        Order::Sba(address) => push_word_number(out, "SBA ", *address),
-        Order::Sa(kind, value) => push_set(out, *kind, *value),
-        Order::Mf(pairs) => push_run(out, "MF ", *pairs),
-        Order::Ic => out.push_str("IC"),
-        Order::Pt => out.push_str("PT"),
-        Order::Ra(address, character) => push_repeat(out, *address, *character),
-        Order::Eua(address) => push_word_number(out, "EUA ", *address),
-        Order::Ge(code) => push_word_hex(out, "GE ", *code),
+        Order::Text(run) => push_run(row, "TEXT ", *run),
+        Order::Sf(attribute) => row.word_hex("SF ", attribute.bits()),
+        Order::Sfe(pairs) => push_run(row, "SFE ", *pairs),
+        Order::Sba(address) => row.word_number("SBA ", *address),
+        Order::Sa(kind, value) => push_set(row, *kind, *value),
+        Order::Mf(pairs) => push_run(row, "MF ", *pairs),
+        Order::Ic => row.word("IC"),
+        Order::Pt => row.word("PT"),
+        Order::Ra(address, character) => push_repeat(row, *address, *character),
+        Order::Eua(address) => row.word_number("EUA ", *address),
+        Order::Ge(code) => row.word_hex("GE ", *code),
     }
 }
 
-fn push_placed(out: &mut String, placed: &Placed<'_>) -> Result<(), AllocError> {
-    out.push_str(", ")?;
-    push_length(out, placed.at)?;
-    out.push(' ')?;
-    push_order(out, &placed.order)
+fn push_placed(row: &mut Row, placed: &Placed<'_>) {
+    row.word_length(", ", placed.at);
+    row.word(" ");
+    push_order(row, &placed.order);
 }
 
-fn push_record(out: &mut String, record: &Record<'_>) -> Result<(), AllocError> {
-    push_command(out, record.command())?;
+fn push_record(row: &mut Row, record: &Record<'_>) {
+    push_command(row, record.command());
     for placed in record.orders() {
-        push_placed(out, &placed)?;
+        push_placed(row, &placed);
     }
-    Ok(())
 }
 
 /// The command and the orders of a record with their places, or its refusal.
-fn push_read(mode: Mode, out: &mut String, bytes: &[u8]) -> Result<(), AllocError> {
-    match Record::read(mode, bytes) {
-        Ok(record) => push_record(out, &record),
-        Err(refused) => push_refused(out, refused),
+fn push_read(row: &mut Row, mode: Mode, words: &str) {
+    let bytes = row.read_bytes(words);
+    match Record::read(mode, bytes.as_slice()) {
+        Ok(record) => push_record(row, &record),
+        Err(refused) => row.show(&refused),
     }
 }
 
-/// A record's command: its written byte, its write control character, and whether the byte is read as it.
-fn push_record_command(mode: Mode, out: &mut String, bytes: &[u8]) -> Result<()> {
-    let record = Record::read(mode, bytes)?;
-    let command = record.command();
-    push_command(out, command)?;
+/// A command: its written byte, its write control character, and whether the byte is read as it.
+fn push_code(row: &mut Row, command: Command) {
+    push_command(row, command);
     let code = command.code();
-    push_word_hex(out, " as ", code.byte())?;
-    push_wcc(out, " with ", command.wcc())?;
+    row.word_hex(" as ", code.byte());
+    push_wcc(row, " with ", command.wcc());
     let is_read = CommandCode::from_byte(code.byte()) == Some(code);
-    Ok(out.push_str(if is_read { " again" } else { "" })?)
+    row.word_if(is_read, " again");
+}
+
+/// The same of a record's command.
+fn push_record_command(row: &mut Row, mode: Mode, words: &str) {
+    let bytes = row.read_bytes(words);
+    match Record::read(mode, bytes.as_slice()) {
+        Ok(record) => push_code(row, record.command()),
+        Err(_) => row.spoil(),
+    }
 }
 
 /// The command of an order line.
-fn command_of(alloc: Global, line: &str) -> Result<Command> {
-    match read_line(alloc, line.as_bytes())? {
-        Some(Told::Command(command)) => Ok(command),
-        _ => None.context("a command"),
+fn command_of(row: &mut Row, line: &str) -> Option<Command> {
+    match read_line(row.alloc(), line.as_bytes()) {
+        Ok(Some(Told::Command(command))) => Some(command),
+        _ => None,
     }
 }
 
 /// An order that need not be one that can be written: `text`, `sfe` or `mf` and all its bytes.
-fn order_of_bytes(alloc: Global, words: &str) -> Result<OwnedOrder> {
+fn order_of_bytes(row: &mut Row, words: &str) -> Option<OwnedOrder> {
     let (name, digits) = words.split_once(' ').unwrap_or((words, ""));
-    let bytes = bytes_of(alloc, digits)?;
+    let bytes = row.read_bytes(digits);
     match name {
-        "text" => Ok(OwnedOrder::Text(bytes)),
-        "sfe" => Ok(OwnedOrder::Sfe(bytes)),
-        "mf" => Ok(OwnedOrder::Mf(bytes)),
-        _ => None.context("an order"),
+        "text" => Some(OwnedOrder::Text(bytes)),
+        "sfe" => Some(OwnedOrder::Sfe(bytes)),
+        "mf" => Some(OwnedOrder::Mf(bytes)),
+        _ => None,
     }
 }
 
 /// The order of an order line, or else of a name and bytes.
-fn order_of(alloc: Global, words: &str) -> Result<OwnedOrder> {
-    match read_line(alloc, words.as_bytes())? {
-        Some(Told::Order(order)) => Ok(order),
-        _ => order_of_bytes(alloc, words),
+fn order_of(row: &mut Row, words: &str) -> Option<OwnedOrder> {
+    match read_line(row.alloc(), words.as_bytes()) {
+        Ok(Some(Told::Order(order))) => Some(order),
+        _ => order_of_bytes(row, words),
     }
 }
 
-fn lent(alloc: Global, orders: &[OwnedOrder]) -> Result<Vec<Order<'_>>, AllocError> {
-    let mut lent = Vec::new(alloc);
+fn lent<'a>(row: &mut Row, orders: &'a [OwnedOrder]) -> Vec<Order<'a>> {
+    let mut lent = Vec::new(row.alloc());
     for order in orders {
-        match lent.push(order.lend()) {
-            Ok(()) => {}
-            Err(_) => return Err(AllocError),
+        if lent.push(order.lend()).is_err() {
+            row.spoil();
         }
     }
-    Ok(lent)
+    lent
 }
 
 /// A flaw and its order.
-fn push_flaw(out: &mut String, flaw: Unwritable) -> Result<(), AllocError> {
-    let (words, order) = match flaw {
-        Unwritable::AddressOutside(k) => ("U1 AddressOutside ", k),
-        Unwritable::BadText(k) => ("U2 BadText ", k),
-        Unwritable::BadPairs(k) => ("U3 BadPairs ", k),
-        Unwritable::BadCode(k) => ("U4 BadCode ", k),
-        Unwritable::NotAllowed => return out.push_str("U5 NotAllowed"),
-        Unwritable::OutOfMemory => return out.push_str("out of memory"),
-    };
-    out.push_str(words)?;
-    push_length(out, order)
+fn push_flaw(row: &mut Row, flaw: Unwritable) {
+    match flaw {
+        Unwritable::AddressOutside(k) => row.word_length("U1 AddressOutside ", k),
+        Unwritable::BadText(k) => row.word_length("U2 BadText ", k),
+        Unwritable::BadPairs(k) => row.word_length("U3 BadPairs ", k),
+        Unwritable::BadCode(k) => row.word_length("U4 BadCode ", k),
+        Unwritable::NotAllowed => row.word("U5 NotAllowed"),
+        Unwritable::OutOfMemory => row.word("out of memory"),
+    }
 }
 
 /// The bytes that are written, or the flaw and its order.
-fn push_written(out: &mut String, written: Result<Vec<u8>, Unwritable>) -> Result<(), AllocError> {
+fn push_written(row: &mut Row, written: Result<Vec<u8>, Unwritable>) {
     match written {
-        Ok(bytes) => push_bytes(out, bytes.as_slice()),
-        Err(flaw) => push_flaw(out, flaw),
+        Ok(bytes) => row.bytes(bytes.as_slice()),
+        Err(flaw) => push_flaw(row, flaw),
+    }
+}
+
+fn add_order(row: &mut Row, orders: &mut Vec<OwnedOrder>, line: &str) {
+    match order_of(row, line) {
+        Some(order) => {
+            let _added = row.take(orders.push(order));
+        }
+        None => row.spoil(),
     }
 }
 
 /// The orders of lines that are parted by commas.
-fn orders_of_lines(alloc: Global, lines: &str) -> Result<Vec<OwnedOrder>> {
-    let mut orders = Vec::new(alloc);
+fn orders_of_lines(row: &mut Row, lines: &str) -> Vec<OwnedOrder> {
+    let mut orders = Vec::new(row.alloc());
     for line in lines.split(", ") {
         if !line.is_empty() {
-            orders.push(order_of(alloc, line)?)?;
+            add_order(row, &mut orders, line);
         }
     }
-    Ok(orders)
+    orders
 }
 
-/// A record of order lines that are parted by commas, its command first, for so many cells.
-fn push_lines(alloc: Global, mode: Mode, out: &mut String, cells: u32, lines: &str) -> Result<()> {
+/// A record of order lines that are parted by commas, for so many cells.
+fn push_orders(row: &mut Row, mode: Mode, cells: u32, command: Command, lines: &str) {
     if cells > most_cells(mode) {
-        return None.context("cells of a terminal");
+        return row.spoil();
     }
+    let orders = orders_of_lines(row, lines);
+    let lent = lent(row, orders.as_slice());
+    let written = write_record(row.alloc(), command, lent.as_slice(), mode, cells);
+    push_written(row, written);
+}
+
+/// The same with the command as the first line.
+fn push_write(row: &mut Row, mode: Mode, words: &str) {
+    let (cells, lines) = row.cut(words, " ");
+    let cells = row.read_number(cells);
     let (command, rest) = lines.split_once(", ").unwrap_or((lines, ""));
-    let command = command_of(alloc, command)?;
-    let orders = orders_of_lines(alloc, rest)?;
-    let lent = lent(alloc, orders.as_slice())?;
-    let written = write_record(alloc, command, lent.as_slice(), mode, cells);
-    Ok(push_written(out, written)?)
+    match command_of(row, command) {
+        Some(command) => push_orders(row, mode, cells, command, rest),
+        None => row.spoil(),
+    }
 }
 
-fn push_write(alloc: Global, mode: Mode, out: &mut String, words: &str) -> Result<()> {
-    let (cells, lines) = cut_word(words)?;
-    push_lines(alloc, mode, out, number(cells)?, lines)
-}
-
-fn orders_of<'a>(alloc: Global, record: &Record<'a>) -> Result<Vec<Order<'a>>, AllocError> {
-    let mut orders = Vec::new(alloc);
+fn orders_of<'a>(row: &mut Row, record: &Record<'a>) -> Vec<Order<'a>> {
+    let mut orders = Vec::new(row.alloc());
     for placed in record.orders() {
-        match orders.push(placed.order) {
-            Ok(()) => {}
-            Err(_) => return Err(AllocError),
+        if orders.push(placed.order).is_err() {
+            row.spoil();
         }
     }
-    Ok(orders)
+    orders
 }
 
 /// Whether these are the same bytes, and how many they are.
-fn push_same(out: &mut String, bytes: &[u8], written: &[u8]) -> Result<(), AllocError> {
+fn push_same(row: &mut Row, bytes: &[u8], written: &[u8]) {
     let is_same = written == bytes;
-    out.push_str(if is_same { "the same " } else { "other " })?;
-    push_length(out, written.len())?;
-    out.push_str(" bytes")
+    row.word(if is_same { "the same " } else { "other " });
+    row.length(written.len());
+    row.word(" bytes");
 }
 
 /// How many orders a record has, and whether they are written as the same bytes for 1,920 cells.
-fn push_again(alloc: Global, mode: Mode, out: &mut String, bytes: &[u8]) -> Result<()> {
-    let record = Record::read(mode, bytes)?;
-    let orders = orders_of(alloc, &record)?;
-    push_length(out, orders.len())?;
-    out.push_str(" orders, ")?;
-    let written = write_record(alloc, record.command(), orders.as_slice(), mode, 1_920)?;
-    Ok(push_same(out, bytes, written.as_slice())?)
+fn push_rewritten(row: &mut Row, mode: Mode, record: &Record<'_>, bytes: &[u8]) {
+    let orders = orders_of(row, record);
+    row.length(orders.len());
+    row.word(" orders, ");
+    match write_record(
+        row.alloc(),
+        record.command(),
+        orders.as_slice(),
+        mode,
+        1_920,
+    ) {
+        Ok(written) => push_same(row, bytes, written.as_slice()),
+        Err(_) => row.spoil(),
+    }
+}
+
+/// The same of a record's bytes.
+fn push_again(row: &mut Row, mode: Mode, words: &str) {
+    let bytes = row.read_bytes(words);
+    match Record::read(mode, bytes.as_slice()) {
+        Ok(record) => push_rewritten(row, mode, &record, bytes.as_slice()),
+        Err(_) => row.spoil(),
+    }
 }
 
 /// The address of two bytes.
-fn push_address(mode: Mode, out: &mut String, words: &str) -> Result<()> {
-    let (first, second) = two_bytes(words)?;
+fn push_address(row: &mut Row, mode: Mode, words: &str) {
+    let (first, second) = row.read_two_bytes(words);
     match decode_address(mode, first, second) {
-        Some(address) => Ok(push_number(out, address)?),
-        None => Ok(out.push_str("none")?),
+        Some(address) => row.number(address),
+        None => row.word("none"),
     }
 }
 
 /// The bytes of an address of so many cells.
-fn push_encoded(mode: Mode, out: &mut String, words: &str) -> Result<()> {
-    let (cells, address) = two_numbers(words)?;
+fn push_encoded(row: &mut Row, mode: Mode, words: &str) {
+    let (cells, address) = row.read_numbers(words);
     if address >= cells || cells > most_cells(mode) {
-        return None.context("an address inside");
+        return row.spoil();
     }
     let [first, second] = encode_address(mode, cells, address);
-    push_word_hex(out, "", first)?;
-    Ok(push_word_hex(out, " ", second)?)
+    row.hex(first);
+    row.word_hex(" ", second);
 }
 
 /// How many cells two sizes have, and the form of addresses.
-fn push_geometry(out: &mut String, geometry: Geometry) -> Result<(), AllocError> {
-    push_number(out, geometry.default_size().cells())?;
-    push_word_number(out, " ", geometry.alternate_size().cells())?;
-    out.push_str(match geometry.mode() {
+fn push_geometry(row: &mut Row, geometry: Geometry) {
+    row.number(geometry.default_size().cells());
+    row.word_number(" ", geometry.alternate_size().cells());
+    row.word(match geometry.mode() {
         Mode::Bits14 => " Bits14",
         Mode::Bits16 => " Bits16",
-    })
+    });
 }
 
 /// The size of a text such as `24x80`, whether a terminal can have it or not.
-fn size_of(text: &str) -> Result<Size> {
-    let (rows, cols) = text.split_once('x').context("a size")?;
-    Ok(Size {
-        rows: u16::from_str_radix(rows, 10)?,
-        cols: u16::from_str_radix(cols, 10)?,
-    })
+fn size_of(row: &mut Row, text: &str) -> Size {
+    let (rows, cols) = row.cut(text, "x");
+    let rows = row.read_short(rows);
+    let cols = row.read_short(cols);
+    Size { rows, cols }
 }
 
 /// Whether a terminal can have these sizes.
-fn push_sizes(mode: Mode, out: &mut String, words: &str) -> Result<()> {
-    let (default, alternate) = cut_word(words)?;
-    match Geometry::new(size_of(default)?, size_of(alternate)?, mode) {
-        Ok(geometry) => Ok(push_geometry(out, geometry)?),
-        Err(fault) => Ok(push_bad_size(out, fault)?),
+fn push_sizes(row: &mut Row, mode: Mode, words: &str) {
+    let (default, alternate) = row.cut(words, " ");
+    let default = size_of(row, default);
+    let alternate = size_of(row, alternate);
+    match Geometry::new(default, alternate, mode) {
+        Ok(geometry) => push_geometry(row, geometry),
+        Err(fault) => row.show(&fault),
     }
 }
 
 /// Adds what a verb answers; whether it is one of these.
-pub(crate) fn push_answer(
-    alloc: Global,
-    mode: Mode,
-    out: &mut String,
-    verb: &str,
-    words: &str,
-) -> Result<bool> {
+pub(crate) fn push_answer(row: &mut Row, mode: Mode, verb: &str, words: &str) -> bool {
     match verb {
-        "read" => push_read(mode, out, bytes_of(alloc, words)?.as_slice())?,
-        "command" => push_record_command(mode, out, bytes_of(alloc, words)?.as_slice())?,
-        "write" => push_write(alloc, mode, out, words)?,
-        "again" => push_again(alloc, mode, out, bytes_of(alloc, words)?.as_slice())?,
-        "decode" => push_address(mode, out, words)?,
-        "encode" => push_encoded(mode, out, words)?,
-        "sizes" => push_sizes(mode, out, words)?,
-        _ => return Ok(false),
+        "read" => push_read(row, mode, words),
+        "command" => push_record_command(row, mode, words),
+        "write" => push_write(row, mode, words),
+        "again" => push_again(row, mode, words),
+        "decode" => push_address(row, mode, words),
+        "encode" => push_encoded(row, mode, words),
+        "sizes" => push_sizes(row, mode, words),
+        _ => return false,
     }
-    Ok(true)
+    true
 }

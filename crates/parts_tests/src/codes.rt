@@ -1,13 +1,10 @@
 //! Codes as values, and their bytes.
 
-use crate::script::bytes_of;
-use anyhow::{Context, Result};
 use ds_codec::{
     Aid, Attr, Char, CommandCode, OrderCode, byte_of_digits, bytes_of_digits, is_graphic_code,
     last_attr, push_character, to_six_bit_code,
 };
-use std::alloc::{AllocError, Global};
-use test_words::{byte, push_bool, push_bytes, push_hex, push_word_hex, two_bytes};
+use test_words::Row;
 
 fn name_of_command(code: CommandCode) -> &'static str {
     match code {
@@ -38,181 +35,194 @@ fn name_of_order(code: OrderCode) -> &'static str {
     }
 }
 
-/// The command of a byte, and the byte that it is written as.
-fn push_command(out: &mut String, code: u8) -> Result<(), AllocError> {
-    let Some(code) = CommandCode::from_byte(code) else {
-        return out.push_str("none");
-    };
-    out.push_str(name_of_command(code))?;
-    push_word_hex(out, " ", code.byte())
+/// A name, and the byte that it is written as.
+fn push_named(row: &mut Row, name: &str, byte: u8) {
+    row.word(name);
+    row.word_hex(" ", byte);
+}
+
+/// The command of a byte.
+fn push_command(row: &mut Row, word: &str) {
+    match CommandCode::from_byte(row.read_byte(word)) {
+        Some(code) => push_named(row, name_of_command(code), code.byte()),
+        None => row.word("none"),
+    }
 }
 
 /// The order of a byte.
-fn push_order(out: &mut String, code: u8) -> Result<(), AllocError> {
-    let Some(code) = OrderCode::from_byte(code) else {
-        return out.push_str("none");
-    };
-    out.push_str(name_of_order(code))?;
-    push_word_hex(out, " ", code.byte())
+fn push_order(row: &mut Row, word: &str) {
+    match OrderCode::from_byte(row.read_byte(word)) {
+        Some(code) => push_named(row, name_of_order(code), code.byte()),
+        None => row.word("none"),
+    }
 }
 
 /// An attention identifier, and whether it sends all or itself alone.
-fn push_aid(out: &mut String, aid: Option<Aid>) -> Result<(), AllocError> {
+fn push_aid(row: &mut Row, aid: Option<Aid>) {
     let Some(aid) = aid else {
-        return out.push_str("none");
+        return row.word("none");
     };
-    push_hex(out, aid.byte())?;
-    out.push_str(if aid.is_long() { " long" } else { "" })?;
-    out.push_str(if aid.is_short() { " short" } else { "" })
+    row.hex(aid.byte());
+    row.word_if(aid.is_long(), " long");
+    row.word_if(aid.is_short(), " short");
+}
+
+/// The attention identifier of a byte.
+fn push_aid_of(row: &mut Row, word: &str) {
+    let byte = row.read_byte(word);
+    push_aid(row, Aid::from_byte(byte));
 }
 
 /// The attention identifier of a program function key.
-fn function_aid(function: &str) -> Result<Option<Aid>> {
-    let function = u8::from_str_radix(function, 10)?;
+fn function_aid(function: u32) -> Option<Aid> {
     if 1 <= function && function <= 24 {
-        return Ok(Some(Aid::pf(function)));
+        return Some(Aid::pf(function as u8));
     }
-    Ok(None)
+    None
 }
 
 /// The attention identifier of a program access key.
-fn access_aid(access: &str) -> Result<Option<Aid>> {
-    let access = u8::from_str_radix(access, 10)?;
+fn access_aid(access: u32) -> Option<Aid> {
     if 1 <= access && access <= 3 {
-        return Ok(Some(Aid::pa(access)));
+        return Some(Aid::pa(access as u8));
     }
-    Ok(None)
+    None
 }
 
 /// The attention identifier of a key's name.
-fn named_aid(name: &str) -> Result<Option<Aid>> {
-    if let Some(function) = name.strip_prefix("pf") {
-        return function_aid(function);
-    }
-    if let Some(access) = name.strip_prefix("pa") {
-        return access_aid(access);
-    }
-    Ok(match name {
+fn push_key(row: &mut Row, name: &str) {
+    let aid = if let Some(function) = name.strip_prefix("pf") {
+        function_aid(row.read_number(function))
+    } else if let Some(access) = name.strip_prefix("pa") {
+        access_aid(row.read_number(access))
+    } else {
+        named_aid(name)
+    };
+    push_aid(row, aid);
+}
+
+/// The attention identifier of any other key.
+fn named_aid(name: &str) -> Option<Aid> {
+    match name {
         "none" => Some(Aid::none()),
         "enter" => Some(Aid::enter()),
         "clear" => Some(Aid::clear()),
         _ => None,
-    })
+    }
 }
 
 /// The six-bit code of a value below 64.
-fn push_six_bits(out: &mut String, value: u8) -> Result<()> {
+fn push_six_bits(row: &mut Row, word: &str) {
+    let value = row.read_byte(word);
     if value >= 64 {
-        return None.context("six bits");
+        return row.spoil();
     }
-    Ok(push_hex(out, to_six_bit_code(value))?)
+    row.hex(to_six_bit_code(value));
 }
 
 /// The byte of two digits, which are given as bytes.
-fn push_digits(out: &mut String, words: &str) -> Result<()> {
-    let (high, low) = two_bytes(words)?;
+fn push_digits(row: &mut Row, words: &str) {
+    let (high, low) = row.read_two_bytes(words);
     match byte_of_digits(high, low) {
-        Some(value) => Ok(push_hex(out, value)?),
-        None => Ok(out.push_str("none")?),
+        Some(value) => row.hex(value),
+        None => row.word("none"),
     }
 }
 
 /// The bytes that digits spell.
-fn push_spelled(alloc: Global, out: &mut String, digits: &str) -> Result<()> {
-    match bytes_of_digits(alloc, digits.as_bytes())? {
-        Some(bytes) => Ok(push_bytes(out, bytes.as_slice())?),
-        None => Ok(out.push_str("none")?),
+fn push_spelled(row: &mut Row, digits: &str) {
+    match bytes_of_digits(row.alloc(), digits.as_bytes()) {
+        Ok(Some(bytes)) => row.bytes(bytes.as_slice()),
+        Ok(None) => row.word("none"),
+        Err(_) => row.spoil(),
     }
 }
 
 /// What an attribute's bits say.
-fn push_meaning(out: &mut String, attribute: Attr) -> Result<(), AllocError> {
-    out.push_str(if attribute.protected() {
-        " protected"
-    } else {
-        ""
-    })?;
-    out.push_str(if attribute.auto_skip() { " skip" } else { "" })?;
-    out.push_str(if attribute.hidden() { " hidden" } else { "" })?;
-    out.push_str(if attribute.modified() {
-        " modified"
-    } else {
-        ""
-    })
+fn push_meaning(row: &mut Row, attribute: Attr) {
+    row.word_if(attribute.protected(), " protected");
+    row.word_if(attribute.auto_skip(), " skip");
+    row.word_if(attribute.hidden(), " hidden");
+    row.word_if(attribute.modified(), " modified");
 }
 
 /// An attribute's bits, what they say, and the bits with the tag set and reset.
-fn push_attribute(out: &mut String, code: u8) -> Result<(), AllocError> {
-    let attribute = Attr::new(code);
-    push_hex(out, attribute.bits())?;
-    push_meaning(out, attribute)?;
-    push_word_hex(out, ", ", attribute.with_modified(true).bits())?;
-    push_word_hex(out, " ", attribute.with_modified(false).bits())
+fn push_attribute(row: &mut Row, word: &str) {
+    let attribute = Attr::new(row.read_byte(word));
+    row.hex(attribute.bits());
+    push_meaning(row, attribute);
+    row.word_hex(", ", attribute.with_modified(true).bits());
+    row.word_hex(" ", attribute.with_modified(false).bits());
 }
 
 /// Whether a code is a character, and whether it is one of the alternate set.
-fn push_kinds(out: &mut String, code: u8) -> Result<(), AllocError> {
-    out.push_str("plain ")?;
-    push_bool(out, Char::new(code, false).is_some())?;
-    out.push_str(" alternate ")?;
-    push_bool(out, Char::new(code, true).is_some())?;
-    out.push_str(" graphic ")?;
-    push_bool(out, is_graphic_code(code))
+fn push_kinds(row: &mut Row, word: &str) {
+    let code = row.read_byte(word);
+    row.word("plain ");
+    row.truth(Char::new(code, false).is_some());
+    row.word(" alternate ");
+    row.truth(Char::new(code, true).is_some());
+    row.word(" graphic ");
+    row.truth(is_graphic_code(code));
+}
+
+/// The bytes of a character.
+fn push_written(row: &mut Row, character: Char) {
+    let mut bytes = Vec::new(row.alloc());
+    row.note(push_character(&mut bytes, character));
+    row.bytes(bytes.as_slice());
 }
 
 /// The bytes of a character of the alternate set, or else of a plain one.
-fn push_pushed(alloc: Global, out: &mut String, code: u8) -> Result<()> {
-    let character = Char::new(code, true).or(Char::new(code, false));
-    let mut bytes = Vec::new(alloc);
-    push_character(&mut bytes, character.context("a character")?)?;
-    Ok(push_bytes(out, bytes.as_slice())?)
+fn push_pushed(row: &mut Row, word: &str) {
+    let code = row.read_byte(word);
+    match Char::new(code, true).or(Char::new(code, false)) {
+        Some(character) => push_written(row, character),
+        None => row.spoil(),
+    }
 }
 
 /// The null.
-fn push_null(out: &mut String) -> Result<(), AllocError> {
+fn push_null(row: &mut Row) {
     let null = Char::null();
-    push_hex(out, null.code())?;
-    out.push(' ')?;
-    push_bool(out, null.alt())
+    row.hex(null.code());
+    row.word(" ");
+    row.truth(null.alt());
 }
 
 /// The attribute of pairs of types and values.
-fn push_pairs(out: &mut String, pairs: &[u8]) -> Result<(), AllocError> {
-    match last_attr(pairs) {
-        Some(attribute) => push_hex(out, attribute.bits()),
-        None => out.push_str("none"),
+fn push_pairs(row: &mut Row, words: &str) {
+    let pairs = row.read_bytes(words);
+    match last_attr(pairs.as_slice()) {
+        Some(attribute) => row.hex(attribute.bits()),
+        None => row.word("none"),
     }
 }
 
 /// Adds what a verb of a byte answers; whether it is one of these.
-fn push_byte_answer(alloc: Global, out: &mut String, verb: &str, words: &str) -> Result<bool> {
+fn push_byte_answer(row: &mut Row, verb: &str, word: &str) -> bool {
     match verb {
-        "code" => push_command(out, byte(words)?)?,
-        "order" => push_order(out, byte(words)?)?,
-        "aid" => push_aid(out, Aid::from_byte(byte(words)?))?,
-        "six" => push_six_bits(out, byte(words)?)?,
-        "attribute" => push_attribute(out, byte(words)?)?,
-        "character" => push_kinds(out, byte(words)?)?,
-        "pushed" => push_pushed(alloc, out, byte(words)?)?,
-        _ => return Ok(false),
+        "code" => push_command(row, word),
+        "order" => push_order(row, word),
+        "aid" => push_aid_of(row, word),
+        "six" => push_six_bits(row, word),
+        "attribute" => push_attribute(row, word),
+        "character" => push_kinds(row, word),
+        "pushed" => push_pushed(row, word),
+        _ => return false,
     }
-    Ok(true)
+    true
 }
 
 /// Adds what a verb answers; whether it is one of these.
-pub(crate) fn push_answer(
-    alloc: Global,
-    out: &mut String,
-    verb: &str,
-    words: &str,
-) -> Result<bool> {
+pub(crate) fn push_answer(row: &mut Row, verb: &str, words: &str) -> bool {
     match verb {
-        "key" => push_aid(out, named_aid(words)?)?,
-        "digits" => push_digits(out, words)?,
-        "spelled" => push_spelled(alloc, out, words)?,
-        "null" => push_null(out)?,
-        "pairs" => push_pairs(out, bytes_of(alloc, words)?.as_slice())?,
-        _ => return push_byte_answer(alloc, out, verb, words),
+        "key" => push_key(row, words),
+        "digits" => push_digits(row, words),
+        "spelled" => push_spelled(row, words),
+        "null" => push_null(row),
+        "pairs" => push_pairs(row, words),
+        _ => return push_byte_answer(row, verb, words),
     }
-    Ok(true)
+    true
 }

@@ -1,31 +1,41 @@
 //! A plain list in the order of places.
 
 use crate::marked::{Marked, entry_of, push_entry};
-use anyhow::{Context, Result};
 use ds_places::{add, held};
-use std::alloc::{AllocError, Global};
+use std::alloc::AllocError;
+use test_words::Row;
 
-fn push_entries(out: &mut String, entries: &[Marked]) -> Result<(), AllocError> {
+fn push_entries(row: &mut Row, entries: &[Marked]) {
     for entry in entries {
-        push_entry(out, Some(*entry))?;
+        push_entry(row, Some(*entry));
     }
+}
+
+/// The list that three entries make, and what it holds at the place of each.
+fn push_list_of(
+    row: &mut Row,
+    first: Marked,
+    second: Marked,
+    third: Marked,
+) -> Result<(), AllocError> {
+    let mut entries = Vec::new(row.alloc());
+    add(&mut entries, first)?;
+    add(&mut entries, second)?;
+    add(&mut entries, third)?;
+    push_entries(row, &entries);
+    push_entry(row, held(&entries, first.at));
+    push_entry(row, held(&entries, second.at));
+    push_entry(row, held(&entries, third.at));
     Ok(())
 }
 
 /// Adds three entries, and prints the list that they make, and what it holds at the place of each.
-pub(crate) fn push_added(alloc: Global, out: &mut String, words: &str) -> Result<()> {
-    let (first, others) = words.split_once("; ").context("three entries")?;
-    let (second, third) = others.split_once("; ").context("three entries")?;
-    let (first, second, third) = (entry_of(first)?, entry_of(second)?, entry_of(third)?);
-    let mut entries = Vec::new(alloc);
-    add(&mut entries, first)?;
-    add(&mut entries, second)?;
-    add(&mut entries, third)?;
-    let here = held(&entries, first.at);
-    let there = held(&entries, second.at);
-    let last = held(&entries, third.at);
-    push_entries(out, &entries)?;
-    push_entry(out, here)?;
-    push_entry(out, there)?;
-    Ok(push_entry(out, last)?)
+pub(crate) fn push_added(row: &mut Row, words: &str) {
+    let (first, others) = row.cut(words, "; ");
+    let (second, third) = row.cut(others, "; ");
+    let first = entry_of(row, first);
+    let second = entry_of(row, second);
+    let third = entry_of(row, third);
+    let pushed = push_list_of(row, first, second, third);
+    row.note(pushed);
 }

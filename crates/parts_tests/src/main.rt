@@ -17,87 +17,89 @@ mod codec;
 mod codes;
 mod lists;
 mod marked;
-mod refusals;
-mod script;
 mod steps;
 mod streams;
 mod wire_codes;
 mod words;
 
-use anyhow::{Context, Result};
+use anyhow::Result;
 use ds_codec::Mode;
-use std::alloc::Global;
 use std::env;
-use test_words::{cut_word, is_row, number};
+use test_words::{Row, is_row};
 
-fn mode_of(bits: &str) -> Result<Mode> {
+/// The verbs that take bytes and nothing else.
+const OF_BYTES: &[&str] = &["stream", "pieces", "thrice", "frame", "framed"];
+
+fn read_mode(row: &mut Row, bits: &str) -> Mode {
     match bits {
-        "14" => Ok(Mode::Bits14),
-        "16" => Ok(Mode::Bits16),
-        _ => None.context("14 or 16"),
+        "14" => Mode::Bits14,
+        "16" => Mode::Bits16,
+        _ => {
+            row.spoil();
+            Mode::Bits14
+        }
     }
 }
 
-/// Adds what a verb of lists answers, or how many bytes are taken of about a megabyte.
-fn push_listed(alloc: Global, out: &mut String, verb: &str, words: &str) -> Result<()> {
+/// Adds what a verb of lists answers, or how many bytes are taken of about a megabyte; whether it is one of these.
+fn push_listed(row: &mut Row, verb: &str, words: &str) -> bool {
     match verb {
-        "places" => {
-            let (room, words) = cut_word(words)?;
-            steps::push_steps(alloc, out, number(room)?, words)
-        }
-        "added" => lists::push_added(alloc, out, words),
-        "megabyte" => bench::push_megabyte(alloc, out),
-        _ => Ok(out.push_str(" no such verb")?),
+        "places" => steps::push_steps(row, words),
+        "added" => lists::push_added(row, words),
+        "megabyte" => bench::push_megabyte(row),
+        _ => return false,
     }
+    true
+}
+
+/// Adds what a verb of a stream answers; whether it is one of these.
+fn push_streamed(row: &mut Row, verb: &str, words: &str) -> bool {
+    if !OF_BYTES.contains(&verb) {
+        return false;
+    }
+    let bytes = row.read_bytes(words);
+    streams::push_answer(row, verb, bytes.as_slice())
 }
 
 /// Adds what a verb of the codec or of the wire answers; whether it is one of these.
-fn push_answer(
-    alloc: Global,
-    mode: Mode,
-    out: &mut String,
-    verb: &str,
-    words: &str,
-) -> Result<bool> {
-    Ok(
-        codec::push_answer(alloc, mode, out, verb, words)?
-            || codes::push_answer(alloc, out, verb, words)?
-            || words::push_answer(out, verb)?
-            || streams::push_answer(alloc, out, verb, words)?
-            || wire_codes::push_answer(alloc, out, verb, words)?,
-    )
+fn push_answer(row: &mut Row, mode: Mode, verb: &str, words: &str) -> bool {
+    codec::push_answer(row, mode, verb, words)
+        || codes::push_answer(row, verb, words)
+        || words::push_answer(row, verb)
+        || push_streamed(row, verb, words)
+        || wire_codes::push_answer(row, verb, words)
 }
 
 /// Adds the answer of a row.
-fn push_row(alloc: Global, mode: Mode, out: &mut String, verb: &str, words: &str) -> Result<()> {
-    let mut answer = String::new(alloc);
-    if push_answer(alloc, mode, &mut answer, verb, words)? {
-        out.push(' ')?;
-        return Ok(out.push_str(answer.as_str())?);
+fn push_row(row: &mut Row, mode: Mode, verb: &str, words: &str) {
+    row.word(" >");
+    if push_listed(row, verb, words) {
+        return;
     }
-    push_listed(alloc, out, verb, words)
+    row.word(" ");
+    if !push_answer(row, mode, verb, words) {
+        row.word("no such verb");
+    }
 }
 
-/// A line as it is printed: of a row with its answer.
-fn printed(alloc: Global, mode: &mut Mode, line: &str) -> Result<String> {
-    let mut out = String::from_str(alloc, line)?;
+/// Adds a line as it is printed: of a row with its answer.
+fn push_line(row: &mut Row, mode: &mut Mode, line: &str) {
+    row.word(line);
     let (verb, words) = line.split_once(' ').unwrap_or((line, ""));
     if verb == "addresses" {
-        *mode = mode_of(words)?;
+        *mode = read_mode(row, words);
     } else if is_row(line) {
-        out.push_str(" >")?;
-        push_row(alloc, *mode, &mut out, verb, words)?;
+        push_row(row, *mode, verb, words);
     }
-    Ok(out)
 }
 
 /// Prints each line of the script with its answer.
 fn print_script(rt: &HostRuntime) -> Result<()> {
-    let alloc = rt.alloc();
     let mut mode = Mode::Bits14;
-    for line in rt.lines(alloc) {
-        let line = line?;
-        let text = printed(alloc, &mut mode, line.as_str())?;
+    for line in rt.lines(rt.alloc()) {
+        let mut row = Row::new(rt.alloc());
+        push_line(&mut row, &mut mode, line?.as_str());
+        let text = row.finish()?;
         println!(rt; "{text}")?;
     }
     Ok(())

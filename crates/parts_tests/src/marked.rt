@@ -2,10 +2,8 @@
 
 ghost use Rattle.std.specs.Prelude.{◌+◌, ◌%◌, ◌^◌};
 
-use anyhow::Result;
 use ds_places::{Change, Placed};
-use std::alloc::AllocError;
-use test_words::{push_word_number, two_numbers};
+use test_words::Row;
 
 /// A place with a mark.
 #[derive(Clone, Copy)]
@@ -38,16 +36,16 @@ impl Change<Marked> for Add {
 }
 
 /// An entry of two words.
-pub(crate) fn entry_of(words: &str) -> Result<Marked> {
-    let (at, mark) = two_numbers(words)?;
-    Ok(Marked { at, mark })
+pub(crate) fn entry_of(row: &mut Row, words: &str) -> Marked {
+    let (at, mark) = row.read_numbers(words);
+    Marked { at, mark }
 }
 
 /// An entry, or that there is none.
-pub(crate) fn push_entry(out: &mut String, entry: Option<Marked>) -> Result<(), AllocError> {
+pub(crate) fn push_entry(row: &mut Row, entry: Option<Marked>) {
     let Some(entry) = entry else {
-        return out.push_str(" none");
+        return row.word(" none");
     };
-    push_word_number(out, " ", entry.at)?;
-    push_word_number(out, ":", entry.mark)
+    row.word_number(" ", entry.at);
+    row.word_number(":", entry.mark);
 }

@@ -1,110 +1,102 @@
 //! Steps of a list in blocks.
 
 use crate::marked::{Add, Marked, entry_of, push_entry};
-use anyhow::{Context, Result};
 use ds_places::Pages;
-use std::alloc::{AllocError, Global};
-use test_words::{number, push_length, two_numbers};
+use test_words::Row;
 
 /// The number of entries, and each of them.
-fn push_list(out: &mut String, pages: &Pages<Marked>) -> Result<(), AllocError> {
-    out.push(' ')?;
-    push_length(out, pages.len())?;
+fn push_list(row: &mut Row, pages: &Pages<Marked>) {
+    row.word_length(" ", pages.len());
     for index in 0..pages.len() {
-        push_entry(out, pages.get(index))?;
+        push_entry(row, pages.get(index));
     }
-    Ok(())
 }
 
 /// What another list holds, of this room and with an entry at its last place, once it is made a copy of this one.
-fn push_copy(alloc: Global, out: &mut String, pages: &Pages<Marked>, room: u32) -> Result<()> {
+fn push_copy(row: &mut Row, pages: &Pages<Marked>, room: u32) {
     if pages.first_from(room).is_some() || room == 0 {
-        return None.context("room for all entries");
+        return row.spoil();
     }
-    let mut copy = Pages::reserved(alloc, room)?;
+    let Ok(mut copy) = Pages::reserved(row.alloc(), room) else {
+        return row.spoil();
+    };
     copy.store(Marked {
         at: room - 1,
         mark: 0,
     });
     copy.copy_from(pages);
-    Ok(push_list(out, &copy)?)
+    push_list(row, &copy);
 }
 
-fn store(pages: &mut Pages<Marked>, entry: Marked) -> Result<()> {
+fn store(row: &mut Row, pages: &mut Pages<Marked>, words: &str) {
+    let entry = entry_of(row, words);
     if entry.at >= pages.room() {
-        return None.context("a place for which there is room");
+        return row.spoil();
     }
     pages.store(entry);
-    Ok(())
 }
 
-fn cut(pages: &mut Pages<Marked>, from: u32, to: u32) -> Result<()> {
+fn cut(row: &mut Row, pages: &mut Pages<Marked>, words: &str) {
+    let (from, to) = row.read_numbers(words);
     if from > to {
-        return None.context("places in order");
+        return row.spoil();
     }
     pages.cut(from, to);
-    Ok(())
 }
 
 /// Cuts so many places from one on, round all for which there is room.
-fn cut_round(pages: &mut Pages<Marked>, from: u32, steps: u32) -> Result<()> {
+fn cut_round(row: &mut Row, pages: &mut Pages<Marked>, words: &str) {
+    let (from, steps) = row.read_numbers(words);
     let places = pages.room();
     if pages.first_from(places).is_some() || from >= places || steps > places {
-        return None.context("places on the ring");
+        return row.spoil();
     }
     pages.cut_round(places, from, steps);
-    Ok(())
 }
 
 /// Takes a step that edits the list; whether it is one of these.
-fn take_edit(pages: &mut Pages<Marked>, verb: &str, words: &str) -> Result<bool> {
+fn take_edit(row: &mut Row, pages: &mut Pages<Marked>, verb: &str, words: &str) -> bool {
     match verb {
-        "store" => store(pages, entry_of(words)?)?,
+        "store" => store(row, pages, words),
         "clear" => pages.clear(),
-        "add" => pages.change_each(&Add(number(words)?)),
-        "cut" => {
-            let (from, to) = two_numbers(words)?;
-            cut(pages, from, to)?;
-        }
-        "round" => {
-            let (from, steps) = two_numbers(words)?;
-            cut_round(pages, from, steps)?;
-        }
-        _ => return Ok(false),
+        "add" => pages.change_each(&Add(row.read_number(words))),
+        "cut" => cut(row, pages, words),
+        "round" => cut_round(row, pages, words),
+        "list" => push_list(row, pages),
+        _ => return false,
     }
-    Ok(true)
+    true
 }
 
-/// Adds what a step finds.
-fn push_found(out: &mut String, pages: &Pages<Marked>, verb: &str, word: u32) -> Result<()> {
-    let found = match verb {
-        "held" => pages.held(word),
-        "below" => pages.last_below(word),
-        "from" => pages.first_from(word),
-        "get" => pages.get(word as usize),
-        _ => return None.context("a step"),
-    };
-    Ok(push_entry(out, found)?)
+/// Adds what a step of a number finds.
+fn push_found(row: &mut Row, pages: &Pages<Marked>, verb: &str, word: u32) {
+    match verb {
+        "held" => push_entry(row, pages.held(word)),
+        "below" => push_entry(row, pages.last_below(word)),
+        "from" => push_entry(row, pages.first_from(word)),
+        "get" => push_entry(row, pages.get(word as usize)),
+        "copy" => push_copy(row, pages, word),
+        _ => row.spoil(),
+    }
 }
 
 /// Takes a step, and adds what it answers.
-fn push_step(alloc: Global, out: &mut String, pages: &mut Pages<Marked>, step: &str) -> Result<()> {
+fn push_step(row: &mut Row, pages: &mut Pages<Marked>, step: &str) {
     let (verb, words) = step.split_once(' ').unwrap_or((step, ""));
-    if take_edit(pages, verb, words)? {
-        return Ok(());
-    }
-    match verb {
-        "list" => Ok(push_list(out, pages)?),
-        "copy" => push_copy(alloc, out, pages, number(words)?),
-        _ => push_found(out, pages, verb, number(words)?),
+    if !take_edit(row, pages, verb, words) {
+        let word = row.read_number(words);
+        push_found(row, pages, verb, word);
     }
 }
 
-/// Takes the steps of a row on a new list, and adds what they answer.
-pub(crate) fn push_steps(alloc: Global, out: &mut String, room: u32, steps: &str) -> Result<()> {
-    let mut pages = Pages::reserved(alloc, room)?;
+/// Takes the steps of a row on a new list, after the places that it has room for, and adds what they answer.
+pub(crate) fn push_steps(row: &mut Row, words: &str) {
+    let (room, steps) = row.cut(words, " ");
+    let room = row.read_number(room);
+    let Ok(mut pages) = Pages::reserved(row.alloc(), room) else {
+        return row.spoil();
+    };
     for step in steps.split("; ") {
-        push_step(alloc, out, &mut pages, step)?;
+        push_step(row, &mut pages, step);
     }
-    Ok(())
 }

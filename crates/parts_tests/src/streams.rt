@@ -1,164 +1,154 @@
 //! Streams in, their events out; records framed.
 
-use crate::script::bytes_of;
-use crate::wire_codes::push_wire_fault;
-use anyhow::Result;
-use std::alloc::{AllocError, Global};
-use test_words::{push_bytes, push_hex, push_length, push_word_hex, push_word_number};
+use test_words::Row;
 use tn_wire::{Deframer, Event, Step, Verb, WireFault, frame};
 
-fn push_record(out: &mut String, bytes: &[u8]) -> Result<(), AllocError> {
-    out.push_str("record ")?;
-    push_bytes(out, bytes)
+fn push_record(row: &mut Row, bytes: &[u8]) {
+    row.word("record ");
+    row.bytes(bytes);
 }
 
-fn push_verb(out: &mut String, verb: Verb, option: u8) -> Result<(), AllocError> {
-    push_word_hex(out, "verb ", verb.byte())?;
-    push_word_hex(out, " ", option)
+fn push_verb(row: &mut Row, verb: Verb, option: u8) {
+    row.word_hex("verb ", verb.byte());
+    row.word_hex(" ", option);
 }
 
-fn push_sub(out: &mut String, option: u8, parameters: &[u8]) -> Result<(), AllocError> {
-    push_word_hex(out, "sub ", option)?;
-    out.push(' ')?;
-    push_bytes(out, parameters)
-}
-
-fn push_words(out: &mut String, event: &Event<'_>) -> Result<(), AllocError> {
-    match event {
-        Event::Record(bytes) => push_record(out, *bytes),
-        Event::Verb(verb, option) => push_verb(out, *verb, *option),
-        Event::Sub(option, parameters) => push_sub(out, *option, *parameters),
-        Event::Passed(byte) => push_word_hex(out, "passed ", *byte),
-    }
+fn push_sub(row: &mut Row, option: u8, parameters: &[u8]) {
+    row.word_hex("sub ", option);
+    row.word(" ");
+    row.bytes(parameters);
 }
 
 /// An event in words.
-fn push_event(out: &mut String, event: &Event<'_>) -> Result<(), AllocError> {
-    push_words(out, event)?;
-    out.push(';')
+fn push_event(row: &mut Row, event: &Event<'_>) {
+    match event {
+        Event::Record(bytes) => push_record(row, *bytes),
+        Event::Verb(verb, option) => push_verb(row, *verb, *option),
+        Event::Sub(option, parameters) => push_sub(row, *option, *parameters),
+        Event::Passed(byte) => row.word_hex("passed ", *byte),
+    }
+    row.word(";");
 }
 
 /// A fault, and how many bytes were left.
-fn push_fault(out: &mut String, fault: WireFault, left: usize) -> Result<(), AllocError> {
-    push_wire_fault(out, fault)?;
-    out.push_str(", ")?;
-    push_length(out, left)?;
-    out.push_str(" left;")
+fn push_fault(row: &mut Row, fault: WireFault, left: usize) {
+    row.show(&fault);
+    row.word_length(", ", left);
+    row.word(" left;");
 }
 
 /// What a piece tells, and at a fault how many of its bytes were left.
-fn push_told(out: &mut String, deframer: &mut Deframer, piece: &[u8]) -> Result<(), AllocError> {
+fn push_told(row: &mut Row, deframer: &mut Deframer, piece: &[u8]) {
     let mut rest = piece;
     'events: loop {
         match deframer.next(&mut rest) {
-            Ok(Step::NeedMore) => return Ok(()),
-            Ok(Step::Event(event)) => push_event(out, &event)?,
-            Err(fault) => return push_fault(out, fault, rest.len()),
+            Ok(Step::NeedMore) => return,
+            Ok(Step::Event(event)) => push_event(row, &event),
+            Err(fault) => return push_fault(row, fault, rest.len()),
         }
     }
 }
 
-/// What a stream tells that comes in two pieces.
-fn in_two(alloc: Global, front: &[u8], back: &[u8]) -> Result<String, AllocError> {
-    let mut out = String::new(alloc);
-    let mut deframer = Deframer::new(alloc)?;
-    push_told(&mut out, &mut deframer, front)?;
-    push_told(&mut out, &mut deframer, back)?;
-    Ok(out)
-}
-
-/// What it tells whole.
-fn push_whole(alloc: Global, out: &mut String, stream: &[u8]) -> Result<(), AllocError> {
-    let mut deframer = Deframer::new(alloc)?;
-    push_told(out, &mut deframer, stream)
-}
-
-fn push_bytewise(
-    out: &mut String,
-    deframer: &mut Deframer,
-    stream: &[u8],
-) -> Result<(), AllocError> {
-    for piece in stream.chunks(1) {
-        push_told(out, deframer, piece)?;
+/// What a stream tells.
+fn push_whole(row: &mut Row, stream: &[u8]) {
+    match Deframer::new(row.alloc()) {
+        Ok(mut deframer) => push_told(row, &mut deframer, stream),
+        Err(_) => row.spoil(),
     }
-    Ok(())
+}
+
+/// What it tells that comes in two pieces.
+fn push_in_two(row: &mut Row, front: &[u8], back: &[u8]) {
+    match Deframer::new(row.alloc()) {
+        Ok(mut deframer) => {
+            push_told(row, &mut deframer, front);
+            push_told(row, &mut deframer, back);
+        }
+        Err(_) => row.spoil(),
+    }
 }
 
 /// What it tells byte by byte.
-fn byte_by_byte(alloc: Global, stream: &[u8]) -> Result<String, AllocError> {
-    let mut out = String::new(alloc);
-    let mut deframer = Deframer::new(alloc)?;
-    push_bytewise(&mut out, &mut deframer, stream)?;
-    Ok(out)
+fn push_bytewise(row: &mut Row, stream: &[u8]) {
+    let Ok(mut deframer) = Deframer::new(row.alloc()) else {
+        return row.spoil();
+    };
+    for piece in stream.chunks(1) {
+        push_told(row, &mut deframer, piece);
+    }
 }
 
 /// After how many of its cuts into two pieces a stream tells this text.
-fn count_same(alloc: Global, stream: &[u8], text: &str) -> Result<u32, AllocError> {
+fn count_same(row: &Row, stream: &[u8], text: &str) -> u32 {
     let mut same = 0u32;
     for cut in 0..stream.len() {
         let (front, back) = stream.split_at(cut);
-        if in_two(alloc, front, back)?.as_str() == text {
+        let mut told = Row::new(row.alloc());
+        push_in_two(&mut told, front, back);
+        if told.says(text) {
             same = same.saturating_add(1);
         }
     }
-    Ok(same)
+    same
 }
 
 /// What a stream tells byte by byte, and after how many of its cuts into two pieces it tells the same.
-fn push_pieces(alloc: Global, out: &mut String, stream: &[u8]) -> Result<(), AllocError> {
-    let text = byte_by_byte(alloc, stream)?;
-    out.push_str(text.as_str())?;
-    push_word_number(out, " ", count_same(alloc, stream, text.as_str())?)?;
-    out.push_str(" of ")?;
-    push_length(out, stream.len())?;
-    out.push_str(" cuts")
+fn push_pieces(row: &mut Row, stream: &[u8]) {
+    let mut told = Row::new(row.alloc());
+    push_bytewise(&mut told, stream);
+    row.join(&told);
+    let same = count_same(row, stream, told.text.as_str());
+    row.word_number(" ", same);
+    row.word_length(" of ", stream.len());
+    row.word(" cuts");
 }
 
 /// A stream of which a deframer is asked three times, whatever it answers.
-fn push_thrice(out: &mut String, deframer: &mut Deframer, stream: &[u8]) -> Result<(), AllocError> {
+fn ask_thrice(row: &mut Row, deframer: &mut Deframer, stream: &[u8]) {
     let mut rest = stream;
     for _ in 0..3 {
         match deframer.next(&mut rest) {
-            Ok(_) => out.push_str("taken")?,
-            Err(fault) => push_wire_fault(out, fault)?,
+            Ok(_) => row.word("taken"),
+            Err(fault) => row.show(&fault),
         }
-        out.push(';')?;
+        row.word(";");
     }
-    out.push(' ')?;
-    push_length(out, rest.len())?;
-    out.push_str(" left")
+    row.word_length(" ", rest.len());
+    row.word(" left");
+}
+
+fn push_thrice(row: &mut Row, stream: &[u8]) {
+    match Deframer::new(row.alloc()) {
+        Ok(mut deframer) => ask_thrice(row, &mut deframer, stream),
+        Err(_) => row.spoil(),
+    }
 }
 
 /// A record framed.
-fn push_frame(alloc: Global, out: &mut String, record: &[u8]) -> Result<(), AllocError> {
-    let framed = frame(alloc, record)?;
-    push_bytes(out, framed.as_slice())
+fn push_frame(row: &mut Row, record: &[u8]) {
+    match frame(row.alloc(), record) {
+        Ok(framed) => row.bytes(framed.as_slice()),
+        Err(_) => row.spoil(),
+    }
 }
 
 /// What a framed record tells.
-fn push_framed(alloc: Global, out: &mut String, record: &[u8]) -> Result<(), AllocError> {
-    let framed = frame(alloc, record)?;
-    push_whole(alloc, out, framed.as_slice())
+fn push_framed(row: &mut Row, record: &[u8]) {
+    match frame(row.alloc(), record) {
+        Ok(framed) => push_whole(row, framed.as_slice()),
+        Err(_) => row.spoil(),
+    }
 }
 
-/// Adds what a verb answers; whether it is one of these.
-pub(crate) fn push_answer(
-    alloc: Global,
-    out: &mut String,
-    verb: &str,
-    words: &str,
-) -> Result<bool> {
+/// Adds what a verb answers that takes bytes; whether it is one of these.
+pub(crate) fn push_answer(row: &mut Row, verb: &str, bytes: &[u8]) -> bool {
     match verb {
-        "stream" => push_whole(alloc, out, bytes_of(alloc, words)?.as_slice())?,
-        "pieces" => push_pieces(alloc, out, bytes_of(alloc, words)?.as_slice())?,
-        "thrice" => push_thrice(
-            out,
-            &mut Deframer::new(alloc)?,
-            bytes_of(alloc, words)?.as_slice(),
-        )?,
-        "frame" => push_frame(alloc, out, bytes_of(alloc, words)?.as_slice())?,
-        "framed" => push_framed(alloc, out, bytes_of(alloc, words)?.as_slice())?,
-        _ => return Ok(false),
+        "stream" => push_whole(row, bytes),
+        "pieces" => push_pieces(row, bytes),
+        "thrice" => push_thrice(row, bytes),
+        "frame" => push_frame(row, bytes),
+        "framed" => push_framed(row, bytes),
+        _ => return false,
     }
-    Ok(true)
+    true
 }

@@ -1,10 +1,17 @@
 //! Headers and codes, and the words of refusals.
 
-use crate::script::bytes_of;
-use anyhow::Result;
-use std::alloc::{AllocError, Global};
-use test_words::{push_bytes, push_hex, push_word_hex, push_word_number};
+use test_words::Row;
 use tn_wire::{DataType, Header, HeaderFault, Verb, WireFault};
+
+/// Why a stream is not read.
+const WIRE_FAULTS: &[WireFault] = &[
+    WireFault::RecordTooLong,
+    WireFault::SubTooLong,
+    WireFault::BadSub,
+];
+
+/// Why a header is not read.
+const HEADER_FAULTS: &[HeaderFault] = &[HeaderFault::ShortHeader, HeaderFault::UnknownType];
 
 fn name_of(data_type: DataType) -> &'static str {
     match data_type {
@@ -20,108 +27,80 @@ fn name_of(data_type: DataType) -> &'static str {
     }
 }
 
-pub(crate) fn push_wire_fault(out: &mut String, fault: WireFault) -> Result<(), AllocError> {
-    write!(out, "{fault}")
-}
-
-fn push_header_fault(out: &mut String, fault: HeaderFault) -> Result<(), AllocError> {
-    write!(out, "{fault}")
-}
-
-fn push_header(out: &mut String, header: Header) -> Result<(), AllocError> {
-    out.push_str(name_of(header.data_type))?;
-    push_word_number(out, " ", u32::from(header.request))?;
-    push_word_number(out, " ", u32::from(header.response))?;
-    push_word_number(out, " ", u32::from(header.seq))
-}
-
 /// A header, the record after it, and the header's bytes again.
-fn push_read(out: &mut String, record: &[u8]) -> Result<(), AllocError> {
-    match Header::read(record) {
-        Ok((header, rest)) => {
-            push_header(out, header)?;
-            out.push_str(", ")?;
-            push_bytes(out, rest)?;
-            out.push_str(", again ")?;
-            push_bytes(out, &header.bytes())
-        }
-        Err(fault) => push_header_fault(out, fault),
-    }
+fn push_header(row: &mut Row, header: Header, rest: &[u8]) {
+    row.word(name_of(header.data_type));
+    row.word_number(" ", u32::from(header.request));
+    row.word_number(" ", u32::from(header.response));
+    row.word_number(" ", u32::from(header.seq));
+    row.word(", ");
+    row.bytes(rest);
+    row.word(", again ");
+    row.bytes(&header.bytes());
 }
 
-fn push_verb_of(out: &mut String, byte: u8) -> Result<(), AllocError> {
-    let Some(verb) = Verb::from_byte(byte) else {
-        return Ok(());
-    };
-    push_hex(out, byte)?;
-    push_word_hex(out, " as ", verb.byte())?;
-    out.push(';')
+fn push_read(row: &mut Row, words: &str) {
+    let bytes = row.read_bytes(words);
+    match Header::read(bytes.as_slice()) {
+        Ok((header, rest)) => push_header(row, header, rest),
+        Err(fault) => row.show(&fault),
+    }
 }
 
 /// The bytes that are verbs.
-fn push_verbs(out: &mut String) -> Result<(), AllocError> {
+fn push_verbs(row: &mut Row) {
     for byte in 0..=255u8 {
-        push_verb_of(out, byte)?;
+        if let Some(verb) = Verb::from_byte(byte) {
+            row.hex(byte);
+            row.word_hex(" as ", verb.byte());
+            row.word(";");
+        }
     }
-    Ok(())
-}
-
-fn push_type_of(out: &mut String, byte: u8) -> Result<(), AllocError> {
-    let Some(data_type) = DataType::from_byte(byte) else {
-        return Ok(());
-    };
-    push_hex(out, byte)?;
-    out.push(' ')?;
-    out.push_str(name_of(data_type))?;
-    push_word_hex(out, " as ", data_type.byte())?;
-    out.push(';')
 }
 
 /// The bytes that are types of data.
-fn push_types(out: &mut String) -> Result<(), AllocError> {
+fn push_types(row: &mut Row) {
     for byte in 0..=255u8 {
-        push_type_of(out, byte)?;
+        if let Some(data_type) = DataType::from_byte(byte) {
+            row.hex(byte);
+            row.word(" ");
+            row.word(name_of(data_type));
+            row.word_hex(" as ", data_type.byte());
+            row.word(";");
+        }
     }
-    Ok(())
 }
 
 /// Every refusal's words.
-fn push_words(out: &mut String) -> Result<(), AllocError> {
-    push_wire_fault(out, WireFault::RecordTooLong)?;
-    out.push(';')?;
-    push_wire_fault(out, WireFault::SubTooLong)?;
-    out.push(';')?;
-    push_wire_fault(out, WireFault::BadSub)?;
-    out.push(';')?;
-    push_header_fault(out, HeaderFault::ShortHeader)?;
-    out.push(';')?;
-    push_header_fault(out, HeaderFault::UnknownType)?;
-    out.push(';')
+fn push_words(row: &mut Row) {
+    for fault in WIRE_FAULTS {
+        row.show(fault);
+        row.word(";");
+    }
+    for fault in HEADER_FAULTS {
+        row.show(fault);
+        row.word(";");
+    }
 }
 
 /// Each law does nothing.
-fn push_laws(out: &mut String) -> Result<(), AllocError> {
+fn push_laws(row: &mut Row) {
     tn_wire::one_reading();
     tn_wire::parts_law();
     tn_wire::one_fault();
     tn_wire::one_answer();
-    out.push_str("done")
+    row.word("done");
 }
 
 /// Adds what a verb answers; whether it is one of these.
-pub(crate) fn push_answer(
-    alloc: Global,
-    out: &mut String,
-    verb: &str,
-    words: &str,
-) -> Result<bool> {
+pub(crate) fn push_answer(row: &mut Row, verb: &str, words: &str) -> bool {
     match verb {
-        "header" => push_read(out, bytes_of(alloc, words)?.as_slice())?,
-        "verbs" => push_verbs(out)?,
-        "types" => push_types(out)?,
-        "words" => push_words(out)?,
-        "laws" => push_laws(out)?,
-        _ => return Ok(false),
+        "header" => push_read(row, words),
+        "verbs" => push_verbs(row),
+        "types" => push_types(row),
+        "words" => push_words(row),
+        "laws" => push_laws(row),
+        _ => return false,
     }
-    Ok(true)
+    true
 }
