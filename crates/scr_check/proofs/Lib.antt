@@ -1,5 +1,7 @@
+pub mod Walks
 pub mod TakingLaws
 pub mod OpenLaw
+pub mod CheckerLaws
 pub mod BoundLaw
 pub mod BindLaw
 pub mod KeptLaws

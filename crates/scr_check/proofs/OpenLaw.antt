@@ -1,26 +1,24 @@
--- What the opening is where the screen isn't ready.
-use Rattle.std.proofs.Common.{◌≡◌, ℕ, ◌==◌, false, List, [], ◌∷◌, map, length, Ok, Err, sym, ◌∙◌, ap}
+-- What the opening is, by where the records led and whether the screen is ready.
+use Rattle.std.proofs.Common.{◌≡◌, ℕ, List, [], ◌∷◌, length, None, Ok, Err, refl, ◌∙◌, ap}
 use Rattle.ds_codec.specs.Reading.{◌>>=◌}
 use Rattle.ds_screen.specs.Picture.{Picture}
+use Rattle.ds_screen.specs.Outline.{Outlined, IsOutlineOf}
 use Rattle.ds_screen.specs.Records.{new_picture}
 use Rattle.scr_layout.specs.Layout.{Declaration}
 use Rattle.scr_check.specs.declared.finding.Finding.{Finding}
 use Rattle.scr_check.specs.Opening.{taken_from, ready, opening_of}
+use Rattle.scr_check.specs.Checker.{LeadsTo}
 
-pub open_err : {A : Type 0} (f : A → List ℕ) (layout : Declaration) (records : List A) (v : Picture) (finding : Finding) → (length records == 0) ≡ false
-    → taken_from 0 (new_picture layout.geometry) (map f records) ≡ Ok v → ready layout.size v ≡ Err finding
-    → Err finding ≡ opening_of layout (map f records)
-open_err f layout [] v finding some takes is = absurd cc
-open_err f layout (b ∷ bs) v finding some takes is = sym (ap (λ r. r >>= ready layout.size) takes ∙ is)
+opened_as : (layout : Declaration) (records : List (List ℕ)) → (length records ≡ 0 → ⊥)
+    → opening_of layout records ≡ (taken_from 0 (new_picture layout.geometry) records >>= ready layout.size)
+opened_as layout [] some = absurd (some refl)
+opened_as layout (bytes ∷ others) some = refl
 
-pub open_ok : {A : Type 0} (f : A → List ℕ) (layout : Declaration) (records : List A) (v : Picture) → (length records == 0) ≡ false
-    → taken_from 0 (new_picture layout.geometry) (map f records) ≡ Ok v → ready layout.size v ≡ Ok v
-    → opening_of layout (map f records) ≡ Ok v
-open_ok f layout [] v some takes is = absurd cc
-open_ok f layout (b ∷ bs) v some takes is = ap (λ r. r >>= ready layout.size) takes ∙ is
+module _ (layout : Declaration) (records : List (List ℕ)) (outline : Outlined) where
+  pub opens : (length records ≡ 0 → ⊥) → LeadsTo layout records outline None → ((v : Picture) → IsOutlineOf outline v → ready layout.size v ≡ Ok v)
+      → (v : Picture) × (opening_of layout records ≡ Ok v) × IsOutlineOf outline v
+  opens some led is = (led.0, opened_as layout records some ∙ ap (λ r. r >>= ready layout.size) led.1 ∙ is led.0 led.2, led.2)
 
-pub open_stands : {A : Type 0} (f : A → List ℕ) (layout : Declaration) (records : List A) (finding : Finding) → (length records == 0) ≡ false
-    → taken_from 0 (new_picture layout.geometry) (map f records) ≡ Err finding
-    → opening_of layout (map f records) ≡ Err finding
-open_stands f layout [] finding some takes = absurd cc
-open_stands f layout (b ∷ bs) finding some takes = ap (λ r. r >>= ready layout.size) takes
+  pub opens_not : (finding : Finding) → (length records ≡ 0 → ⊥) → LeadsTo layout records outline None
+      → ((v : Picture) → IsOutlineOf outline v → ready layout.size v ≡ Err finding) → opening_of layout records ≡ Err finding
+  opens_not finding some led is = opened_as layout records some ∙ ap (λ r. r >>= ready layout.size) led.1 ∙ is led.0 led.2

@@ -6,7 +6,7 @@ use Rattle.ds_codec.specs.Record.{Message}
 use Rattle.ds_codec.specs.Reading.{◌>>=◌, read_of}
 use Rattle.ds_screen.specs.Picture.{Picture}
 use Rattle.scr_check.specs.declared.finding.Finding.{Finding}
-use Rattle.scr_check.specs.Opening.{command_fault, taken, taken_from}
+use Rattle.scr_check.specs.Opening.{command_fault, taken}
 use Rattle.scr_check.specs.Walk.{later_fault, taken_later, later_from}
 use Rattle.scr_check.specs.Taking.{Fault, taken_by, all_taken_by}
 
@@ -23,20 +23,14 @@ pub first_one : (index : ℕ) (v : Picture) (r : Result Message read.Refused) �
 first_one index v (Ok message) = refl
 first_one index v (Err refused) = refl
 
-same_after : (r : Result Picture Finding) (one other : Picture → Result Picture Finding) → ((w : Picture) → one w ≡ other w) → (r >>= one) ≡ (r >>= other)
-same_after (Ok w) one other same = same w
-same_after (Err finding) one other same = refl
-
-pub is_first : (index : ℕ) (v : Picture) (records : List (List ℕ)) → all_taken_by (λ i command orders. command_fault i command) index v records ≡ taken_from index v records
-is_first index v [] = refl
-is_first index v (bytes ∷ others) =
-    ap (λ r. r >>= λ next. all_taken_by (λ i command orders. command_fault i command) (index + 1) next others) (first_one index v (read_of v.geometry.mode bytes))
-    ∙ same_after (taken index v (read_of v.geometry.mode bytes)) _ (λ next. taken_from (index + 1) next others) (λ next. is_first (index + 1) next others)
-
 -- ---- the rule of a later turn
 later_one : (index : ℕ) (v : Picture) (r : Result Message read.Refused) → taken_by later_fault index v r ≡ taken_later index v r
 later_one index v (Ok message) = refl
 later_one index v (Err refused) = refl
+
+same_after : (r : Result Picture Finding) (one other : Picture → Result Picture Finding) → ((w : Picture) → one w ≡ other w) → (r >>= one) ≡ (r >>= other)
+same_after (Ok w) one other same = same w
+same_after (Err finding) one other same = refl
 
 pub is_later : (index : ℕ) (v : Picture) (records : List (List ℕ)) → all_taken_by later_fault index v records ≡ later_from index v records
 is_later index v [] = refl

@@ -53,6 +53,13 @@ yes_promised layout records r verdict opens sound listed is =
 pub opened_size : (layout : Declaration) (records : List (List ℕ)) (v : Picture) → opening_of layout records ≡ Ok v → v.size ≡ layout.size
 opened_size layout records v opens = (opened_ready layout records v opens).1.0
 
+-- what is found by the layout that is lent
+pub found_opened : (lent layout : Declaration) (records : List (List ℕ)) (v : Picture) (findings : List Finding) → lent ≡ layout → opening_of layout records ≡ Ok v
+    → (v.size ≡ lent.size → findings ≡ findings_of lent v) → findings ≡ findings_of layout v
+found_opened lent layout records v findings same opens found =
+    let P : Declaration → Type 0 = λ l. v.size ≡ l.size → findings ≡ findings_of l v in
+    subst P same found (opened_size layout records v opens)
+
 told_shown : (layout : Declaration) (records : List (List ℕ)) (r : Result Picture Finding) → opening_of layout records ≡ r → IfOk r IsSound → AreShown layout records (told layout r)
 told_shown layout records (Err finding) opens sound = λ v opened. absurd (other v (sym opens ∙ opened))
   where

@@ -16,3 +16,4 @@ pub mod TalkSeen
 pub mod Origins
 pub mod Noting
 pub mod Traced
+pub mod Checker

@@ -3,10 +3,12 @@
 
 mod binding;
 mod bound;
+mod checker;
 mod cursor;
 mod fields;
 mod finding;
 mod finding_text;
+mod history;
 mod later;
 mod laws;
 mod opening;
@@ -18,6 +20,7 @@ mod verdict;
 
 pub use binding::{BindError, BindFault, bind};
 pub use bound::Bound;
+pub use checker::Checker;
 pub use ds_screen::Outline;
 pub use finding::{Demo, Finding, Overlong};
 pub use finding_text::name_at;

@@ -1,15 +1,13 @@
-//! The records in turn, on a new terminal.
+//! The rule of the first turn, and where its records lead.
 
-ghost use Rattle.std.specs.Prelude.{◌≡◌, map, IfOk};
+ghost use Rattle.std.specs.Prelude.{◌≡◌};
 ghost use Rattle.scr_check.specs.Opening.{erases, writes, command_fault, is_size};
-ghost use Rattle.scr_check.specs.Seen.{IsReadyFor, IsReadyOn, IsOpening};
+ghost use Rattle.scr_check.specs.Seen.{IsReadyFor, IsReadyOn};
 
 use crate::finding::Finding;
-use crate::taking::{TurnRule, take_all};
+use crate::taking::TurnRule;
 use ds_codec::{Command, Record, Size};
 use ds_screen::{Lock, Outline};
-use scr_layout::Layout;
-use std::alloc::{AllocError, Global};
 
 /// Where the records lead: to the outline of a screen, or to the one finding that comes first.
 #[derive(Drop)]
@@ -98,21 +96,4 @@ pub(crate) fn ready(outline: &Outline, size: Size) -> Result<(), Finding>
 {
     let has_fields = outline.fields().next().is_some();
     ready_for(outline.lock(), outline.size(), size, has_fields)
-}
-
-/// Opens a new terminal of the layout's geometry with the records.
-pub(crate) fn open(alloc: Global, records: &[&[u8]], layout: &Layout) -> Result<Opening, AllocError>
-    ensures { IfOk result (IsOpening layout.now (map (λ bytes. bytes.now) records.now)) }
-{
-    if records.is_empty() {
-        return Ok(Opening::Stands(Finding::NoRecord));
-    }
-    let mut outline = Outline::new(alloc, layout.geometry())?;
-    if let Err(finding) = take_all::<FirstTurn>(&mut outline, records) {
-        return Ok(Opening::Stands(finding));
-    }
-    match ready(&outline, layout.size()) {
-        Ok(()) => Ok(Opening::Leads(outline)),
-        Err(finding) => Ok(Opening::Stands(finding)),
-    }
 }

@@ -7,10 +7,11 @@ ghost use Rattle.scr_check.specs.Walk.{walk_from, walk_of};
 ghost use Rattle.scr_check.specs.Talk.{TalksKeep};
 ghost use Rattle.scr_check.specs.TalkSeen.{rounds_of, stop_in, AreOfGeometry, HaveOneGeometry};
 
+use crate::checker::open;
 use crate::fields::findings_of;
 use crate::finding::Finding;
 use crate::later::later_findings;
-use crate::opening::{Opening, open};
+use crate::opening::Opening;
 use ds_codec::Geometry;
 use ds_screen::Outline;
 use scr_layout::Layout;

@@ -8,8 +8,9 @@ ghost use Rattle.scr_check.specs.Origins.{kept_at};
 ghost use Rattle.scr_check.specs.Seen.{IsOpened};
 ghost use Rattle.scr_check.specs.Traced.{attribute_place, entry_place, place_found, attribute_found, end_position, ended_on, end_from, traced_by, traced_of};
 
+use crate::checker::open;
 use crate::finding::Finding;
-use crate::opening::{Opening, open};
+use crate::opening::Opening;
 use crate::origins::{Origin, Origins, find_origins};
 use ds_codec::Size;
 use ds_screen::{FieldAt, Outline};

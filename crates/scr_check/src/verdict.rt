@@ -6,9 +6,10 @@ ghost use Rattle.scr_check.specs.Seen.{findings_in, TellsSome};
 ghost use Rattle.scr_check.specs.Leads.{IsPromised};
 ghost use Rattle.scr_check.specs.Demos.{AreShown};
 
+use crate::checker::{Checker, checker_of};
 use crate::fields::findings_of;
 use crate::finding::Finding;
-use crate::opening::{Opening, open};
+use crate::opening::Opening;
 use scr_layout::Layout;
 use std::alloc::{AllocError, Global};
 
@@ -30,6 +31,31 @@ fn verdict_of(findings: Vec<Finding>) -> Verdict
         Verdict::Yes
     } else {
         Verdict::No(findings)
+    }
+}
+
+impl Checker<'_> {
+    /// The verdict on the records that it took, as `check` gives it.
+    ///
+    /// # Errors
+    ///
+    /// Where a request for memory was refused.
+    pub fn verdict(self, alloc: Global) -> Result<Verdict, AllocError>
+        ensures yes { IfOk result (λ verdict. verdict
+            ≡ Verdict.Yes ↔ Conforms self.entry.layout self.entry.records) }
+        ensures listed { IfOk result (λ verdict. findings_in verdict
+            ≡ answer_of self.entry.layout self.entry.records) }
+        ensures some { IfOk result TellsSome }
+        ensures promise { IfOk result (λ verdict. verdict
+            ≡ Verdict.Yes → IsPromised self.entry.layout self.entry.records) }
+        ensures shown { IfOk result (λ verdict. AreShown self.entry.layout self.entry.records
+            (findings_in verdict)) }
+    {
+        let layout = self.layout();
+        match self.opened() {
+            Opening::Leads(outline) => Ok(verdict_of(findings_of(alloc, &outline, layout)?)),
+            Opening::Stands(finding) => Ok(verdict_of(vec![in alloc; finding]?)),
+        }
     }
 }
 
@@ -55,8 +81,5 @@ pub fn check(alloc: Global, records: &[&[u8]], layout: &Layout) -> Result<Verdic
         (λ verdict. AreShown layout.now (map (λ bytes. bytes.now) records.now)
         (findings_in verdict)) }
 {
-    match open(alloc, records, layout)? {
-        Opening::Leads(outline) => Ok(verdict_of(findings_of(alloc, &outline, layout)?)),
-        Opening::Stands(finding) => Ok(verdict_of(vec![in alloc; finding]?)),
-    }
+    checker_of(alloc, records, layout)?.verdict(alloc)
 }

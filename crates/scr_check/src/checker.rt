@@ -1,0 +1,150 @@
+//! Records that are checked as they come, one at a time.
+
+ghost use Rattle.std.specs.Prelude.{◌≡◌, ◌<◌, [], ◌∷◌, ◌++◌, length, map, IfOk};
+ghost use Rattle.scr_check.specs.Checker.{LeadsOn};
+ghost use Rattle.scr_check.specs.Seen.{IsOpening};
+
+use crate::finding::Finding;
+use crate::history::History;
+use crate::opening::{FirstTurn, Opening, ready};
+use crate::taking::take;
+use ds_screen::Outline;
+use scr_layout::Layout;
+use std::alloc::{AllocError, Global};
+use std::marker::Model;
+
+/// A new terminal of a layout's geometry that takes records one at a time and keeps none: the outline to which they lead,
+/// and the first finding against one of them, after which no more are read. Only `new` takes memory.
+#[derive(Drop)]
+pub struct Checker<'l> {
+    layout: &'l Layout,
+    outline: Outline,
+    count: usize,
+    stands: Option<Finding>,
+    taken: History,
+}
+
+impl<'l> Model for Checker<'l> {
+    ghost use Rattle.std.specs.Prelude.{◌≡◌, length};
+    ghost use Rattle.scr_check.specs.Checker.{Checked, LeadsTo};
+
+    ghost Value = { Checked };
+
+    ghost view = { λ s. record { layout = s.layout.now; records = s.taken.items } };
+
+    ghost invariant = { λ s. (s.count ≡ length s.taken.items)
+        × LeadsTo s.layout.now s.taken.items s.outline s.stands };
+}
+
+/// Takes the record of this number, unless something stands against an earlier one. Gives what stands first.
+fn take_next(
+    outline: &mut Outline,
+    stands: Option<Finding>,
+    index: usize,
+    bytes: &[u8],
+) -> Option<Finding>
+    ensures { LeadsOn outline.old stands index bytes.now outline.new result }
+{
+    if let Some(finding) = stands {
+        return Some(finding);
+    }
+    match take::<FirstTurn>(outline, index, bytes) {
+        Ok(()) => None,
+        Err(finding) => Some(finding),
+    }
+}
+
+impl<'l> Checker<'l> {
+    /// No record yet.
+    ///
+    /// # Errors
+    ///
+    /// Where a request for memory was refused.
+    pub fn new(alloc: Global, layout: &'l Layout) -> Result<Checker<'l>, AllocError>
+        ensures { IfOk result (λ checker. checker
+            ≡ record { layout = layout.now; records = [] }) }
+    {
+        let outline = Outline::new(alloc, layout.geometry())?;
+        Ok(Checker {
+            layout,
+            outline,
+            count: 0,
+            stands: None,
+            taken: History::new(),
+        })
+    }
+
+    /// How many records it took.
+    pub fn count(&self) -> usize
+        ensures { result ≡ length self.now.records }
+    {
+        self.count
+    }
+
+    /// Takes one more record.
+    pub fn take(&mut self, bytes: &[u8])
+        requires counts { length self.old.records < u64.MAX }
+        ensures { self.new ≡ record {
+          layout = self.old.layout;
+          records = self.old.records ++ bytes.now ∷ [];
+        } }
+    {
+        self.stands = take_next(&mut self.outline, self.stands, self.count, bytes);
+        self.count += 1;
+        self.taken.add(bytes);
+    }
+
+    /// Where the records led.
+    pub(crate) fn opened(self) -> Opening
+        ensures { IsOpening self.entry.layout self.entry.records result }
+    {
+        if self.count == 0 {
+            return Opening::Stands(Finding::NoRecord);
+        }
+        let Checker {
+            layout,
+            outline,
+            stands,
+            ..
+        } = self;
+        if let Some(finding) = stands {
+            return Opening::Stands(finding);
+        }
+        match ready(&outline, layout.size()) {
+            Ok(()) => Opening::Leads(outline),
+            Err(finding) => Opening::Stands(finding),
+        }
+    }
+
+    /// The layout.
+    pub(crate) fn layout(&self) -> &'l Layout
+        ensures { result.now ≡ self.now.layout }
+    {
+        self.layout
+    }
+}
+
+/// The checker that took these records.
+pub(crate) fn checker_of<'l>(
+    alloc: Global,
+    records: &[&[u8]],
+    layout: &'l Layout,
+) -> Result<Checker<'l>, AllocError>
+    ensures { IfOk result (λ checker. checker ≡ record {
+      layout = layout.now;
+      records = map (λ bytes. bytes.now) records.now;
+    }) }
+{
+    let mut checker = Checker::new(alloc, layout)?;
+    for bytes in records {
+        checker.take(bytes);
+    }
+    Ok(checker)
+}
+
+/// Opens a new terminal of the layout's geometry with the records.
+pub(crate) fn open(alloc: Global, records: &[&[u8]], layout: &Layout) -> Result<Opening, AllocError>
+    ensures { IfOk result (IsOpening layout.now (map (λ bytes. bytes.now) records.now)) }
+{
+    Ok(checker_of(alloc, records, layout)?.opened())
+}
