@@ -56,7 +56,7 @@ abbrev next_part : Mode → ℕ → Option ℕ → Item → Part → Result Part
 next_part mode cells wcc it part =
     if is_none wcc then Err NotAllowed
     else part_unless (flaw_of cells part.after_text it part.count)
-        (record { bytes = part.bytes ++ written_order mode cells it; count = part.count + 1; after_text = is_text_order it })
+    (record { bytes = part.bytes ++ written_order mode cells it; count = part.count + 1; after_text = is_text_order it })
 
 after_flaws : (early here : Option Unwritable) (part next : Part) (more : Part → Result Part Unwritable) → more part ≡ part_unless here next
     → (part_unless early part >>= more) ≡ part_unless (flaw_or early here) next
@@ -94,7 +94,7 @@ partial_of mode cells draft =
       mode = mode;
       cells = cells;
       part = part_unless (unwritable_of cells draft)
-        (record { bytes = written_record mode cells draft.command draft.orders; count = length draft.orders; after_text = follows_text draft.orders (length draft.orders) });
+          (record { bytes = written_record mode cells draft.command draft.orders; count = length draft.orders; after_text = follows_text draft.orders (length draft.orders) });
     }
 
 abbrev with_part_of : Mode → ℕ → Command → Result Part Unwritable → Partial

@@ -24,8 +24,8 @@ are_encoded table (a ∷ []) (byte ∷ bytes) long each = absurd (omega (arith, 
 are_encoded table (a ∷ b ∷ digits) (byte ∷ bytes) long each =
     let first = each 0 (omega arith) in
     let others : digits ≡ encode_with table bytes =
-        are_encoded table digits bytes (omega (arith, long))
-        (λ k below.
-            let here = each (suc k) (omega (arith, below)) in
-            (sym (behind a b k digits) ∙ here.0, sym (behind_next a b k digits) ∙ here.1)) in
+    are_encoded table digits bytes (omega (arith, long))
+    (λ k below.
+    let here = each (suc k) (omega (arith, below)) in
+    (sym (behind a b k digits) ∙ here.0, sym (behind_next a b k digits) ∙ here.1)) in
     rw (first.0, first.1, others) refl

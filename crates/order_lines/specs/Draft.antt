@@ -65,7 +65,7 @@ abbrev pub with_part : Mode → ℕ → Command → Item → Part → Result Par
 with_part mode cells command it part =
     if is_none (wcc_of command) then Err NotAllowed
     else part_unless (flaw_of cells part.after_text it part.count)
-        (record { bytes = part.bytes ++ written_order mode cells it; count = part.count + 1; after_text = is_text_order it })
+    (record { bytes = part.bytes ++ written_order mode cells it; count = part.count + 1; after_text = is_text_order it })
 
 -- one more order came
 abbrev pub with_order : Partial → Item → Partial

@@ -14,7 +14,7 @@ use std::alloc::{AllocError, Global};
 use std::marker::Model;
 
 /// A new terminal of a layout's geometry that takes records one at a time and keeps none: the outline to which they lead,
-/// and the first finding against one of them, after which no more are read. Only `new` takes memory.
+/// and the first finding against one of them, after which no more are read. A record that it takes asks for no memory.
 #[derive(Drop)]
 pub struct Checker<'l> {
     layout: &'l Layout,

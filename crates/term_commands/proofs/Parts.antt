@@ -53,8 +53,8 @@ whole_taken a b c buffered shown seen count front inside within last begins end 
     let place : length (take count seen) - 1 ≡ count - 1 = omega (arith, counts) in
     shown_front a c (take count seen) (subst (Consumes a c) whole moved.0)
     (λ more.
-        let some : 0 < count = omega (arith, counts, more) in
-        ap (slice_index (take count seen)) place ∙ get_or-take count seen (count - 1) 0 (omega (arith, some)) ∙ last some)
+    let some : 0 < count = omega (arith, counts, more) in
+    ap (slice_index (take count seen)) place ∙ get_or-take count seen (count - 1) 0 (omega (arith, some)) ∙ last some)
 
 -- nothing was taken
 pub none_taken : (a b : Option (List ℕ)) → Keeps a b → IfSome a (λ xs. ReadsFront xs [] b)

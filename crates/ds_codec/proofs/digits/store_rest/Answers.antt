@@ -32,8 +32,8 @@ returns-then-store_few-clause-digits c told =
     let none = length-drop {A = ℕ} gone (drop 16 both) in
     let whole : length (put_mid 16 gone both back) ≡ length both = omega (arith, parts, last_parts, taken, none, behind, long, all, c.if-bytes-le-FEW.false) in
     let first : AreSpelled digits both 16 =
-        one_part digits bytes front 0 16 32 16 (omega arith) (omega (arith, half)) (omega (arith, half)) (λ k below. absurd (omega (arith, below)))
-        (c.store_few-2.ensures.digits c.if-store_few.true) in
+    one_part digits bytes front 0 16 32 16 (omega arith) (omega (arith, half)) (omega (arith, half)) (λ k below. absurd (omega (arith, below)))
+    (c.store_few-2.ensures.digits c.if-store_few.true) in
     one_part digits both back 16 gone (length digits - 32) (length (put_mid 16 gone both back)) (omega (arith, all, c.if-bytes-le-FEW.false))
     (omega (arith, whole, long)) (omega (arith, long, all, c.requires.two)) first (c.store_few-then-store_few.ensures.digits told)
 

@@ -8,5 +8,5 @@ returns c =
     let stored = c.store_halves.ensures in
     are_encoded upper_digits c.store_joined.new.digits c.args.bytes.now (c.store_joined.ensures.whole ∙ c.requires.two)
     (λ k below.
-        let here = c.store_joined.ensures.joined k (omega (arith, below, stored.whole.0)) in
-        (here.0 ∙ stored.high k below, here.1 ∙ stored.low k below))
+    let here = c.store_joined.ensures.joined k (omega (arith, below, stored.whole.0)) in
+    (here.0 ∙ stored.high k below, here.1 ∙ stored.low k below))

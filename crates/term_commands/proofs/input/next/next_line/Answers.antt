@@ -24,7 +24,7 @@ pub returns-then-ends-clause-front : goal.returns-then-ends-clause-front
 returns-then-ends-clause-front g c =
     let took = c.in_ok-ends.ensures in
     let ends : EndsPart true took.0 (g.R.Read.remaining c.parts.reader) (g.R.Read.remaining c.take_part.new.reader) =
-        subst (λ b. EndsPart b took.0 (g.R.Read.remaining c.parts.reader) (g.R.Read.remaining c.take_part.new.reader)) c.if-ends.true took.4 in
+    subst (λ b. EndsPart b took.0 (g.R.Read.remaining c.parts.reader) (g.R.Read.remaining c.take_part.new.reader)) c.if-ends.true took.4 in
     lines_ended (g.R.Read.remaining c.args.reader.now) (g.R.Read.remaining c.parts.reader) (g.R.Read.remaining c.take_part.new.reader) c.parts.line.items took.0
     c.take_part.new.line.items c.is_empty.result took.1 c.parts.invariant.taken took.3 ends.1 ends.2
     (c.is_empty.ensures ∙ ap (λ (n : ℕ). n == 0) (omega arith))

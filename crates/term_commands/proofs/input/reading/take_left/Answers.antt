@@ -13,9 +13,9 @@ lines-preserved g c =
     let few : c.lines.left ≤ 16777216 = omega (arith, c.lines.invariant.few, c.lines.invariant.from) in
     let shown = subst (λ r. TakesWhole takes c.lines.number c.lines.told (R c.lines.reader) (R c.take_shown.new.reader) c.in_ok-count.count r) c.in-Ok.is c.in_ok-count.ensures.takes in
     let so = shown_more takes c.args.none (R c.args.reader.now) (R c.lines.reader) (R c.take_shown.new.reader) c.lines.number c.lines.told c.lines.left c.in_ok-count.count
-        c.in-Ok.taken.0 c.in-Ok.taken.1 c.lines.invariant.so shown c.in_ok-count.ensures.few few in
+    c.in-Ok.taken.0 c.in-Ok.taken.1 c.lines.invariant.so shown c.in_ok-count.ensures.few few in
     let front = front_of (R c.take_shown.new.reader) c.next_line.new.line.items (R c.next_line.new.reader)
-        (subst (λ b. IfSome (R c.take_shown.new.reader) (λ bytes. ReadsSome bytes b c.next_line.new.line.items (R c.next_line.new.reader))) c.if-not-branch.false c.in_ok-next_line.ensures.front) in
+    (subst (λ b. IfSome (R c.take_shown.new.reader) (λ bytes. ReadsSome bytes b c.next_line.new.line.items (R c.next_line.new.reader))) c.if-not-branch.false c.in_ok-next_line.ensures.front) in
     let size : c.len-in-lines.result ≡ length c.next_line.new.line.items = omega (arith, c.len-in-lines.ensures) in
     let fits : length c.next_line.new.line.items ≤ c.lines.left - c.in_ok-count.count = omega (arith, c.if-left-len.false, c.len.ensures) in
     let took = subst (λ z. TakesNumbered takes c.in-Ok.taken.1 c.in-Ok.taken.0 (lines_in z) (Ok c.in-Ok-take_numbered.taken)) c.deref.ensures.value c.in-Ok-take_numbered.ensures.takes in
@@ -46,7 +46,7 @@ returns-then-not-branch g c =
     let few : c.lines.left ≤ 16777216 = omega (arith, c.lines.invariant.few, c.lines.invariant.from) in
     let shown = subst (λ r. TakesWhole takes c.lines.number c.lines.told (R c.lines.reader) (R c.take_shown.new.reader) c.in_ok-count.count r) c.in-Ok.is c.in_ok-count.ensures.takes in
     let so = shown_more takes c.args.none (R c.args.reader.now) (R c.lines.reader) (R c.take_shown.new.reader) c.lines.number c.lines.told c.lines.left c.in_ok-count.count
-        c.in-Ok.taken.0 c.in-Ok.taken.1 c.lines.invariant.so shown c.in_ok-count.ensures.few few in
+    c.in-Ok.taken.0 c.in-Ok.taken.1 c.lines.invariant.so shown c.in_ok-count.ensures.few few in
     takes_all takes c.args.none (R c.args.reader.now) (R c.take_shown.new.reader) (R c.next_line.new.reader) c.in-Ok.taken.1 c.in-Ok.taken.0 (c.lines.left - c.in_ok-count.count)
     c.next_line.new.line.items so
     (subst (λ b. IfSome (R c.take_shown.new.reader) (λ bytes. ReadsSome bytes b c.next_line.new.line.items (R c.next_line.new.reader))) c.if-not-branch.true c.in_ok-next_line.ensures.front)
@@ -58,9 +58,9 @@ returns-in-Err-take_numbered g c =
     let few : c.lines.left ≤ 16777216 = omega (arith, c.lines.invariant.few, c.lines.invariant.from) in
     let shown = subst (λ r. TakesWhole takes c.lines.number c.lines.told (R c.lines.reader) (R c.take_shown.new.reader) c.in_ok-count.count r) c.in-Ok.is c.in_ok-count.ensures.takes in
     let so = shown_more takes c.args.none (R c.args.reader.now) (R c.lines.reader) (R c.take_shown.new.reader) c.lines.number c.lines.told c.lines.left c.in_ok-count.count
-        c.in-Ok.taken.0 c.in-Ok.taken.1 c.lines.invariant.so shown c.in_ok-count.ensures.few few in
+    c.in-Ok.taken.0 c.in-Ok.taken.1 c.lines.invariant.so shown c.in_ok-count.ensures.few few in
     let front = front_of (R c.take_shown.new.reader) c.next_line.new.line.items (R c.next_line.new.reader)
-        (subst (λ b. IfSome (R c.take_shown.new.reader) (λ bytes. ReadsSome bytes b c.next_line.new.line.items (R c.next_line.new.reader))) c.if-not-branch.false c.in_ok-next_line.ensures.front) in
+    (subst (λ b. IfSome (R c.take_shown.new.reader) (λ bytes. ReadsSome bytes b c.next_line.new.line.items (R c.next_line.new.reader))) c.if-not-branch.false c.in_ok-next_line.ensures.front) in
     let size : c.len-in-lines.result ≡ length c.next_line.new.line.items = omega (arith, c.len-in-lines.ensures) in
     let fits : length c.next_line.new.line.items ≤ c.lines.left - c.in_ok-count.count = omega (arith, c.if-left-len.false, c.len.ensures) in
     takes_fault takes c.args.none (R c.args.reader.now) (R c.take_shown.new.reader) (R c.next_line.new.reader) c.in-Ok.taken.1 c.in-Ok.taken.0 (c.lines.left - c.in_ok-count.count)
