@@ -10,6 +10,7 @@ pub mod Joined
 pub mod Backward
 pub mod Answered
 pub mod Checked
+pub mod CheckedLines
 pub mod PlainLines
 pub mod SaidPlain
 pub mod ToldSizes

@@ -13,7 +13,8 @@ use Rattle.term_commands.specs.declared.status.Status.TheVariants.{Done, Finding
 use Rattle.term_commands.specs.DemoLines.{asked, finding_lines}
 use Rattle.term_commands.specs.LayoutText.{layout_in}
 use Rattle.term_commands.specs.Printed.{Printed, printed, printed_or_fault}
-use Rattle.term_commands.specs.Records.{records_in}
+use Rattle.term_commands.specs.Records.{Records, no_records, take_record, records_in}
+use Rattle.term_commands.specs.Taking.{taken_in, beside}
 
 -- `yes`, or the lines of each finding
 abbrev pub printed_verdict : (Finding → List ℕ) → List Finding → Printed
@@ -24,6 +25,10 @@ printed_verdict lines (finding ∷ findings) = printed (flat_map lines (finding 
 abbrev pub printed_answer : Demos → Declaration → List (List ℕ) → Printed
 printed_answer demos layout records = printed_verdict (finding_lines layout.entries (asked demos (opening_of layout records))) (answer_of layout records)
 
+-- all that is told of the records of an input
+abbrev pub findings_told : Declaration → List ℕ → Result (List Finding) Fault
+findings_told layout records = records_in Refused records >>= λ told. Ok (answer_of layout told.records)
+
 abbrev pub check_records : Demos → Declaration → List ℕ → Result Printed Fault
 check_records demos layout records = records_in Refused records >>= λ told. Ok (printed_answer demos layout told.records)
 
@@ -33,3 +38,12 @@ check demos text records = layout_in text >>= λ layout. check_records demos lay
 -- what `check` prints for a layout's text and records, and its status
 abbrev pub printed_check : Demos → List ℕ → List ℕ → Printed
 printed_check demos text records = printed_or_fault (check demos text records)
+
+-- ---- as a program takes them, one record at a time
+
+-- the records of an input, beside the layout
+abbrev pub records_beside : Declaration → List ℕ → Result (Declaration × Records) Fault
+records_beside layout input = taken_in (beside take_record) (layout, no_records Refused) input
+
+abbrev pub findings_beside : Declaration → List ℕ → Result (List Finding) Fault
+findings_beside layout input = records_beside layout input >>= λ both. Ok (answer_of both.0 both.1.records)

@@ -8,12 +8,14 @@ use Rattle.ds_codec.specs.Geometry.{Sizes}
 use Rattle.ds_keys.specs.declared.key.Key.{Key}
 use Rattle.ds_screen.specs.Picture.{Picture}
 use Rattle.ds_terminal.specs.Runs.{RefusedRecord, all_shown}
+use Rattle.scr_layout.specs.Layout.{Declaration}
 use Rattle.order_lines.specs.Told.{told_held}
 use Rattle.term_commands.specs.declared.fault.Fault.{Fault}
 use Rattle.term_commands.specs.declared.fault.Fault.TheVariants.{RecordRefused}
 use Rattle.term_commands.specs.declared.input.records.Line as held_line
 use Rattle.term_commands.specs.declared.input.records.Line.TheVariants as line
 use Rattle.term_commands.specs.declared.input.records.Records as held_records
+use Rattle.term_commands.specs.declared.input.checking.Checking as held_checking
 use Rattle.term_commands.specs.declared.input.keys.KeyLine as held_key_line
 use Rattle.term_commands.specs.declared.input.keys.KeyLine.TheVariants as key_line
 use Rattle.term_commands.specs.declared.input.keys.Keys as held_keys
@@ -23,6 +25,7 @@ use Rattle.term_commands.specs.declared.commands.backward.Backward as held_backw
 use Rattle.term_commands.specs.declared.commands.backward.SizeInUse.{SizeInUse}
 use Rattle.term_commands.specs.declared.commands.backward.WrittenRecord.{WrittenRecord}
 use Rattle.term_commands.specs.declared.commands.backward.SizeInUse.TheVariants.{Default, Alternate}
+use Rattle.term_commands.specs.declared.input.sizes.SizeLine.TheVariants.{Refused}
 use Rattle.term_commands.specs.declared.output.answer.Answer.{Answer}
 use Rattle.term_commands.specs.declared.status.Status.TheVariants.{Done}
 use Rattle.term_commands.specs.Back.{bytes_line}
@@ -31,6 +34,7 @@ use Rattle.term_commands.specs.Drafts as drafts
 use Rattle.term_commands.specs.Keys as keys
 use Rattle.term_commands.specs.Printed.{Printed, printed}
 use Rattle.term_commands.specs.Records as records
+use Rattle.term_commands.specs.Sizes.{usual_sizes}
 
 abbrev pub records_held : List (Vec ℕ) → List (List ℕ)
 records_held records = map (λ bytes. bytes.items) records
@@ -45,6 +49,14 @@ line_seen line.Bad = records.bad
 
 abbrev pub records_seen : held_records.Records → records.Records
 records_seen told = record { size_line = told.size_line; geometry = told.geometry; records = records_held told.records.items }
+
+-- the records that were checked as their lines came
+abbrev pub records_checked : held_checking.Checking → records.Records
+records_checked told = record { size_line = Refused; geometry = usual_sizes; records = told.checker.records }
+
+-- the same beside the layout against which they were
+abbrev pub checking_seen : held_checking.Checking → Declaration × records.Records
+checking_seen told = (told.checker.layout, records_checked told)
 
 abbrev pub key_line_seen : held_key_line.KeyLine → keys.KeyLine
 key_line_seen key_line.Ignored = keys.ignored

@@ -43,6 +43,11 @@ digits_told size_line line digits =
 abbrev pub line_told : SizeLine → List ℕ → Line
 line_told size_line line = if is_utf8 line then digits_told size_line line (without_spaces line) else bad
 
+-- it tells no sizes
+abbrev pub IsNoSizes : Line → Type 0
+IsNoSizes (sizes geometry) = ⊥
+IsNoSizes line = Unit {0}
+
 -- ---- lines in turn
 
 -- what lines tell: whether a line of sizes may come next, the sizes, and the records

@@ -18,6 +18,13 @@ taken take number told (line ∷ lines) = take number told line >>= λ next. tak
 abbrev pub taken_in : {A : Type 0} → (ℕ → A → List ℕ → Result A Fault) → A → List ℕ → Result A Fault
 taken_in take none input = within_limit input >>= λ text. taken take 1 none (lines_in text)
 
+-- what is told, beside what stays
+abbrev pub with_kept : {K A : Type 0} → K → Result A Fault → Result (K × A) Fault
+with_kept kept told = told >>= λ next. Ok (kept, next)
+
+abbrev pub beside : {K A : Type 0} → (ℕ → A → List ℕ → Result A Fault) → ℕ → K × A → List ℕ → Result (K × A) Fault
+beside take number (kept, told) line = with_kept kept (take number told line)
+
 -- ---- as a program takes them
 
 -- what is told after a change of it, or the error that it ended with

@@ -1,6 +1,7 @@
 //! The inputs of the commands, judged line by line: a layout once it is read, records and keys as they are read.
 
 pub mod bytes;
+pub mod checking;
 pub mod drafts;
 pub mod keys;
 pub mod layout;

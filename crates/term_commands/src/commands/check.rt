@@ -4,7 +4,7 @@ ghost use Rattle.std.specs.Prelude.{◌≡◌, if◌then◌else◌, map, IfErr, 
 ghost use Rattle.std.specs.List.{flat_map, list_any};
 ghost use Rattle.scr_check.specs.Seen.{findings_in, TellsSome};
 ghost use Rattle.term_commands.specs.declared.status.Status.TheVariants.{Findings};
-ghost use Rattle.term_commands.specs.declared.output.demo.Demos.TheVariants.{Omitted};
+ghost use Rattle.term_commands.specs.declared.output.demo.Demos.TheVariants.{Omitted, Printed};
 ghost use Rattle.term_commands.specs.Check.{printed_verdict, printed_answer, check_records, check, printed_check};
 ghost use Rattle.term_commands.specs.DemoLines.{finding_lines, has_keys, asked, shown_on};
 ghost use Rattle.term_commands.specs.Fault.{Gives, GivesOrFails};
@@ -14,6 +14,7 @@ ghost use Rattle.term_commands.specs.Printed.{printed};
 ghost use Rattle.term_commands.specs.Streams.{Prints};
 
 use crate::fault::CommandError;
+use crate::input::checking::{read_verdict, verdict_in};
 use crate::input::layout::{layout_in, read_layout};
 use crate::input::records::{read_records, records_in};
 use crate::input::sizes::SizeLine;
@@ -123,6 +124,22 @@ pub fn check_answer(
     verdict_text(alloc, layout, records, demos, &verdict)
 }
 
+/// What `check` answers without demos to a layout and a text of records, each of which is checked as its line comes.
+fn check_lines(alloc: Global, layout: &Layout, records: &[u8]) -> Result<Answer, CommandError>
+    ensures { Gives answer_seen result (check_records Omitted layout.now records.now) }
+{
+    let verdict = verdict_in(alloc, layout, records)?;
+    Ok(verdict_text(alloc, layout, &[], Demos::Omitted, &verdict)?)
+}
+
+/// The same with demos, from a screen that the records are shown on once they are held.
+fn check_held(alloc: Global, layout: &Layout, records: &[u8]) -> Result<Answer, CommandError>
+    ensures { Gives answer_seen result (check_records Printed layout.now records.now) }
+{
+    let told = records_in(alloc, records, SizeLine::Refused)?;
+    Ok(check_answer(alloc, layout, told.records.as_slice(), Demos::Printed)?)
+}
+
 /// What `check` answers to a layout and a text of records.
 fn check_records(
     alloc: Global,
@@ -132,8 +149,36 @@ fn check_records(
 ) -> Result<Answer, CommandError>
     ensures { Gives answer_seen result (check_records demos layout.now records.now) }
 {
-    let told = records_in(alloc, records, SizeLine::Refused)?;
-    Ok(check_answer(alloc, layout, told.records.as_slice(), demos)?)
+    match demos {
+        Demos::Omitted => check_lines(alloc, layout, records),
+        Demos::Printed => check_held(alloc, layout, records),
+    }
+}
+
+/// What `check` answers without demos to a layout and to records that are read, each of which is checked as its line comes.
+fn check_read_lines<R: Read>(
+    alloc: Global,
+    layout: &Layout,
+    reader: &mut R,
+) -> Result<Answer, CommandError>
+    ensures { IfSome (R.remaining reader.old)
+        (λ input. GivesOrFails answer_seen result (check_records Omitted layout.now input)) }
+{
+    let verdict = read_verdict(alloc, layout, reader)?;
+    Ok(verdict_text(alloc, layout, &[], Demos::Omitted, &verdict)?)
+}
+
+/// The same with demos, from a screen that the records are shown on once they are held.
+fn check_read_held<R: Read>(
+    alloc: Global,
+    layout: &Layout,
+    reader: &mut R,
+) -> Result<Answer, CommandError>
+    ensures { IfSome (R.remaining reader.old)
+        (λ input. GivesOrFails answer_seen result (check_records Printed layout.now input)) }
+{
+    let told = read_records(alloc, reader, SizeLine::Refused)?;
+    Ok(check_answer(alloc, layout, told.records.as_slice(), Demos::Printed)?)
 }
 
 /// What `check` answers to a layout and to records that are read.
@@ -146,8 +191,10 @@ fn check_read_records<R: Read>(
     ensures { IfSome (R.remaining reader.old)
         (λ input. GivesOrFails answer_seen result (check_records demos layout.now input)) }
 {
-    let told = read_records(alloc, reader, SizeLine::Refused)?;
-    Ok(check_answer(alloc, layout, told.records.as_slice(), demos)?)
+    match demos {
+        Demos::Omitted => check_read_lines(alloc, layout, reader),
+        Demos::Printed => check_read_held(alloc, layout, reader),
+    }
 }
 
 /// What `check` answers to the texts of a layout and of records.

@@ -1,0 +1,8 @@
+use Rattle.term_commands.specs.Held.{checking_seen}
+use Rattle.term_commands.specs.Records.{take_record}
+use Rattle.term_commands.specs.Taking.{beside}
+use Rattle.term_commands.proofs.InTurn.{gives_known}
+use Rattle.term_commands.proofs.input.checking.read_added.Goals as goal
+
+pub returns : goal.returns
+returns g c = gives_known checking_seen (beside take_record) c.args.none (g.R.Read.remaining c.args.reader.now) c.read_lines.result c.read_lines.ensures
