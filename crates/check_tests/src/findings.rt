@@ -3,7 +3,7 @@
 use crate::script::bytes_of;
 use crate::{Setup, layout_of};
 use anyhow::{Context, Result};
-use scr_check::{Demo, Finding, Verdict, check};
+use scr_check::{Checker, Demo, Finding, Verdict, check};
 use scr_layout::Layout;
 use std::alloc::{AllocError, Global};
 use test_words::{cut_word, number, push_length, push_number, push_word_number};
@@ -78,17 +78,42 @@ pub(crate) fn push_findings(
     Ok(())
 }
 
+/// What a checker says that takes the records one at a time.
+fn verdict_in_turn(alloc: Global, layout: &Layout, records: &[Vec<u8>]) -> Result<Verdict> {
+    let mut checker = Checker::new(alloc, layout)?;
+    for bytes in records {
+        if checker.count() < usize::MAX {
+            checker.take(bytes.as_slice());
+        }
+    }
+    Ok(checker.verdict(alloc)?)
+}
+
 /// `yes`, or the findings.
+fn told_of(alloc: Global, layout: &Layout, verdict: &Verdict) -> Result<String, AllocError> {
+    let mut told = String::new(alloc);
+    match verdict {
+        Verdict::Yes => told.push_str("yes")?,
+        Verdict::No(findings) => push_findings(&mut told, layout, findings.as_slice())?,
+    }
+    Ok(told)
+}
+
+/// What is said of the records, and also of them one at a time where that differs.
 pub(crate) fn push_verdict(
     alloc: Global,
     out: &mut String,
     layout: &Layout,
     records: &[Vec<u8>],
 ) -> Result<()> {
-    match verdict_of(alloc, layout, records)? {
-        Verdict::Yes => Ok(out.push_str("yes")?),
-        Verdict::No(findings) => Ok(push_findings(out, layout, findings.as_slice())?),
+    let told = told_of(alloc, layout, &verdict_of(alloc, layout, records)?)?;
+    let in_turn = told_of(alloc, layout, &verdict_in_turn(alloc, layout, records)?)?;
+    out.push_str(told.as_str())?;
+    if told.as_str() != in_turn.as_str() {
+        out.push_str(" but in turn ")?;
+        out.push_str(in_turn.as_str())?;
     }
+    Ok(())
 }
 
 /// What the checker says of some records and the setup's layout.

@@ -65,7 +65,10 @@ fn have_same_answers(row: &mut Row, pair: &Pair) -> bool {
     push_sent(&mut plain, &pair.plain);
     let mut planes = Row::new(row.alloc());
     push_sent(&mut planes, &pair.planes);
-    plain.says(planes.text.as_str())
+    match (row.take(plain.finish()), row.take(planes.finish())) {
+        (Some(plain), Some(planes)) => plain.as_str() == planes.as_str(),
+        _ => false,
+    }
 }
 
 /// What a screen answers to Read Modified All and to Read Buffer.
