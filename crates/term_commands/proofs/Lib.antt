@@ -13,6 +13,7 @@ pub mod Checked
 pub mod CheckedLines
 pub mod PlainLines
 pub mod SaidPlain
+pub mod DigitLines
 pub mod ToldSizes
 pub mod Converted
 pub mod Spaces

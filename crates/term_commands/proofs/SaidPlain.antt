@@ -122,7 +122,7 @@ number_plain words n h =
       | false ↦ λ is told. absurd cc
     ] refl h
 
-run_plain : (words run : List ℕ) → decode_of words ≡ Ok run → are_plain words ≡ true
+pub run_plain : (words run : List ℕ) → decode_of words ≡ Ok run → are_plain words ≡ true
 run_plain words run h = all_hex words (list_all-from_AllPass is_hex_digit words (decode_of-ok words run h).1)
 
 character_plain : (words : List ℕ) (character : _) → IsCharacter character words → are_plain words ≡ true

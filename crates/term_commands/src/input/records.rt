@@ -95,8 +95,8 @@ fn has_space(line: &[u8]) -> bool
     }
 }
 
-/// What a line tells; spaces count in a line of sizes alone.
-pub(crate) fn line_told(
+/// What a line tells that has anything but digits, or nothing; spaces count in a line of sizes alone.
+fn other_line(
     alloc: Global,
     size_line: SizeLine,
     line: &[u8],
@@ -112,6 +112,21 @@ pub(crate) fn line_told(
     }
     strip_spaces(digits, line)?;
     told_by(alloc, size_line, text, digits.as_slice())
+}
+
+/// What a line tells. One of digits alone is a record, and nothing else is looked for in it.
+pub(crate) fn line_told(
+    alloc: Global,
+    size_line: SizeLine,
+    line: &[u8],
+    digits: &mut Vec<u8>,
+) -> Result<Line, AllocError>
+    ensures { IfOk result (λ told. line_seen told ≡ line_told size_line line.now) }
+{
+    match bytes_of_digits(alloc, line)? {
+        Some(bytes) if !bytes.is_empty() => Ok(Line::Record(bytes)),
+        _ => other_line(alloc, size_line, line, digits),
+    }
 }
 
 /// One more record.
