@@ -46,11 +46,15 @@ refusal_data fault = object (member (codes "verdict") (string (codes "refused"))
 
 -- ---- the report
 
--- a line for each finding, and one for the verdict; keys are pressed on the picture that the records leave
+-- a line for each finding, whose keys are pressed on the picture that the records leave
+abbrev pub pressed_lines : Declaration → List ℕ → List (List ℕ) → List Traced → List ℕ
+pressed_lines layout input records findings =
+    flat_map (finding_line layout (record_numbers input) (asked Pressed (shown_on layout records))) findings
+
+-- these lines, and one for the verdict
 abbrev pub report_findings : Declaration → List ℕ → List (List ℕ) → List Traced → Printed
 report_findings layout input records findings =
-    printed (flat_map (finding_line layout (record_numbers input) (asked Pressed (shown_on layout records))) findings
-    ++ data_line (verdict_data (length layout.entries) (length records) findings))
+    printed (pressed_lines layout input records findings ++ data_line (verdict_data (length layout.entries) (length records) findings))
     (status_of findings)
 
 abbrev pub report_within : Declaration → List ℕ → Result Printed Fault

@@ -12,7 +12,7 @@ ghost use Rattle.term_commands.specs.declared.status.Status.TheVariants.{BadInpu
 ghost use Rattle.term_findings.specs.Lines.{data_line, status_of};
 ghost use Rattle.term_findings.specs.Members.{finding_data};
 ghost use Rattle.term_findings.specs.RecordLine.{record_numbers};
-ghost use Rattle.term_findings.specs.Report.{finding_line, verdict_data, verdict_word, refusal_data, report_findings};
+ghost use Rattle.term_findings.specs.Report.{finding_line, verdict_data, verdict_word, refusal_data, pressed_lines, report_findings};
 
 use crate::members::finding_value;
 use crate::record_line::record_numbers;
@@ -183,6 +183,22 @@ pub(crate) fn refusal_answer(alloc: Global, fault: Fault) -> Result<Answer, Allo
     })
 }
 
+/// The same, with what keys send on the picture that the records leave.
+fn push_pressed(
+    alloc: Global,
+    out: &mut String,
+    layout: &Layout,
+    input: &[u8],
+    records: &[Vec<u8>],
+    findings: &[Traced],
+) -> Result<(), AllocError>
+    ensures { OnOk result (string_bytes out.new ≡ string_bytes out.old
+        ++ pressed_lines layout.now input.now (records_held records.now) findings.now) }
+{
+    let terminal = demo_terminal(alloc, layout, records, Demos::Printed)?;
+    push_all(alloc, out, layout, input, terminal.as_ref(), findings)
+}
+
 /// The report of findings: a line for each, and one for the verdict.
 pub(crate) fn findings_answer(
     alloc: Global,
@@ -195,8 +211,7 @@ pub(crate) fn findings_answer(
         ≡ report_findings layout.now input.now (records_held records.now) findings.now) }
 {
     let mut text = String::new(alloc);
-    let terminal = demo_terminal(alloc, layout, records, Demos::Printed)?;
-    push_all(alloc, &mut text, layout, input, terminal.as_ref(), findings)?;
+    push_pressed(alloc, &mut text, layout, input, records, findings)?;
     push_verdict(
         alloc,
         &mut text,

@@ -1,6 +1,6 @@
 //! The report as a log of SARIF 2.1.0.
 
-ghost use Rattle.std.specs.Prelude.{◌≡◌, ◌≤◌, ◌++◌, false, map, option_map, IfOk, OnOk, Some};
+ghost use Rattle.std.specs.Prelude.{◌≡◌, ◌≤◌, ◌++◌, false, map, option_map, IfOk, OnOk, None, Some};
 ghost use Rattle.std.specs.String.{string_bytes};
 ghost use Rattle.serde_json.specs.Data.{array, depth};
 ghost use Rattle.serde_json.specs.Read.{read};
@@ -9,7 +9,7 @@ ghost use Rattle.serde_json.specs.Written.{compact_text, has_float};
 ghost use Rattle.term_commands.specs.Fault.{fault_text};
 ghost use Rattle.term_findings.specs.Region.{standing_in};
 ghost use Rattle.term_findings.specs.Rule.{rule_help};
-ghost use Rattle.term_findings.specs.Sarif.{message_data, rule_data, tool_data, region_data, physical_data, location_data, end_data, result_data, help_end, message_of, end_of, finding_result, findings_data, refusal_results, refusal_log_data, log_data, findings_log_data};
+ghost use Rattle.term_findings.specs.Sarif.{message_data, described_data, rule_data, tool_data, region_data, physical_data, location_data, end_data, error_data, result_data, help_end, message_of, end_of, finding_result, findings_data, refusal_results, refusal_log_data, run_data, log_data, findings_log_data};
 
 use crate::help::help_text;
 use crate::region::{Region, Standing, finding_region, order_region, standing_in};
@@ -41,16 +41,19 @@ fn rule_help(alloc: Global, rule: Rule) -> Result<String, AllocError>
     format!(in alloc; "{meaning} {mend}")
 }
 
-#[tactic(auto, unfolding(crate::specs::Sarif::rule_data))]
-fn rule_value(alloc: Global, rule: Rule) -> Result<Value, AllocError>
-    ensures { IfOk result (λ value. view value ≡ rule_data rule) }
+/// A rule, with its texts.
+fn described_value(
+    alloc: Global,
+    rule: Rule,
+    meaning: Value,
+    mend: Value,
+    brief: Value,
+) -> Result<Value, AllocError>
+    ensures { IfOk result (λ value. view value
+        ≡ described_data rule (view meaning) (view mend) (view brief)) }
 {
-    let help = rule_help(alloc, rule)?;
-    let meaning = message_value(alloc, rule.meaning())?;
-    let mend = message_value(alloc, help.as_str())?;
     let id = rule.id();
     let name = rule.name();
-    let brief = message_value(alloc, rule.brief())?;
     json!(in alloc; {
         "defaultConfiguration": {"level": "error"},
         "fullDescription": meaning,
@@ -59,6 +62,17 @@ fn rule_value(alloc: Global, rule: Rule) -> Result<Value, AllocError>
         "name": name,
         "shortDescription": brief
     })
+}
+
+#[tactic(auto, unfolding(crate::specs::Sarif::rule_data))]
+fn rule_value(alloc: Global, rule: Rule) -> Result<Value, AllocError>
+    ensures { IfOk result (λ value. view value ≡ rule_data rule) }
+{
+    let help = rule_help(alloc, rule)?;
+    let meaning = message_value(alloc, rule.meaning())?;
+    let mend = message_value(alloc, help.as_str())?;
+    let brief = message_value(alloc, rule.brief())?;
+    described_value(alloc, rule, meaning, mend, brief)
 }
 
 fn rules_value(alloc: Global, rules: &[Rule]) -> Result<Value, AllocError>
@@ -118,6 +132,50 @@ fn end_value(alloc: Global, path: &str, region: Region) -> Result<Value, AllocEr
     json!(in alloc; {"message": message, "physicalLocation": physical})
 }
 
+/// A result of a rule, without another place.
+fn single_value(
+    alloc: Global,
+    rule: Rule,
+    location: Value,
+    message: Value,
+) -> Result<Value, AllocError>
+    ensures { IfOk result (λ value. view value
+        ≡ error_data rule (view location) (view message) None) }
+{
+    let id = rule.id();
+    let index = rule.index();
+    json!(in alloc; {
+        "level": "error",
+        "locations": [location],
+        "message": message,
+        "ruleId": id,
+        "ruleIndex": index
+    })
+}
+
+/// The same with another place.
+fn related_value(
+    alloc: Global,
+    rule: Rule,
+    location: Value,
+    message: Value,
+    related: Value,
+) -> Result<Value, AllocError>
+    ensures { IfOk result (λ value. view value
+        ≡ error_data rule (view location) (view message) (Some (view related))) }
+{
+    let id = rule.id();
+    let index = rule.index();
+    json!(in alloc; {
+        "level": "error",
+        "locations": [location],
+        "message": message,
+        "relatedLocations": [related],
+        "ruleId": id,
+        "ruleIndex": index
+    })
+}
+
 /// A result of a rule at a place, with a text, and with another place if there is one.
 #[tactic(auto, unfolding(crate::specs::Sarif::result_data))]
 fn result_value(
@@ -133,24 +191,9 @@ fn result_value(
 {
     let location = location_value(alloc, path, region)?;
     let message = message_value(alloc, text)?;
-    let id = rule.id();
-    let index = rule.index();
     match related {
-        Some(related) => json!(in alloc; {
-            "level": "error",
-            "locations": [location],
-            "message": message,
-            "relatedLocations": [related],
-            "ruleId": id,
-            "ruleIndex": index
-        }),
-        None => json!(in alloc; {
-            "level": "error",
-            "locations": [location],
-            "message": message,
-            "ruleId": id,
-            "ruleIndex": index
-        }),
+        Some(related) => related_value(alloc, rule, location, message, related),
+        None => single_value(alloc, rule, location, message),
     }
 }
 
@@ -244,17 +287,21 @@ fn results_value(
     findings_value(alloc, path, layout, &standing, findings)
 }
 
+/// A run with these results.
+fn run_value(alloc: Global, results: Value) -> Result<Value, AllocError>
+    ensures { IfOk result (λ value. view value ≡ run_data (view results)) }
+{
+    let tool = tool_value(alloc)?;
+    json!(in alloc; {"results": results, "tool": tool})
+}
+
 /// A log of one run, with these results.
 #[tactic(auto, unfolding(crate::specs::Sarif::log_data))]
 fn log_value(alloc: Global, results: Value) -> Result<Value, AllocError>
     ensures { IfOk result (λ value. view value ≡ log_data (view results)) }
 {
-    let tool = tool_value(alloc)?;
-    json!(in alloc; {
-        "$schema": SCHEMA,
-        "runs": [{"results": results, "tool": tool}],
-        "version": "2.1.0"
-    })
+    let run = run_value(alloc, results)?;
+    json!(in alloc; {"$schema": SCHEMA, "runs": [run], "version": "2.1.0"})
 }
 
 #[tactic(auto, using(crate::proofs::Logged::log_plain, crate::proofs::Logged::log_nests))]
