@@ -26,8 +26,9 @@ pub(crate) fn lent<'a>(row: &mut Row, records: &'a [Vec<u8>]) -> Vec<&'a [u8]> {
 }
 
 /// What the checker says of records.
-pub(crate) fn verdict_of(row: &mut Row, layout: &Layout, records: &[&[u8]]) -> Option<Verdict> {
-    let verdict = check(row.alloc(), records, layout);
+pub(crate) fn verdict_of(row: &mut Row, layout: &Layout, records: &[Vec<u8>]) -> Option<Verdict> {
+    let slices = lent(row, records);
+    let verdict = check(row.alloc(), slices.as_slice(), layout);
     row.take(verdict)
 }
 
@@ -74,8 +75,7 @@ fn push_verdict(row: &mut Row, layout: &Layout, verdict: &Option<Verdict>) {
 
 /// What the checker says of records.
 fn push_at_once(row: &mut Row, layout: &Layout, records: &[Vec<u8>]) {
-    let slices = lent(row, records);
-    let verdict = verdict_of(row, layout, slices.as_slice());
+    let verdict = verdict_of(row, layout, records);
     push_verdict(row, layout, &verdict);
 }
 
@@ -134,8 +134,7 @@ fn push_ends(row: &mut Row, layout: &Layout, findings: &[Finding]) {
 
 pub(crate) fn push_count(row: &mut Row, layout: &Layout, words: &str) {
     let records = records_of(row, words);
-    let slices = lent(row, records.as_slice());
-    match verdict_of(row, layout, slices.as_slice()) {
+    match verdict_of(row, layout, records.as_slice()) {
         Some(Verdict::Yes) => row.word("yes"),
         Some(Verdict::No(findings)) => push_ends(row, layout, findings.as_slice()),
         None => row.spoil(),

@@ -25,8 +25,10 @@ mod talks;
 mod words;
 
 use anyhow::{Context, Result};
+use promise::Told;
 use scr_layout::Layout;
 use script::{copied, keep, layout_of};
+use std::alloc::Global;
 use test_words::{Row, is_row};
 
 /// What the lines of a script begin with.
@@ -80,7 +82,7 @@ fn push_declared(row: &mut Row, setup: &Setup, layout: &Layout, verb: &str, word
         "pressed" => promise::push_pressed(row, setup, layout, words),
         "origins" => origins::push_origins(row, layout, words),
         "traced" => origins::push_found(row, layout, words),
-        "shape" => shapes::push_kept(row, setup, layout, words),
+        "shape" => promise::push_after(row, setup, layout, Told::Shape, words),
         "entries" => layouts::push_all(row, layout),
         _ => layouts::push_places(row, layout, words),
     }
@@ -135,19 +137,28 @@ fn push_line(row: &mut Row, setup: &mut Setup, line: &str) {
     }
 }
 
+/// A line as it is printed.
+fn printed(alloc: Global, setup: &mut Setup, line: &str) -> Result<String> {
+    let mut row = Row::new(alloc);
+    push_line(&mut row, setup, line);
+    row.finish()
+        .context("out of memory, or a row that cannot be read")
+}
+
+/// Nothing to begin with.
+fn no_setup(alloc: Global) -> Setup {
+    Setup {
+        layout: String::new(alloc),
+        after: String::new(alloc),
+        lists: Vec::new(alloc),
+        screens: Vec::new(alloc),
+    }
+}
+
 fn main(rt: HostRuntime) -> Result<()> {
-    let mut setup = Setup {
-        layout: String::new(rt.alloc()),
-        after: String::new(rt.alloc()),
-        lists: Vec::new(rt.alloc()),
-        screens: Vec::new(rt.alloc()),
-    };
+    let mut setup = no_setup(rt.alloc());
     for line in rt.lines(rt.alloc()) {
-        let mut row = Row::new(rt.alloc());
-        push_line(&mut row, &mut setup, line?.as_str());
-        let text = row
-            .finish()
-            .context("out of memory, or a row that cannot be read")?;
+        let text = printed(rt.alloc(), &mut setup, line?.as_str())?;
         println!(rt; "{text}")?;
     }
     Ok(())

@@ -53,8 +53,9 @@ fn push_all(row: &mut Row, traced: &[Traced]) {
     }
 }
 
-fn push_findings(row: &mut Row, layout: &Layout, records: &[&[u8]], findings: &[Finding]) {
-    match trace_findings(row.alloc(), records, layout, findings) {
+fn push_findings(row: &mut Row, layout: &Layout, records: &[Vec<u8>], findings: &[Finding]) {
+    let slices = lent(row, records);
+    match trace_findings(row.alloc(), slices.as_slice(), layout, findings) {
         Ok(traced) => push_all(row, traced.as_slice()),
         Err(_) => row.spoil(),
     }
@@ -63,8 +64,7 @@ fn push_findings(row: &mut Row, layout: &Layout, records: &[&[u8]], findings: &[
 /// The findings of records, each with the orders that it comes from.
 pub(crate) fn push_found(row: &mut Row, layout: &Layout, words: &str) {
     let records = records_of(row, words);
-    let slices = lent(row, records.as_slice());
-    if let Some(Verdict::No(findings)) = verdict_of(row, layout, slices.as_slice()) {
-        push_findings(row, layout, slices.as_slice(), findings.as_slice());
+    if let Some(Verdict::No(findings)) = verdict_of(row, layout, records.as_slice()) {
+        push_findings(row, layout, records.as_slice(), findings.as_slice());
     }
 }

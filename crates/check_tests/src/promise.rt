@@ -4,6 +4,7 @@ use crate::Setup;
 use crate::answers::push_bound;
 use crate::dialogues::count_kept;
 use crate::script::text_of;
+use crate::shapes::push_kept;
 use ds_codec::Record;
 use ds_inbound::write_inbound;
 use ds_keys::{key_of_line, press};
@@ -32,7 +33,7 @@ fn show_all(row: &mut Row, screen: &mut Screen<PlaneCells>, records: &str) {
 }
 
 /// A new terminal's screen of the layout's geometry after records.
-pub(crate) fn opened(row: &mut Row, layout: &Layout, records: &str) -> Option<Screen<PlaneCells>> {
+fn opened(row: &mut Row, layout: &Layout, records: &str) -> Option<Screen<PlaneCells>> {
     match Screen::new(row.alloc(), layout.geometry()) {
         Ok(mut screen) => {
             show_all(row, &mut screen, records);
@@ -78,19 +79,29 @@ fn press_all(row: &mut Row, screen: &mut Screen<PlaneCells>, keys: &str) {
     press_line(row, screen, "enter");
 }
 
-/// What is told of what a screen sends.
-fn push_sent(row: &mut Row, layout: &Layout, screen: &Screen<PlaneCells>) {
+/// What is told of what a screen sends after keys.
+fn push_sent(row: &mut Row, layout: &Layout, screen: &mut Screen<PlaneCells>, keys: &str) {
+    press_all(row, screen, keys);
     match write_inbound(row.alloc(), screen, false) {
         Ok(bytes) => push_bound(row, layout, bytes.as_slice()),
         Err(_) => row.spoil(),
     }
 }
 
-/// What is told after the setup's records and a list's keys.
-fn push_after(row: &mut Row, setup: &Setup, layout: &Layout, keys: &str) {
+/// What is told after keys: of what the screen sends, or of its shape.
+#[derive(Clone, Copy)]
+pub(crate) enum Told {
+    Sent,
+    Shape,
+}
+
+/// What is told after the setup's records and some keys.
+pub(crate) fn push_after(row: &mut Row, setup: &Setup, layout: &Layout, told: Told, keys: &str) {
     if let Some(mut screen) = opened(row, layout, setup.after.as_str()) {
-        press_all(row, &mut screen, keys);
-        push_sent(row, layout, &screen);
+        match told {
+            Told::Sent => push_sent(row, layout, &mut screen, keys),
+            Told::Shape => push_kept(row, &mut screen, keys),
+        }
     }
 }
 
@@ -109,14 +120,14 @@ fn keys_of<'a>(row: &mut Row, setup: &'a Setup, name: &str) -> &'a str {
 /// What is told after the keys of the list of this name.
 pub(crate) fn push_pressed(row: &mut Row, setup: &Setup, layout: &Layout, name: &str) {
     let keys = keys_of(row, setup, name);
-    push_after(row, setup, layout, keys);
+    push_after(row, setup, layout, Told::Sent, keys);
 }
 
 /// Whether Enter sends an answer that is bound after a list's keys.
 fn is_bound(row: &mut Row, setup: &Setup, layout: &Layout, list: &str) -> bool {
     let (_, keys) = row.cut(list, ": ");
     let mut told = Row::new(row.alloc());
-    push_after(&mut told, setup, layout, keys);
+    push_after(&mut told, setup, layout, Told::Sent, keys);
     text_of(row, told).as_str().starts_with("7D")
 }
 

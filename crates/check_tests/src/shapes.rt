@@ -1,9 +1,7 @@
 //! The shape of a screen: its size and its attributes, an unprotected one's modified data tag aside; and what a key keeps of it.
 
-use crate::Setup;
-use crate::promise::{opened, press_lines};
+use crate::promise::press_lines;
 use ds_screen::{FieldAt, PlaneCells, Screen};
-use scr_layout::Layout;
 use test_words::Row;
 
 /// The bits of an attribute, without an unprotected one's modified data tag.
@@ -42,18 +40,11 @@ fn push_both(row: &mut Row, before: &Row, after: &Row) {
 }
 
 /// Whether keys keep the shape of a screen; else the shape that they leave.
-fn push_pressed(row: &mut Row, screen: &mut Screen<PlaneCells>, keys: &str) {
+pub(crate) fn push_kept(row: &mut Row, screen: &mut Screen<PlaneCells>, keys: &str) {
     let mut before = Row::new(row.alloc());
     push_shape(&mut before, screen);
     press_lines(row, screen, keys);
     let mut after = Row::new(row.alloc());
     push_shape(&mut after, screen);
     push_both(row, &before, &after);
-}
-
-/// The same of the setup's screen.
-pub(crate) fn push_kept(row: &mut Row, setup: &Setup, layout: &Layout, keys: &str) {
-    if let Some(mut screen) = opened(row, layout, setup.after.as_str()) {
-        push_pressed(row, &mut screen, keys);
-    }
 }
