@@ -95,13 +95,24 @@ pub(crate) enum Told {
     Shape,
 }
 
-/// What is told after the setup's records and some keys.
+/// What is told of a screen and keys.
+fn push_told(
+    row: &mut Row,
+    layout: &Layout,
+    screen: &mut Screen<PlaneCells>,
+    told: Told,
+    keys: &str,
+) {
+    match told {
+        Told::Sent => push_sent(row, layout, screen, keys),
+        Told::Shape => push_kept(row, screen, keys),
+    }
+}
+
+/// The same of a screen after the setup's records.
 pub(crate) fn push_after(row: &mut Row, setup: &Setup, layout: &Layout, told: Told, keys: &str) {
     if let Some(mut screen) = opened(row, layout, setup.after.as_str()) {
-        match told {
-            Told::Sent => push_sent(row, layout, &mut screen, keys),
-            Told::Shape => push_kept(row, &mut screen, keys),
-        }
+        push_told(row, layout, &mut screen, told, keys);
     }
 }
 
