@@ -1,192 +1,163 @@
 //! What the checker finds.
 
-use crate::script::bytes_of;
-use crate::{Setup, layout_of};
-use anyhow::{Context, Result};
+use crate::script::keep;
 use scr_check::{Checker, Demo, Finding, Verdict, check};
 use scr_layout::Layout;
-use std::alloc::{AllocError, Global};
-use test_words::{cut_word, number, push_length, push_number, push_word_number};
+use test_words::Row;
 
 /// The bytes of records that are parted by semicolons.
-pub(crate) fn records_of(alloc: Global, words: &str) -> Result<Vec<Vec<u8>>> {
-    let mut records = Vec::new(alloc);
+pub(crate) fn records_of(row: &mut Row, words: &str) -> Vec<Vec<u8>> {
+    let mut records = Vec::new(row.alloc());
     for text in words.split(';') {
         if !text.is_empty() {
-            records.push(bytes_of(alloc, text)?)?;
+            let bytes = row.read_bytes(text);
+            keep(row, &mut records, bytes);
         }
     }
-    Ok(records)
+    records
 }
 
-pub(crate) fn lent<'a>(alloc: Global, records: &'a [Vec<u8>]) -> Result<Vec<&'a [u8]>, AllocError> {
-    let mut slices = Vec::new(alloc);
+pub(crate) fn lent<'a>(row: &mut Row, records: &'a [Vec<u8>]) -> Vec<&'a [u8]> {
+    let mut slices = Vec::new(row.alloc());
     for bytes in records {
-        slices.push(bytes.as_slice())?;
+        keep(row, &mut slices, bytes.as_slice());
     }
-    Ok(slices)
+    slices
 }
 
 /// What the checker says of records.
-fn verdict_of(alloc: Global, layout: &Layout, records: &[Vec<u8>]) -> Result<Verdict> {
-    let slices = lent(alloc, records)?;
-    Ok(check(alloc, slices.as_slice(), layout)?)
+pub(crate) fn verdict_of(row: &mut Row, layout: &Layout, records: &[Vec<u8>]) -> Option<Verdict> {
+    let slices = lent(row, records);
+    let verdict = check(row.alloc(), slices.as_slice(), layout);
+    row.take(verdict)
 }
 
 /// The keys of a finding.
-pub(crate) fn push_keys(out: &mut String, demo: Demo) -> Result<(), AllocError> {
-    push_word_number(out, " (", demo.rights)?;
-    push_word_number(out, " and ", demo.types)
-}
-
-fn push_demo(out: &mut String, demo: Demo) -> Result<(), AllocError> {
-    write!(out, "{demo}")
+pub(crate) fn push_keys(row: &mut Row, demo: Demo) {
+    row.word_number(" (", demo.rights);
+    row.word_number(" and ", demo.types);
 }
 
 /// A finding's number and its text.
-pub(crate) fn push_text(
-    out: &mut String,
-    layout: &Layout,
-    finding: Finding,
-) -> Result<(), AllocError> {
-    push_number(out, u32::from(finding.number()))?;
-    out.push_str(": ")?;
-    finding.push_text(out, layout.entries())
+pub(crate) fn push_text(row: &mut Row, layout: &Layout, finding: Finding) {
+    row.number(u32::from(finding.number()));
+    row.word(": ");
+    let pushed = finding.push_text(&mut row.text, layout.entries());
+    row.note(pushed);
 }
 
 /// A finding's number, its text, and its keys by themselves.
-fn push_finding(out: &mut String, layout: &Layout, finding: Finding) -> Result<(), AllocError> {
-    let demo = finding.demo();
-    push_text(out, layout, finding)?;
-    if let Some(demo) = demo {
-        push_keys(out, demo)?;
-        out.push_str(", ")?;
-        push_demo(out, demo)?;
-        out.push(')')?;
+fn push_finding(row: &mut Row, layout: &Layout, finding: Finding) {
+    push_text(row, layout, finding);
+    if let Some(demo) = finding.demo() {
+        push_keys(row, demo);
+        row.word(", ");
+        row.show(&demo);
+        row.word(")");
     }
-    out.push_str("; ")
+    row.word("; ");
 }
 
-pub(crate) fn push_findings(
-    out: &mut String,
-    layout: &Layout,
-    findings: &[Finding],
-) -> Result<(), AllocError> {
+pub(crate) fn push_findings(row: &mut Row, layout: &Layout, findings: &[Finding]) {
     for finding in findings {
-        push_finding(out, layout, *finding)?;
+        push_finding(row, layout, *finding);
     }
-    Ok(())
 }
 
-/// What a checker says that takes the records one at a time.
-fn verdict_in_turn(alloc: Global, layout: &Layout, records: &[Vec<u8>]) -> Result<Verdict> {
-    let mut checker = Checker::new(alloc, layout)?;
+/// `yes`, or the findings; nothing where memory ran out.
+fn push_verdict(row: &mut Row, layout: &Layout, verdict: &Option<Verdict>) {
+    match verdict {
+        Some(Verdict::Yes) => row.word("yes"),
+        Some(Verdict::No(findings)) => push_findings(row, layout, findings.as_slice()),
+        None => row.spoil(),
+    }
+}
+
+/// What the checker says of records.
+fn push_at_once(row: &mut Row, layout: &Layout, records: &[Vec<u8>]) {
+    let verdict = verdict_of(row, layout, records);
+    push_verdict(row, layout, &verdict);
+}
+
+fn take_all(checker: &mut Checker<'_>, records: &[Vec<u8>]) {
     for bytes in records {
         if checker.count() < usize::MAX {
             checker.take(bytes.as_slice());
         }
     }
-    Ok(checker.verdict(alloc)?)
 }
 
-/// `yes`, or the findings.
-fn told_of(alloc: Global, layout: &Layout, verdict: &Verdict) -> Result<String, AllocError> {
-    let mut told = String::new(alloc);
-    match verdict {
-        Verdict::Yes => told.push_str("yes")?,
-        Verdict::No(findings) => push_findings(&mut told, layout, findings.as_slice())?,
+/// What a checker says that takes the records one at a time.
+fn push_in_turn(row: &mut Row, layout: &Layout, records: &[Vec<u8>]) {
+    match Checker::new(row.alloc(), layout) {
+        Ok(mut checker) => {
+            take_all(&mut checker, records);
+            let verdict = checker.verdict(row.alloc()).ok();
+            push_verdict(row, layout, &verdict);
+        }
+        Err(_) => row.spoil(),
     }
-    Ok(told)
 }
 
 /// What is said of the records, and also of them one at a time where that differs.
-pub(crate) fn push_verdict(
-    alloc: Global,
-    out: &mut String,
-    layout: &Layout,
-    records: &[Vec<u8>],
-) -> Result<()> {
-    let told = told_of(alloc, layout, &verdict_of(alloc, layout, records)?)?;
-    let in_turn = told_of(alloc, layout, &verdict_in_turn(alloc, layout, records)?)?;
-    out.push_str(told.as_str())?;
-    if told.as_str() != in_turn.as_str() {
-        out.push_str(" but in turn ")?;
-        out.push_str(in_turn.as_str())?;
+pub(crate) fn push_judged(row: &mut Row, layout: &Layout, records: &[Vec<u8>]) {
+    let mut told = Row::new(row.alloc());
+    push_at_once(&mut told, layout, records);
+    let mut in_turn = Row::new(row.alloc());
+    push_in_turn(&mut in_turn, layout, records);
+    row.join(&told);
+    if !in_turn.says(told.text.as_str()) {
+        row.word(" but in turn ");
+        row.join(&in_turn);
     }
-    Ok(())
 }
 
-/// What the checker says of some records and the setup's layout.
-pub(crate) fn push_check(
-    alloc: Global,
-    setup: &Setup,
-    out: &mut String,
-    words: &str,
-) -> Result<()> {
-    let layout = layout_of(alloc, setup)?;
-    let records = records_of(alloc, words)?;
-    push_verdict(alloc, out, &layout, records.as_slice())
+/// What the checker says of some records and a layout.
+pub(crate) fn push_check(row: &mut Row, layout: &Layout, words: &str) {
+    let records = records_of(row, words);
+    push_judged(row, layout, records.as_slice());
 }
 
-fn push_one(
-    out: &mut String,
-    layout: &Layout,
-    finding: Option<&Finding>,
-) -> Result<(), AllocError> {
-    match finding {
-        Some(finding) => push_finding(out, layout, *finding),
-        None => Ok(()),
+fn push_one(row: &mut Row, layout: &Layout, finding: Option<&Finding>) {
+    if let Some(finding) = finding {
+        push_finding(row, layout, *finding);
     }
 }
 
 /// How many findings there are, with the first and the last.
-fn push_ends(out: &mut String, layout: &Layout, findings: &[Finding]) -> Result<(), AllocError> {
-    push_length(out, findings.len())?;
-    out.push_str(" findings, ")?;
-    push_one(out, layout, findings.first())?;
-    push_one(out, layout, findings.last())
+fn push_ends(row: &mut Row, layout: &Layout, findings: &[Finding]) {
+    row.length(findings.len());
+    row.word(" findings, ");
+    push_one(row, layout, findings.first());
+    push_one(row, layout, findings.last());
 }
 
-fn push_count(alloc: Global, setup: &Setup, out: &mut String, words: &str) -> Result<()> {
-    let layout = layout_of(alloc, setup)?;
-    let records = records_of(alloc, words)?;
-    match verdict_of(alloc, &layout, records.as_slice())? {
-        Verdict::Yes => Ok(out.push_str("yes")?),
-        Verdict::No(findings) => Ok(push_ends(out, &layout, findings.as_slice())?),
+pub(crate) fn push_count(row: &mut Row, layout: &Layout, words: &str) {
+    let records = records_of(row, words);
+    match verdict_of(row, layout, records.as_slice()) {
+        Some(Verdict::Yes) => row.word("yes"),
+        Some(Verdict::No(findings)) => push_ends(row, layout, findings.as_slice()),
+        None => row.spoil(),
     }
 }
 
-/// A record so many times, and one more.
-fn repeated(alloc: Global, often: &str, count: u32, last: &str) -> Result<Vec<Vec<u8>>> {
-    let mut records = Vec::new(alloc);
+/// A record so many times.
+fn repeated(row: &mut Row, record: &str, count: u32) -> Vec<Vec<u8>> {
+    let mut records = Vec::new(row.alloc());
     for _ in 0..count {
-        records.push(bytes_of(alloc, often)?)?;
+        let bytes = row.read_bytes(record);
+        keep(row, &mut records, bytes);
     }
-    records.push(bytes_of(alloc, last)?)?;
-    Ok(records)
+    records
 }
 
-fn push_often(alloc: Global, setup: &Setup, out: &mut String, words: &str) -> Result<()> {
-    let (count, records) = cut_word(words)?;
-    let (often, last) = records.split_once(';').context("two records")?;
-    let layout = layout_of(alloc, setup)?;
-    let records = repeated(alloc, often, number(count)?, last)?;
-    push_verdict(alloc, out, &layout, records.as_slice())
-}
-
-/// Adds what a verb answers; whether it is one of these.
-pub(crate) fn push_answer(
-    alloc: Global,
-    setup: &Setup,
-    out: &mut String,
-    verb: &str,
-    words: &str,
-) -> Result<bool> {
-    match verb {
-        "check" => push_check(alloc, setup, out, words)?,
-        "count" => push_count(alloc, setup, out, words)?,
-        "often" => push_often(alloc, setup, out, words)?,
-        _ => return Ok(false),
-    }
-    Ok(true)
+/// What the checker says of a record so many times, and one more.
+pub(crate) fn push_often(row: &mut Row, layout: &Layout, words: &str) {
+    let (count, records) = row.cut(words, " ");
+    let (often, last) = row.cut(records, ";");
+    let count = row.read_number(count);
+    let mut records = repeated(row, often, count);
+    let last = row.read_bytes(last);
+    keep(row, &mut records, last);
+    push_judged(row, layout, records.as_slice());
 }

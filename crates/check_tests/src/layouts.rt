@@ -1,136 +1,115 @@
 //! Texts, and what is told of them.
 
-use crate::{Setup, layout_of};
-use anyhow::{Context, Result};
+use crate::Setup;
+use crate::script::text_of;
 use ds_codec::{Mode, Size};
 use scr_layout::{Entry, Kind, Layout, LayoutError, size_of_text};
-use std::alloc::{AllocError, Global};
-use test_words::{
-    between_bars, cut_word, number, push_length, push_number, push_word_number, two_numbers,
-};
+use std::alloc::Global;
+use test_words::Row;
+
+/// The keys of a field, each with a usual value.
+const USUAL: &[(&str, &str)] = &[
+    ("name", "\"code\""),
+    ("row", "1"),
+    ("col", "4"),
+    ("length", "3"),
+    ("kind", "\"input\""),
+];
+
+/// A text with line ends of another system.
+const WINDOWS: &str =
+    "\u{FEFF}default = \"2x10\"\r\n[[field]]\r\nname = 'code'\r\nrow = 0x1\r\ncol = 0b100\r\nlength = 1_9\r\n";
 
 /// The lines that are parted by ` | `, each with its end.
-fn push_lines(out: &mut String, words: &str) -> Result<(), AllocError> {
+fn push_lines(row: &mut Row, words: &str) {
     for line in words.split(" | ") {
-        out.push_str(line)?;
-        out.push_str("\n")?;
+        row.word(line);
+        row.word("\n");
     }
-    Ok(())
 }
 
 /// The text of lines that are parted by ` | `.
-pub(crate) fn text_of(alloc: Global, words: &str) -> Result<String> {
-    let mut text = String::new(alloc);
-    push_lines(&mut text, words)?;
-    Ok(text)
+pub(crate) fn read_text(row: &mut Row, words: &str) -> String {
+    let mut text = Row::new(row.alloc());
+    push_lines(&mut text, words);
+    text_of(row, text)
 }
 
 /// One more input at a place of rows of so many columns, at least one.
-fn push_entry(
-    text: &mut String,
-    index: u32,
-    place: u32,
-    cols: u32,
-    length: u32,
-) -> Result<(), AllocError> {
+fn push_entry(text: &mut Row, index: u32, place: u32, cols: u32, length: u32) {
     let row = (place / cols.max(1)).saturating_add(1);
     let col = (place % cols.max(1)).saturating_add(1);
-    push_word_number(text, "[[field]]\nname = \"customer-field-number-", index)?;
-    push_word_number(text, "\"\nrow = ", row)?;
-    push_word_number(text, "\ncol = ", col)?;
-    push_word_number(text, "\nlength = ", length)?;
-    text.push_str("\n")
+    text.word_number("[[field]]\nname = \"customer-field-number-", index);
+    text.word_number("\"\nrow = ", row);
+    text.word_number("\ncol = ", col);
+    text.word_number("\nlength = ", length);
+    text.word("\n");
 }
 
 /// So many inputs of a length, each so many places after the one before, the first at place 1.
-fn push_entries(
-    text: &mut String,
-    cols: u32,
-    count: u32,
-    step: u32,
-    length: u32,
-) -> Result<(), AllocError> {
+fn push_entries(text: &mut Row, cols: u32, count: u32, step: u32, length: u32) {
     let mut place = 1u32;
     for index in 0..count {
-        push_entry(text, index, place, cols, length)?;
+        push_entry(text, index, place, cols, length);
         place = place.saturating_add(step);
     }
-    Ok(())
-}
-
-/// The columns of a size.
-fn cols_of(size: &str) -> Result<u32> {
-    let (_, cols) = size.split_once('x').context("a size")?;
-    number(cols)
 }
 
 /// The text of `SIZE COUNT STEP LENGTH`.
-pub(crate) fn grid_of(alloc: Global, words: &str) -> Result<String> {
-    let (size, rest) = cut_word(words)?;
-    let (count, rest) = cut_word(rest)?;
-    let (step, length) = two_numbers(rest)?;
-    let (cols, count) = (cols_of(size)?, number(count)?);
-    let mut text = String::from_str(alloc, "default = \"")?;
-    text.push_str(size)?;
-    text.push_str("\"\n")?;
-    push_entries(&mut text, cols, count, step, length)?;
-    Ok(text)
-}
-
-pub(crate) fn push_error(out: &mut String, error: LayoutError) -> Result<(), AllocError> {
-    write!(out, "{error}")
+pub(crate) fn read_grid(row: &mut Row, words: &str) -> String {
+    let (size, rest) = row.cut(words, " ");
+    let (_, cols) = row.cut(size, "x");
+    let cols = row.read_number(cols);
+    let (count, rest) = row.cut(rest, " ");
+    let count = row.read_number(count);
+    let (step, length) = row.read_numbers(rest);
+    let mut text = Row::new(row.alloc());
+    text.word("default = \"");
+    text.word(size);
+    text.word("\"\n");
+    push_entries(&mut text, cols, count, step, length);
+    text_of(row, text)
 }
 
 /// The printed words of a refusal, or `taken`.
-fn push_told(alloc: Global, out: &mut String, text: &str) -> Result<(), AllocError> {
-    match Layout::from_text(alloc, text) {
-        Ok(_) => out.push_str("taken"),
-        Err(LayoutError::OutOfMemory) => out.push_str("out of memory"),
-        Err(error) => push_error(out, error),
+fn push_told(row: &mut Row, text: &str) {
+    match Layout::from_text(row.alloc(), text) {
+        Ok(_) => row.word("taken"),
+        Err(error) => row.show(&error),
     }
 }
 
+/// The same of the text of a row.
+fn push_told_of(row: &mut Row, text: Row) {
+    let text = text_of(row, text);
+    push_told(row, text.as_str());
+}
+
 /// What is told of lines after the setup's.
-fn push_layout(
-    alloc: Global,
-    setup: &Setup,
-    out: &mut String,
-    words: &str,
-) -> Result<(), AllocError> {
-    let mut text = String::from_str(alloc, setup.layout.as_str())?;
-    push_lines(&mut text, words)?;
-    push_told(alloc, out, text.as_str())
+fn push_layout(row: &mut Row, setup: &Setup, words: &str) {
+    let mut text = Row::new(row.alloc());
+    text.word(setup.layout.as_str());
+    push_lines(&mut text, words);
+    push_told_of(row, text);
 }
 
-/// A line of a key and its usual value, or another one for the key that has it.
-fn push_pair(
-    text: &mut String,
-    word: &str,
-    usual: &str,
-    key: &str,
-    value: &str,
-) -> Result<(), AllocError> {
-    text.push_str(word)?;
-    text.push_str(" = ")?;
-    text.push_str(if word == key { value } else { usual })?;
-    text.push_str("\n")
+/// Lines of a key and its usual value, or another one for the key that has it.
+fn push_usual(text: &mut Row, key: &str, value: &str) {
+    for pair in USUAL {
+        text.word(pair.0);
+        text.word(" = ");
+        text.word(if pair.0 == key { value } else { pair.1 });
+        text.word("\n");
+    }
 }
 
-/// A text of one field, one of its keys with another value.
-fn text_with(alloc: Global, key: &str, value: &str) -> Result<String, AllocError> {
-    let mut text = String::from_str(alloc, "default = \"2x10\"\n[[field]]\n")?;
-    push_pair(&mut text, "name", "\"code\"", key, value)?;
-    push_pair(&mut text, "row", "1", key, value)?;
-    push_pair(&mut text, "col", "4", key, value)?;
-    push_pair(&mut text, "length", "3", key, value)?;
-    push_pair(&mut text, "kind", "\"input\"", key, value)?;
-    Ok(text)
-}
-
-fn push_value(alloc: Global, out: &mut String, words: &str) -> Result<()> {
-    let (key, value) = words.split_once(" = ").context("a key and a value")?;
-    let text = text_with(alloc, key, value)?;
-    Ok(push_told(alloc, out, text.as_str())?)
+/// What is told of a text of one field, one of its keys with another value.
+fn push_value(row: &mut Row, words: &str) {
+    let (key, value) = row.cut(words, " = ");
+    let mut text = Row::new(row.alloc());
+    text.word("default = \"2x10\"\n[[field]]\n");
+    push_usual(&mut text, key, value);
+    push_told_of(row, text);
 }
 
 /// Whether memory for a text's layout is refused.
@@ -152,32 +131,28 @@ fn count_refused(alloc: Global, text: &str) -> u32 {
     refused
 }
 
-fn push_fronts(alloc: Global, setup: &Setup, out: &mut String) -> Result<(), AllocError> {
-    let text = setup.layout.as_str();
-    push_number(out, count_refused(alloc, text))?;
-    out.push_str(" of ")?;
-    push_length(out, text.len())
+fn push_fronts(row: &mut Row, text: &str) {
+    row.number(count_refused(row.alloc(), text));
+    row.word_length(" of ", text.len());
 }
 
 /// Texts with line ends of other systems.
-fn push_ends(alloc: Global, out: &mut String) -> Result<(), AllocError> {
-    let windows =
-        "\u{FEFF}default = \"2x10\"\r\n[[field]]\r\nname = 'code'\r\nrow = 0x1\r\ncol = 0b100\r\nlength = 1_9\r\n";
-    push_told(alloc, out, windows)?;
-    out.push_str("; ")?;
-    push_told(alloc, out, "[[field]]\rname = \"code\"")
+fn push_ends(row: &mut Row) {
+    push_told(row, WINDOWS);
+    row.word("; ");
+    push_told(row, "[[field]]\rname = \"code\"");
 }
 
-fn push_size(out: &mut String, size: Size) -> Result<(), AllocError> {
-    push_number(out, u32::from(size.rows))?;
-    push_word_number(out, "x", u32::from(size.cols))
+fn push_size(row: &mut Row, size: Size) {
+    row.number(u32::from(size.rows));
+    row.word_number("x", u32::from(size.cols));
 }
 
 /// The size of a text between bars.
-fn push_size_of(out: &mut String, words: &str) -> Result<()> {
-    match size_of_text(Mode::Bits14, between_bars(words)?) {
-        Some(size) => Ok(push_size(out, size)?),
-        None => Ok(out.push_str("none")?),
+fn push_size_of(row: &mut Row, words: &str) {
+    match size_of_text(Mode::Bits14, row.read_between_bars(words)) {
+        Some(size) => push_size(row, size),
+        None => row.word("none"),
     }
 }
 
@@ -188,104 +163,80 @@ fn name_of(kind: Kind) -> &'static str {
     }
 }
 
-fn push_entry_of(out: &mut String, entry: &Entry) -> Result<(), AllocError> {
-    out.push_str(", ")?;
-    out.push_str(entry.name.as_str())?;
-    push_word_number(out, " ", entry.place)?;
-    push_word_number(out, " ", entry.length)?;
-    out.push_str(name_of(entry.kind))
+fn push_entry_of(row: &mut Row, entry: &Entry) {
+    row.word(", ");
+    row.word(entry.name.as_str());
+    row.word_number(" ", entry.place);
+    row.word_number(" ", entry.length);
+    row.word(name_of(entry.kind));
 }
 
-fn push_sizes(out: &mut String, layout: &Layout) -> Result<(), AllocError> {
+fn push_sizes(row: &mut Row, layout: &Layout) {
     let geometry = layout.geometry();
-    push_size(out, layout.size())?;
-    out.push(' ')?;
-    push_size(out, geometry.default_size())?;
-    out.push(' ')?;
-    push_size(out, geometry.alternate_size())?;
-    out.push_str(match geometry.mode() {
+    push_size(row, layout.size());
+    row.word(" ");
+    push_size(row, geometry.default_size());
+    row.word(" ");
+    push_size(row, geometry.alternate_size());
+    row.word(match geometry.mode() {
         Mode::Bits14 => " Bits14",
         Mode::Bits16 => " Bits16",
-    })
+    });
 }
 
 /// The sizes and the entries of a layout.
-fn push_all(out: &mut String, layout: &Layout) -> Result<(), AllocError> {
-    push_sizes(out, layout)?;
+pub(crate) fn push_all(row: &mut Row, layout: &Layout) {
+    push_sizes(row, layout);
     for entry in layout.entries() {
-        push_entry_of(out, entry)?;
+        push_entry_of(row, entry);
     }
-    Ok(())
 }
 
-fn push_index(out: &mut String, index: Option<usize>) -> Result<(), AllocError> {
-    out.push_str(", ")?;
+fn push_index(row: &mut Row, index: Option<usize>) {
     match index {
-        Some(index) => push_length(out, index),
-        None => out.push_str("none"),
+        Some(index) => row.word_length(", ", index),
+        None => row.word(", none"),
     }
-}
-
-/// The index of the entry at each of some places.
-fn push_indices(out: &mut String, layout: &Layout, words: &str) -> Result<()> {
-    for word in words.split(' ') {
-        push_index(out, layout.entry_at(number(word)?))?;
-    }
-    Ok(())
 }
 
 /// How many entries there are, and the index of the entry at each of some places.
-fn push_places(out: &mut String, layout: &Layout, words: &str) -> Result<()> {
-    push_length(out, layout.entries().len())?;
-    push_indices(out, layout, words)
+pub(crate) fn push_places(row: &mut Row, layout: &Layout, words: &str) {
+    row.length(layout.entries().len());
+    for word in words.split(' ') {
+        let place = row.read_number(word);
+        push_index(row, layout.entry_at(place));
+    }
 }
 
-/// A text so many times after another.
-fn push_times(text: &mut String, part: &str, count: u32) -> Result<(), AllocError> {
+/// What is told of a text of a front, a part so many times, and a back.
+fn push_repeated(row: &mut Row, front: &str, part: &str, count: u32, back: &str) {
+    let mut text = Row::new(row.alloc());
+    text.word(front);
     for _ in 0..count {
-        text.push_str(part)?;
+        text.word(part);
     }
-    Ok(())
+    text.word(back);
+    push_told_of(row, text);
 }
 
 /// A text of so many empty tables, and one of so many numbers.
-fn push_lists(alloc: Global, out: &mut String, count: u32) -> Result<(), AllocError> {
-    let mut empty = String::new(alloc);
-    push_times(&mut empty, "[[field]]\n", count)?;
-    push_told(alloc, out, empty.as_str())?;
-    out.push_str("; ")?;
-    let mut numbers = String::from_str(alloc, "field = [")?;
-    push_times(&mut numbers, "1, ", count)?;
-    numbers.push_str("]")?;
-    push_told(alloc, out, numbers.as_str())
-}
-
-/// Adds what a verb answers of a text; whether it is one of these.
-fn push_text_answer(alloc: Global, out: &mut String, verb: &str, words: &str) -> Result<bool> {
-    match verb {
-        "value" => push_value(alloc, out, words)?,
-        "ends" => push_ends(alloc, out)?,
-        "size" => push_size_of(out, words)?,
-        "lists" => push_lists(alloc, out, number(words)?)?,
-        _ => return Ok(false),
-    }
-    Ok(true)
+fn push_lists(row: &mut Row, words: &str) {
+    let count = row.read_number(words);
+    push_repeated(row, "", "[[field]]\n", count, "");
+    row.word("; ");
+    push_repeated(row, "field = [", "1, ", count, "]");
 }
 
 /// Adds what a verb answers; whether it is one of these.
-pub(crate) fn push_answer(
-    alloc: Global,
-    setup: &Setup,
-    out: &mut String,
-    verb: &str,
-    words: &str,
-) -> Result<bool> {
+pub(crate) fn push_answer(row: &mut Row, setup: &Setup, verb: &str, words: &str) -> bool {
     match verb {
-        "layout" => push_layout(alloc, setup, out, words)?,
-        "fronts" => push_fronts(alloc, setup, out)?,
-        "entries" => push_all(out, &layout_of(alloc, setup)?)?,
-        "at" => push_places(out, &layout_of(alloc, setup)?, words)?,
-        _ => return push_text_answer(alloc, out, verb, words),
+        "layout" => push_layout(row, setup, words),
+        "fronts" => push_fronts(row, setup.layout.as_str()),
+        "value" => push_value(row, words),
+        "ends" => push_ends(row),
+        "size" => push_size_of(row, words),
+        "lists" => push_lists(row, words),
+        _ => return false,
     }
-    Ok(true)
+    true
 }

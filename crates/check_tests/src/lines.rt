@@ -1,24 +1,21 @@
 //! Order lines read and printed.
 
-use crate::script::bytes_of;
-use anyhow::{Context, Result};
+use crate::script::{keep, text_of};
 use ds_codec::{Command, Mode, Order, Record, Unwritable};
-use order_lines::{Draft, OwnedOrder, Told, cut, push_hex, push_record, read_line};
-use std::alloc::{AllocError, Global};
-use test_words::{between_bars, byte, cut_word, number, push_bytes, push_length};
+use order_lines::{Draft, OwnedOrder, Told, cut, push_bytes, push_hex, push_record, read_line};
+use std::alloc::Global;
+use test_words::Row;
 
 /// A flaw and its order.
-fn push_flaw(out: &mut String, flaw: Unwritable) -> Result<(), AllocError> {
-    let (words, order) = match flaw {
-        Unwritable::AddressOutside(k) => ("U1 AddressOutside ", k),
-        Unwritable::BadText(k) => ("U2 BadText ", k),
-        Unwritable::BadPairs(k) => ("U3 BadPairs ", k),
-        Unwritable::BadCode(k) => ("U4 BadCode ", k),
-        Unwritable::NotAllowed => return out.push_str("U5 NotAllowed"),
-        Unwritable::OutOfMemory => return out.push_str("out of memory"),
-    };
-    out.push_str(words)?;
-    push_length(out, order)
+fn push_flaw(row: &mut Row, flaw: Unwritable) {
+    match flaw {
+        Unwritable::AddressOutside(k) => row.word_length("U1 AddressOutside ", k),
+        Unwritable::BadText(k) => row.word_length("U2 BadText ", k),
+        Unwritable::BadPairs(k) => row.word_length("U3 BadPairs ", k),
+        Unwritable::BadCode(k) => row.word_length("U4 BadCode ", k),
+        Unwritable::NotAllowed => row.word("U5 NotAllowed"),
+        Unwritable::OutOfMemory => row.word("out of memory"),
+    }
 }
 
 /// A command and orders, as lines tell them.
@@ -28,20 +25,28 @@ struct Recorded {
     orders: Vec<OwnedOrder>,
 }
 
-/// The record of orders in turn, for 1,920 cells.
-fn draft_of(alloc: Global, recorded: &Recorded) -> Result<Draft, AllocError> {
-    let mut draft = Draft::new(alloc, recorded.command, Mode::Bits14, 1_920)?;
-    for order in &recorded.orders {
-        draft.push(&order.lend())?;
+fn push_orders(row: &mut Row, draft: &mut Draft, orders: &[OwnedOrder]) {
+    for order in orders {
+        row.note(draft.push(&order.lend()));
     }
-    Ok(draft)
+}
+
+/// The bytes of orders in turn, written for 1,920 cells.
+fn written(row: &mut Row, recorded: &Recorded) -> Result<Vec<u8>, Unwritable> {
+    match Draft::new(row.alloc(), recorded.command, Mode::Bits14, 1_920) {
+        Ok(mut draft) => {
+            push_orders(row, &mut draft, recorded.orders.as_slice());
+            draft.written()
+        }
+        Err(_) => Err(Unwritable::OutOfMemory),
+    }
 }
 
 /// The bytes of a record that is written for 1,920 cells, or the flaw and its order.
-fn push_written(alloc: Global, out: &mut String, recorded: &Recorded) -> Result<(), AllocError> {
-    match draft_of(alloc, recorded)?.written() {
-        Ok(bytes) => push_bytes(out, bytes.as_slice()),
-        Err(flaw) => push_flaw(out, flaw),
+fn push_written(row: &mut Row, recorded: &Recorded) {
+    match written(row, recorded) {
+        Ok(bytes) => row.bytes(bytes.as_slice()),
+        Err(flaw) => push_flaw(row, flaw),
     }
 }
 
@@ -54,222 +59,204 @@ fn no_orders(alloc: Global) -> Recorded {
 }
 
 /// Adds what a line says to a record; whether it says anything.
-fn take_line(alloc: Global, recorded: &mut Recorded, line: &str) -> Result<bool> {
-    match read_line(alloc, line.as_bytes())? {
-        Some(Told::Command(command)) => recorded.command = command,
-        Some(Told::Order(order)) => recorded.orders.push(order)?,
-        None => return Ok(false),
+fn take_line(row: &mut Row, recorded: &mut Recorded, line: &str) -> bool {
+    match read_line(row.alloc(), line.as_bytes()) {
+        Ok(Some(Told::Command(command))) => recorded.command = command,
+        Ok(Some(Told::Order(order))) => keep(row, &mut recorded.orders, order),
+        Ok(None) => return false,
+        Err(_) => row.spoil(),
     }
-    Ok(true)
-}
-
-/// Adds what a line must say to a record.
-fn take_order(alloc: Global, recorded: &mut Recorded, line: &str) -> Result<()> {
-    if take_line(alloc, recorded, line)? {
-        return Ok(());
-    }
-    None.context("an order line")
+    true
 }
 
 /// What one line between bars says: a command alone, or an order of an Erase/Write.
-fn push_line(alloc: Global, out: &mut String, words: &str) -> Result<()> {
-    let line = between_bars(words)?;
-    let mut recorded = no_orders(alloc);
-    if !take_line(alloc, &mut recorded, line)? {
-        return Ok(out.push_str("nothing")?);
+fn push_line(row: &mut Row, words: &str) {
+    let line = row.read_between_bars(words);
+    let mut recorded = no_orders(row.alloc());
+    if take_line(row, &mut recorded, line) {
+        push_written(row, &recorded);
+    } else {
+        row.word("nothing");
     }
-    Ok(push_written(alloc, out, &recorded)?)
 }
 
 /// A record of lines that are parted by commas.
-fn push_draft(alloc: Global, out: &mut String, words: &str) -> Result<()> {
-    let mut recorded = no_orders(alloc);
+fn push_draft(row: &mut Row, words: &str) {
+    let mut recorded = no_orders(row.alloc());
     for line in words.split(", ") {
-        take_order(alloc, &mut recorded, line)?;
+        if !take_line(row, &mut recorded, line) {
+            row.spoil();
+        }
     }
-    Ok(push_written(alloc, out, &recorded)?)
+    push_written(row, &recorded);
 }
 
 /// A record of one line so many times.
-fn recorded_times(alloc: Global, line: &str, count: u32) -> Result<Recorded> {
-    let mut recorded = no_orders(alloc);
-    for _ in 0..count {
-        let _taken = take_line(alloc, &mut recorded, line)?;
+fn push_many(row: &mut Row, words: &str) {
+    let (count, line) = row.cut(words, " ");
+    let mut recorded = no_orders(row.alloc());
+    for _ in 0..row.read_number(count) {
+        let _taken = take_line(row, &mut recorded, line);
     }
-    Ok(recorded)
-}
-
-fn push_many(alloc: Global, out: &mut String, words: &str) -> Result<()> {
-    let (count, line) = cut_word(words)?;
-    let recorded = recorded_times(alloc, line, number(count)?)?;
-    push_length(out, recorded.orders.len())?;
-    out.push_str(" orders, ")?;
-    Ok(push_written(alloc, out, &recorded)?)
+    row.length(recorded.orders.len());
+    row.word(" orders, ");
+    push_written(row, &recorded);
 }
 
 /// The lines of a record's bytes.
-fn lines_of(alloc: Global, bytes: &[u8]) -> Result<String> {
-    let record = Record::read(Mode::Bits14, bytes)?;
-    let mut out = String::new(alloc);
-    push_record(&mut out, &record)?;
-    Ok(out)
+fn push_lines(row: &mut Row, bytes: &[u8]) {
+    match Record::read(Mode::Bits14, bytes) {
+        Ok(record) => {
+            let pushed = push_record(&mut row.text, &record);
+            row.note(pushed);
+        }
+        Err(_) => row.spoil(),
+    }
 }
 
-/// Lines, a stroke after each.
-fn push_strokes(out: &mut String, lines: &str) -> Result<(), AllocError> {
-    for line in lines.lines() {
-        out.push_str(line)?;
-        out.push('/')?;
-    }
-    Ok(())
+fn lines_of(row: &mut Row, bytes: &[u8]) -> String {
+    let mut lines = Row::new(row.alloc());
+    push_lines(&mut lines, bytes);
+    text_of(row, lines)
 }
 
 /// The lines of a record, a stroke after each.
-fn push_printed(alloc: Global, out: &mut String, bytes: &[u8]) -> Result<()> {
-    let lines = lines_of(alloc, bytes)?;
-    Ok(push_strokes(out, lines.as_str())?)
+fn push_printed(row: &mut Row, bytes: &[u8]) {
+    let lines = lines_of(row, bytes);
+    for line in lines.as_str().lines() {
+        row.word(line);
+        row.word("/");
+    }
 }
 
 /// The record of lines.
-fn recorded_of(alloc: Global, lines: &str) -> Result<Recorded> {
-    let mut recorded = no_orders(alloc);
+fn recorded_of(row: &mut Row, lines: &str) -> Recorded {
+    let mut recorded = no_orders(row.alloc());
     for line in lines.lines() {
-        let _taken = take_line(alloc, &mut recorded, line)?;
+        let _taken = take_line(row, &mut recorded, line);
     }
-    Ok(recorded)
+    recorded
 }
 
-/// How many orders a record has, and whether it is written as these bytes.
-fn push_same(alloc: Global, out: &mut String, recorded: &Recorded, bytes: &[u8]) -> Result<()> {
-    push_length(out, recorded.orders.len())?;
-    let written = draft_of(alloc, recorded)?.written()?;
-    let is_same = written.as_slice() == bytes;
-    Ok(out.push_str(if is_same {
-        " orders, the same bytes"
-    } else {
-        " orders, other bytes"
-    })?)
-}
-
-/// How long the lines of a record are, and whether they are written as the same bytes.
-fn push_again(alloc: Global, out: &mut String, bytes: &[u8]) -> Result<()> {
-    let lines = lines_of(alloc, bytes)?;
-    push_length(out, lines.as_str().len())?;
-    out.push_str(" letters, ")?;
-    let recorded = recorded_of(alloc, lines.as_str())?;
-    push_same(alloc, out, &recorded, bytes)
-}
-
-/// The order of a line.
-fn order_of(alloc: Global, line: &str) -> Result<OwnedOrder> {
-    match read_line(alloc, line.as_bytes())? {
-        Some(Told::Order(order)) => Ok(order),
-        _ => None.context("an order"),
+/// Whether a record is written as these bytes.
+fn push_same(row: &mut Row, recorded: &Recorded, bytes: &[u8]) {
+    match written(row, recorded) {
+        Ok(written) if written.as_slice() == bytes => row.word("the same bytes"),
+        Ok(_) => row.word("other bytes"),
+        Err(_) => row.spoil(),
     }
+}
+
+/// How long the lines of a record are, how many orders they say, and whether they are written as the same bytes.
+fn push_again(row: &mut Row, bytes: &[u8]) {
+    let lines = lines_of(row, bytes);
+    row.length(lines.as_str().len());
+    row.word(" letters, ");
+    let recorded = recorded_of(row, lines.as_str());
+    row.length(recorded.orders.len());
+    row.word(" orders, ");
+    push_same(row, &recorded, bytes);
 }
 
 /// The bytes of an order that has some.
-fn push_lent(out: &mut String, order: &OwnedOrder) -> Result<(), AllocError> {
+fn push_lent(row: &mut Row, order: &OwnedOrder) {
     match order.lend() {
-        Order::Text(run) => push_bytes(out, run),
-        Order::Sfe(pairs) => push_bytes(out, pairs),
-        Order::Mf(pairs) => push_bytes(out, pairs),
-        _ => out.push_str("no bytes"),
+        Order::Text(run) => row.bytes(run),
+        Order::Sfe(pairs) => row.bytes(pairs),
+        Order::Mf(pairs) => row.bytes(pairs),
+        _ => row.word("no bytes"),
     }
 }
 
-/// A line of a name and the hexadecimal of bytes.
-fn line_of_bytes(alloc: Global, name: &str, bytes: &[u8]) -> Result<String, AllocError> {
-    let mut line = String::from_str(alloc, name)?;
-    line.push(' ')?;
-    order_lines::push_bytes(&mut line, bytes)?;
-    Ok(line)
+/// What is lent of the order of a line.
+fn push_order(row: &mut Row, line: &str) {
+    match read_line(row.alloc(), line.as_bytes()) {
+        Ok(Some(Told::Order(order))) => push_lent(row, &order),
+        _ => row.spoil(),
+    }
 }
 
 /// What is lent of the order of a line of a name and hexadecimal.
-fn push_lend(alloc: Global, out: &mut String, words: &str) -> Result<()> {
-    let (name, digits) = cut_word(words)?;
-    let bytes = bytes_of(alloc, digits)?;
-    let line = line_of_bytes(alloc, name, bytes.as_slice())?;
-    let order = order_of(alloc, line.as_str())?;
-    Ok(push_lent(out, &order)?)
+fn push_lend(row: &mut Row, words: &str) {
+    let (name, digits) = row.cut(words, " ");
+    let bytes = row.read_bytes(digits);
+    let mut line = Row::new(row.alloc());
+    line.word(name);
+    line.word(" ");
+    let pushed = push_bytes(&mut line.text, bytes.as_slice());
+    line.note(pushed);
+    let line = text_of(row, line);
+    push_order(row, line.as_str());
 }
 
-/// A line of a name and one pair so many times.
-fn line_of_pairs(alloc: Global, name: &str, pair: &str, count: u32) -> Result<String, AllocError> {
-    let mut line = String::from_str(alloc, name)?;
-    for _ in 0..count {
-        line.push(' ')?;
-        line.push_str(pair)?;
+/// The pairs that a line of a name and one pair so many times says.
+fn push_pairs(row: &mut Row, words: &str) {
+    let (count, words) = row.cut(words, " ");
+    let (name, pair) = row.cut(words, " ");
+    let mut line = Row::new(row.alloc());
+    line.word(name);
+    for _ in 0..row.read_number(count) {
+        line.word(" ");
+        line.word(pair);
     }
-    Ok(line)
-}
-
-/// The pairs that such a line says.
-fn push_pairs(alloc: Global, out: &mut String, words: &str) -> Result<()> {
-    let (count, line) = cut_word(words)?;
-    let (name, pair) = cut_word(line)?;
-    let line = line_of_pairs(alloc, name, pair, number(count)?)?;
-    let order = order_of(alloc, line.as_str())?;
-    Ok(push_lent(out, &order)?)
+    let line = text_of(row, line);
+    push_order(row, line.as_str());
 }
 
 /// A byte and more bytes as they are printed.
-fn printed_bytes(alloc: Global, first: u8, rest: &[u8]) -> Result<String, AllocError> {
-    let mut out = String::new(alloc);
-    push_hex(&mut out, first)?;
-    order_lines::push_bytes(&mut out, rest)?;
-    Ok(out)
+fn push_digits(row: &mut Row, first: u8, rest: &[u8]) {
+    let pushed = push_hex(&mut row.text, first);
+    row.note(pushed);
+    let pushed = push_bytes(&mut row.text, rest);
+    row.note(pushed);
 }
 
 /// The same, folded.
-fn push_folded(alloc: Global, out: &mut String, words: &str) -> Result<()> {
-    let (first, rest) = cut_word(words)?;
-    let first = byte(first)?;
-    let bytes = bytes_of(alloc, rest)?;
-    let digits = printed_bytes(alloc, first, bytes.as_slice())?;
-    let printed = hex::decode(alloc, digits.as_str())?;
-    Ok(push_bytes(out, printed.as_slice())?)
+fn push_folded(row: &mut Row, words: &str) {
+    let (first, rest) = row.cut(words, " ");
+    let first = row.read_byte(first);
+    let rest = row.read_bytes(rest);
+    let mut digits = Row::new(row.alloc());
+    push_digits(&mut digits, first, rest.as_slice());
+    let digits = text_of(row, digits);
+    let printed = row.read_bytes(digits.as_str());
+    row.bytes(printed.as_slice());
 }
 
 /// A text between bars cut at the first of a letter.
-fn push_cut(out: &mut String, words: &str) -> Result<()> {
-    match cut(between_bars(words)?.as_bytes(), b'x') {
+fn push_cut(row: &mut Row, words: &str) {
+    match cut(row.read_between_bars(words).as_bytes(), b'x') {
         Some((front, rest)) => {
-            push_bytes(out, front)?;
-            out.push(' ')?;
-            Ok(push_bytes(out, rest)?)
+            row.bytes(front);
+            row.word(" ");
+            row.bytes(rest);
         }
-        None => Ok(out.push_str("none")?),
+        None => row.word("none"),
     }
 }
 
-/// Adds what a verb answers of bytes; whether it is one of these.
-fn push_bytes_answer(alloc: Global, out: &mut String, verb: &str, words: &str) -> Result<bool> {
-    match verb {
-        "print" => push_printed(alloc, out, bytes_of(alloc, words)?.as_slice())?,
-        "again" => push_again(alloc, out, bytes_of(alloc, words)?.as_slice())?,
-        _ => return Ok(false),
+/// Adds what a verb answers of bytes.
+fn push_bytes_answer(row: &mut Row, verb: &str, words: &str) {
+    let bytes = row.read_bytes(words);
+    if verb == "print" {
+        push_printed(row, bytes.as_slice());
+    } else {
+        push_again(row, bytes.as_slice());
     }
-    Ok(true)
 }
 
 /// Adds what a verb answers; whether it is one of these.
-pub(crate) fn push_answer(
-    alloc: Global,
-    out: &mut String,
-    verb: &str,
-    words: &str,
-) -> Result<bool> {
+pub(crate) fn push_answer(row: &mut Row, verb: &str, words: &str) -> bool {
     match verb {
-        "line" => push_line(alloc, out, words)?,
-        "draft" => push_draft(alloc, out, words)?,
-        "many" => push_many(alloc, out, words)?,
-        "lend" => push_lend(alloc, out, words)?,
-        "pairs" => push_pairs(alloc, out, words)?,
-        "hex" => push_folded(alloc, out, words)?,
-        "cut" => push_cut(out, words)?,
-        _ => return push_bytes_answer(alloc, out, verb, words),
+        "line" => push_line(row, words),
+        "draft" => push_draft(row, words),
+        "many" => push_many(row, words),
+        "lend" => push_lend(row, words),
+        "pairs" => push_pairs(row, words),
+        "hex" => push_folded(row, words),
+        "cut" => push_cut(row, words),
+        "print" | "again" => push_bytes_answer(row, verb, words),
+        _ => return false,
     }
-    Ok(true)
+    true
 }

@@ -24,10 +24,12 @@ mod shapes;
 mod talks;
 mod words;
 
-use anyhow::Result;
+use anyhow::{Context, Result};
+use promise::Told;
 use scr_layout::Layout;
+use script::{copied, keep, layout_of};
 use std::alloc::Global;
-use test_words::is_row;
+use test_words::{Row, is_row};
 
 /// What the lines of a script begin with.
 #[derive(Drop)]
@@ -38,78 +40,125 @@ pub(crate) struct Setup {
     screens: Vec<String>,
 }
 
-/// The layout of the setup's text.
-pub(crate) fn layout_of(alloc: Global, setup: &Setup) -> Result<Layout> {
-    Ok(Layout::from_text(alloc, setup.layout.as_str())?)
+/// The verbs of the setup's layout.
+const OF_LAYOUT: &[&str] = &[
+    "check", "count", "often", "bind", "conforms", "bound", "pressed", "origins", "traced",
+    "shape", "entries", "at",
+];
+
+fn take_list(row: &mut Row, setup: &mut Setup, words: &str) {
+    let list = copied(row, words);
+    keep(row, &mut setup.lists, list);
+}
+
+fn take_screen(row: &mut Row, setup: &mut Setup, words: &str) {
+    let text = layouts::read_text(row, words);
+    keep(row, &mut setup.screens, text);
 }
 
 /// Takes a line that says what others begin with; whether it is one.
-fn take_line(alloc: Global, setup: &mut Setup, line: &str) -> Result<bool> {
-    let (verb, words) = line.split_once(' ').unwrap_or((line, ""));
+fn take_line(row: &mut Row, setup: &mut Setup, verb: &str, words: &str) -> bool {
     match verb {
-        "before" => setup.layout = layouts::text_of(alloc, words)?,
-        "grid" => setup.layout = layouts::grid_of(alloc, words)?,
-        "after" => setup.after = String::from_str(alloc, words)?,
-        "list" => setup.lists.push(String::from_str(alloc, words)?)?,
-        "no-screens" => setup.screens = Vec::new(alloc),
-        "screen" => setup.screens.push(layouts::text_of(alloc, words)?)?,
-        _ => return Ok(false),
+        "before" => setup.layout = layouts::read_text(row, words),
+        "grid" => setup.layout = layouts::read_grid(row, words),
+        "after" => setup.after = copied(row, words),
+        "list" => take_list(row, setup, words),
+        "no-screens" => setup.screens = Vec::new(row.alloc()),
+        "screen" => take_screen(row, setup, words),
+        _ => return false,
     }
-    Ok(true)
+    true
+}
+
+/// Adds what a verb of a layout answers.
+fn push_declared(row: &mut Row, setup: &Setup, layout: &Layout, verb: &str, words: &str) {
+    match verb {
+        "check" => findings::push_check(row, layout, words),
+        "count" => findings::push_count(row, layout, words),
+        "often" => findings::push_often(row, layout, words),
+        "bind" => answers::push_bind(row, layout, words),
+        "conforms" => findings::push_check(row, layout, setup.after.as_str()),
+        "bound" => promise::push_lists(row, setup, layout),
+        "pressed" => promise::push_pressed(row, setup, layout, words),
+        "origins" => origins::push_origins(row, layout, words),
+        "traced" => origins::push_found(row, layout, words),
+        "shape" => promise::push_after(row, setup, layout, Told::Shape, words),
+        "entries" => layouts::push_all(row, layout),
+        _ => layouts::push_places(row, layout, words),
+    }
+}
+
+/// Adds what a verb of the setup's layout answers; whether it is one of these.
+fn push_of_layout(row: &mut Row, setup: &Setup, verb: &str, words: &str) -> bool {
+    if !OF_LAYOUT.contains(&verb) {
+        return false;
+    }
+    if let Some(layout) = layout_of(row, setup.layout.as_str()) {
+        push_declared(row, setup, &layout, verb, words);
+    }
+    true
+}
+
+fn push_dialogues(row: &mut Row, verb: &str, words: &str) -> bool {
+    if verb != "dialogues" {
+        return false;
+    }
+    promise::push_dialogues(row, words);
+    true
 }
 
 /// Adds what a row answers.
-pub(crate) fn push_answer(
-    alloc: Global,
-    setup: &Setup,
-    out: &mut String,
-    line: &str,
-) -> Result<()> {
-    let (verb, words) = line.split_once(' ').unwrap_or((line, ""));
-    if findings::push_answer(alloc, setup, out, verb, words)?
-        || answers::push_answer(alloc, setup, out, verb, words)?
-        || promise::push_answer(alloc, setup, out, verb, words)?
-        || origins::push_answer(alloc, setup, out, verb, words)?
-        || shapes::push_answer(alloc, setup, out, verb, words)?
-        || talks::push_answer(alloc, setup, out, verb, words)?
-        || layouts::push_answer(alloc, setup, out, verb, words)?
-        || lines::push_answer(alloc, out, verb, words)?
-        || words::push_answer(alloc, out, verb)?
-    {
-        return Ok(());
-    }
-    Ok(out.push_str("no such verb")?)
+pub(crate) fn push_answer(row: &mut Row, setup: &Setup, verb: &str, words: &str) {
+    let is_verb = push_of_layout(row, setup, verb, words)
+        || push_dialogues(row, verb, words)
+        || talks::push_answer(row, setup, verb, words)
+        || layouts::push_answer(row, setup, verb, words)
+        || lines::push_answer(row, verb, words)
+        || words::push_answer(row, verb);
+    row.word_if(!is_verb, "no such verb");
 }
 
 /// Adds what a row answers, or asked twice.
-fn push_row(alloc: Global, setup: &Setup, out: &mut String, line: &str) -> Result<()> {
-    match line.strip_prefix("twice ") {
-        Some(row) => memory::push_twice(alloc, setup, out, row),
-        None => push_answer(alloc, setup, out, line),
+fn push_row(row: &mut Row, setup: &Setup, verb: &str, words: &str) {
+    row.word(" > ");
+    if verb == "twice" {
+        memory::push_twice(row, setup, words);
+    } else {
+        push_answer(row, setup, verb, words);
     }
 }
 
-/// A line as it is printed: of a row with its answer.
+/// Adds a line as it is printed: of a row with its answer.
+fn push_line(row: &mut Row, setup: &mut Setup, line: &str) {
+    row.word(line);
+    let (verb, words) = line.split_once(' ').unwrap_or((line, ""));
+    if is_row(line) && !take_line(row, setup, verb, words) {
+        push_row(row, setup, verb, words);
+    }
+}
+
+/// A line as it is printed.
 fn printed(alloc: Global, setup: &mut Setup, line: &str) -> Result<String> {
-    let mut out = String::from_str(alloc, line)?;
-    if is_row(line) && !take_line(alloc, setup, line)? {
-        out.push_str(" > ")?;
-        push_row(alloc, setup, &mut out, line)?;
-    }
-    Ok(out)
+    let mut row = Row::new(alloc);
+    push_line(&mut row, setup, line);
+    row.finish()
+        .context("out of memory, or a row that cannot be read")
 }
 
-fn main(rt: HostRuntime) -> Result<()> {
-    let alloc = rt.alloc();
-    let mut setup = Setup {
+/// Nothing to begin with.
+fn no_setup(alloc: Global) -> Setup {
+    Setup {
         layout: String::new(alloc),
         after: String::new(alloc),
         lists: Vec::new(alloc),
         screens: Vec::new(alloc),
-    };
-    for line in rt.lines(alloc) {
-        let line = line?;
-        let text = printed(alloc, &mut setup, line.as_str())?;
+    }
+}
+
+fn main(rt: HostRuntime) -> Result<()> {
+    let mut setup = no_setup(rt.alloc());
+    for line in rt.lines(rt.alloc()) {
+        let text = printed(rt.alloc(), &mut setup, line?.as_str())?;
         println!(rt; "{text}")?;
     }
     Ok(())

@@ -5,55 +5,42 @@
 //! both.
 
 use crate::{Setup, push_answer};
-use anyhow::Result;
-use std::alloc::{AllocError, Global};
+use test_words::Row;
 
-fn answered(alloc: Global, setup: &Setup, row: &str) -> Result<String> {
-    let mut out = String::new(alloc);
-    push_answer(alloc, setup, &mut out, row)?;
-    Ok(out)
+/// What is said where memory was refused.
+const REFUSAL: &str = "out of memory";
+
+/// What a row answers. Its words can be read, so it is spoilt only where memory was refused.
+fn answered(row: &Row, setup: &Setup, verb: &str, words: &str) -> Option<String> {
+    let mut answer = Row::new(row.alloc());
+    push_answer(&mut answer, setup, verb, words);
+    answer.finish().ok()
 }
 
-/// Whether an answer, or the words of an error, are that memory was refused.
-fn is_refusal(answer: &str) -> bool {
-    answer == "out of memory" || answer == "Out of memory" || answer == "memory allocation failed"
+/// An answer's words.
+fn words_of(answer: &Option<String>) -> &str {
+    match answer {
+        Some(text) => text.as_str(),
+        None => REFUSAL,
+    }
 }
 
 /// Both answers as one: that of which memory was not refused.
-fn push_one(out: &mut String, first: &str, second: &str) -> Result<(), AllocError> {
-    if first == second || is_refusal(second) {
-        return out.push_str(first);
+fn push_one(row: &mut Row, first: &str, second: &str) {
+    if first == second || second == REFUSAL {
+        return row.word(first);
     }
-    if !is_refusal(first) {
-        out.push_str(first)?;
-        out.push_str(" and then ")?;
+    if first != REFUSAL {
+        row.word(first);
+        row.word(" and then ");
     }
-    out.push_str(second)
-}
-
-fn words_of(alloc: Global, error: &anyhow::Error) -> Result<String, AllocError> {
-    format!(in alloc; "{error}")
-}
-
-/// An answer that was an error the other time.
-fn push_other(
-    alloc: Global,
-    out: &mut String,
-    answer: &str,
-    error: &anyhow::Error,
-) -> Result<(), AllocError> {
-    let words = words_of(alloc, error)?;
-    push_one(out, words.as_str(), answer)
+    row.word(second);
 }
 
 /// What a row answers that is asked twice.
-pub(crate) fn push_twice(alloc: Global, setup: &Setup, out: &mut String, row: &str) -> Result<()> {
-    let first = answered(alloc, setup, row);
-    let second = answered(alloc, setup, row);
-    match (first, second) {
-        (Ok(first), Ok(second)) => Ok(push_one(out, first.as_str(), second.as_str())?),
-        (Ok(answer), Err(error)) => Ok(push_other(alloc, out, answer.as_str(), &error)?),
-        (Err(error), Ok(answer)) => Ok(push_other(alloc, out, answer.as_str(), &error)?),
-        (Err(error), Err(_)) => Err(error),
-    }
+pub(crate) fn push_twice(row: &mut Row, setup: &Setup, line: &str) {
+    let (verb, words) = line.split_once(' ').unwrap_or((line, ""));
+    let first = answered(row, setup, verb, words);
+    let second = answered(row, setup, verb, words);
+    push_one(row, words_of(&first), words_of(&second));
 }

@@ -1,93 +1,70 @@
 //! Where what stands on a screen comes from, and the findings about it.
 
-use crate::findings::{lent, records_of};
-use crate::{Setup, layout_of};
-use anyhow::{Context, Result};
-use scr_check::{Finding, Origin, Origins, Traced, Verdict, check, find_origins, trace_findings};
+use crate::findings::{lent, records_of, verdict_of};
+use scr_check::{Finding, Origin, Origins, Traced, Verdict, find_origins, trace_findings};
 use scr_layout::Layout;
-use std::alloc::{AllocError, Global};
-use test_words::{number, push_length, push_number};
+use test_words::Row;
 
-fn push_origin(out: &mut String, origin: Option<Origin>) -> Result<(), AllocError> {
-    let Some(origin) = origin else {
-        return out.push_str("none");
-    };
-    out.push_str("record ")?;
-    push_length(out, origin.index)?;
-    out.push_str(" at ")?;
-    push_length(out, origin.at)
+fn push_origin(row: &mut Row, origin: Option<Origin>) {
+    match origin {
+        Some(origin) => {
+            row.word_length("record ", origin.index);
+            row.word_length(" at ", origin.at);
+        }
+        None => row.word("none"),
+    }
 }
 
 /// The origin of the attribute at each of some positions.
-fn push_each(out: &mut String, origins: &Origins, positions: &str) -> Result<()> {
+fn push_each(row: &mut Row, origins: &Origins, positions: &str) {
     for word in positions.split(' ') {
-        let position = number(word)?;
-        push_number(out, position)?;
-        out.push_str(": ")?;
-        push_origin(out, origins.at(position))?;
-        out.push_str("; ")?;
+        let position = row.read_number(word);
+        row.number(position);
+        row.word(": ");
+        push_origin(row, origins.at(position));
+        row.word("; ");
     }
-    Ok(())
 }
 
-fn push_origins(alloc: Global, setup: &Setup, out: &mut String, words: &str) -> Result<()> {
-    let (positions, records) = words.split_once(" of ").context("positions of records")?;
-    let layout = layout_of(alloc, setup)?;
-    let records = records_of(alloc, records)?;
-    let slices = lent(alloc, records.as_slice())?;
-    let origins = find_origins(alloc, slices.as_slice(), &layout)?;
-    push_each(out, &origins, positions)
+/// The same after records.
+pub(crate) fn push_origins(row: &mut Row, layout: &Layout, words: &str) {
+    let (positions, records) = row.cut(words, " of ");
+    let records = records_of(row, records);
+    let slices = lent(row, records.as_slice());
+    match find_origins(row.alloc(), slices.as_slice(), layout) {
+        Ok(origins) => push_each(row, &origins, positions),
+        Err(_) => row.spoil(),
+    }
 }
 
 /// A finding's number, and the orders that it comes from.
-fn push_traced(out: &mut String, traced: &Traced) -> Result<(), AllocError> {
-    push_number(out, u32::from(traced.finding.number()))?;
-    out.push(' ')?;
-    push_origin(out, traced.origin)?;
-    out.push_str(" to ")?;
-    push_origin(out, traced.end)?;
-    out.push_str("; ")
+fn push_traced(row: &mut Row, traced: &Traced) {
+    row.number(u32::from(traced.finding.number()));
+    row.word(" ");
+    push_origin(row, traced.origin);
+    row.word(" to ");
+    push_origin(row, traced.end);
+    row.word("; ");
 }
 
-fn push_all_traced(
-    alloc: Global,
-    out: &mut String,
-    records: &[&[u8]],
-    layout: &Layout,
-    findings: &[Finding],
-) -> Result<(), AllocError> {
-    let traced = trace_findings(alloc, records, layout, findings)?;
-    for found in &traced {
-        push_traced(out, found)?;
-    }
-    Ok(())
-}
-
-fn push_findings(alloc: Global, setup: &Setup, out: &mut String, words: &str) -> Result<()> {
-    let layout = layout_of(alloc, setup)?;
-    let records = records_of(alloc, words)?;
-    let slices = lent(alloc, records.as_slice())?;
-    match check(alloc, slices.as_slice(), &layout)? {
-        Verdict::Yes => Ok(()),
-        Verdict::No(findings) => {
-            push_all_traced(alloc, out, slices.as_slice(), &layout, findings.as_slice())?;
-            Ok(())
-        }
+fn push_all(row: &mut Row, traced: &[Traced]) {
+    for found in traced {
+        push_traced(row, found);
     }
 }
 
-/// Adds what a verb answers; whether it is one of these.
-pub(crate) fn push_answer(
-    alloc: Global,
-    setup: &Setup,
-    out: &mut String,
-    verb: &str,
-    words: &str,
-) -> Result<bool> {
-    match verb {
-        "origins" => push_origins(alloc, setup, out, words)?,
-        "traced" => push_findings(alloc, setup, out, words)?,
-        _ => return Ok(false),
+fn push_findings(row: &mut Row, layout: &Layout, records: &[Vec<u8>], findings: &[Finding]) {
+    let slices = lent(row, records);
+    match trace_findings(row.alloc(), slices.as_slice(), layout, findings) {
+        Ok(traced) => push_all(row, traced.as_slice()),
+        Err(_) => row.spoil(),
     }
-    Ok(true)
+}
+
+/// The findings of records, each with the orders that it comes from.
+pub(crate) fn push_found(row: &mut Row, layout: &Layout, words: &str) {
+    let records = records_of(row, words);
+    if let Some(Verdict::No(findings)) = verdict_of(row, layout, records.as_slice()) {
+        push_findings(row, layout, records.as_slice(), findings.as_slice());
+    }
 }

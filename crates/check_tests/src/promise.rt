@@ -1,140 +1,163 @@
 //! Screens that conform, pressed through lists of keys: what Enter then sends is bound.
 
+use crate::Setup;
 use crate::answers::push_bound;
 use crate::dialogues::count_kept;
-use crate::findings::{push_check, records_of};
-use crate::{Setup, layout_of};
-use anyhow::{Context, Result};
+use crate::script::text_of;
+use crate::shapes::push_kept;
 use ds_codec::Record;
 use ds_inbound::write_inbound;
 use ds_keys::{key_of_line, press};
 use ds_screen::{Lock, PlaneCells, Screen};
 use scr_layout::Layout;
-use std::alloc::Global;
-use test_words::{number, push_length, push_number, push_word_number};
+use test_words::Row;
 
-fn show(screen: &mut Screen<PlaneCells>, bytes: &[u8]) -> Result<()> {
-    let record = Record::read(screen.geometry().mode(), bytes)?;
-    let _effect = screen.apply(&record)?;
-    Ok(())
-}
-
-/// A new terminal of the layout's geometry after the records.
-fn opened(alloc: Global, layout: &Layout, records: &[Vec<u8>]) -> Result<Screen<PlaneCells>> {
-    let mut screen = Screen::new(alloc, layout.geometry())?;
-    for bytes in records {
-        show(&mut screen, bytes.as_slice())?;
+/// Applies a record; whether it is one that can be.
+fn is_shown(screen: &mut Screen<PlaneCells>, bytes: &[u8]) -> bool {
+    match Record::read(screen.geometry().mode(), bytes) {
+        Ok(record) => screen.apply(&record).is_ok(),
+        Err(_) => false,
     }
-    Ok(screen)
 }
 
-/// The same of the setup's records.
-pub(crate) fn opened_after(
-    alloc: Global,
-    setup: &Setup,
-    layout: &Layout,
-) -> Result<Screen<PlaneCells>> {
-    let records = records_of(alloc, setup.after.as_str())?;
-    opened(alloc, layout, records.as_slice())
-}
-
-fn press_line(screen: &mut Screen<PlaneCells>, line: &str) -> Result<()> {
-    let key = key_of_line(line).context("a key")?;
-    let _told = press(screen, key);
-    Ok(())
-}
-
-fn press_often(screen: &mut Screen<PlaneCells>, line: &str, times: u32) -> Result<()> {
-    for _ in 0..times {
-        press_line(screen, line)?;
-    }
-    Ok(())
-}
-
-pub(crate) fn press_lines(screen: &mut Screen<PlaneCells>, keys: &str) -> Result<()> {
-    for part in keys.split(", ") {
-        if let Some((times, line)) = part.split_once(' ') {
-            press_often(screen, line, number(times)?)?;
+/// Applies records that are parted by semicolons.
+fn show_all(row: &mut Row, screen: &mut Screen<PlaneCells>, records: &str) {
+    for text in records.split(';') {
+        if !text.is_empty() {
+            let bytes = row.read_bytes(text);
+            if !is_shown(screen, bytes.as_slice()) {
+                row.spoil();
+            }
         }
     }
-    Ok(())
+}
+
+/// A new terminal's screen of the layout's geometry after records.
+fn opened(row: &mut Row, layout: &Layout, records: &str) -> Option<Screen<PlaneCells>> {
+    match Screen::new(row.alloc(), layout.geometry()) {
+        Ok(mut screen) => {
+            show_all(row, &mut screen, records);
+            Some(screen)
+        }
+        Err(_) => {
+            row.spoil();
+            None
+        }
+    }
+}
+
+fn press_line(row: &mut Row, screen: &mut Screen<PlaneCells>, line: &str) {
+    match key_of_line(line) {
+        Some(key) => {
+            let _told = press(screen, key);
+        }
+        None => row.spoil(),
+    }
+}
+
+fn press_often(row: &mut Row, screen: &mut Screen<PlaneCells>, line: &str, times: u32) {
+    for _ in 0..times {
+        press_line(row, screen, line);
+    }
+}
+
+pub(crate) fn press_lines(row: &mut Row, screen: &mut Screen<PlaneCells>, keys: &str) {
+    for part in keys.split(", ") {
+        if let Some((times, line)) = part.split_once(' ') {
+            let times = row.read_number(times);
+            press_often(row, screen, line, times);
+        }
+    }
 }
 
 /// The keys in turn, Reset where they end in an error, and Enter.
-fn press_all(screen: &mut Screen<PlaneCells>, keys: &str) -> Result<()> {
-    press_lines(screen, keys)?;
+fn press_all(row: &mut Row, screen: &mut Screen<PlaneCells>, keys: &str) {
+    press_lines(row, screen, keys);
     if screen.lock() == Lock::Error {
-        press_line(screen, "reset")?;
+        press_line(row, screen, "reset");
     }
-    press_line(screen, "enter")
+    press_line(row, screen, "enter");
 }
 
-/// What the setup's terminal sends after its records and keys.
-fn sent_after(alloc: Global, setup: &Setup, layout: &Layout, keys: &str) -> Result<Vec<u8>> {
-    let mut screen = opened_after(alloc, setup, layout)?;
-    press_all(&mut screen, keys)?;
-    Ok(write_inbound(alloc, &screen, false)?)
+/// What is told of what a screen sends after keys.
+fn push_sent(row: &mut Row, layout: &Layout, screen: &mut Screen<PlaneCells>, keys: &str) {
+    press_all(row, screen, keys);
+    match write_inbound(row.alloc(), screen, false) {
+        Ok(bytes) => push_bound(row, layout, bytes.as_slice()),
+        Err(_) => row.spoil(),
+    }
 }
 
-/// What is told after the setup's records and a list's keys.
-fn push_after(alloc: Global, setup: &Setup, out: &mut String, keys: &str) -> Result<()> {
-    let layout = layout_of(alloc, setup)?;
-    let bytes = sent_after(alloc, setup, &layout, keys)?;
-    push_bound(alloc, out, &layout, bytes.as_slice())
+/// What is told after keys: of what the screen sends, or of its shape.
+#[derive(Clone, Copy)]
+pub(crate) enum Told {
+    Sent,
+    Shape,
+}
+
+/// What is told of a screen and keys.
+fn push_told(
+    row: &mut Row,
+    layout: &Layout,
+    screen: &mut Screen<PlaneCells>,
+    told: Told,
+    keys: &str,
+) {
+    match told {
+        Told::Sent => push_sent(row, layout, screen, keys),
+        Told::Shape => push_kept(row, screen, keys),
+    }
+}
+
+/// The same of a screen after the setup's records.
+pub(crate) fn push_after(row: &mut Row, setup: &Setup, layout: &Layout, told: Told, keys: &str) {
+    if let Some(mut screen) = opened(row, layout, setup.after.as_str()) {
+        push_told(row, layout, &mut screen, told, keys);
+    }
+}
+
+/// The keys of the list of this name.
+fn keys_of<'a>(row: &mut Row, setup: &'a Setup, name: &str) -> &'a str {
+    for list in setup.lists.iter() {
+        let (word, keys) = row.cut(list.as_str(), ": ");
+        if word == name {
+            return keys;
+        }
+    }
+    row.spoil();
+    ""
 }
 
 /// What is told after the keys of the list of this name.
-fn push_pressed(alloc: Global, setup: &Setup, out: &mut String, name: &str) -> Result<()> {
-    for list in setup.lists.iter() {
-        let (word, keys) = list.as_str().split_once(": ").context("a name and keys")?;
-        if word == name {
-            return push_after(alloc, setup, out, keys);
-        }
-    }
-    None.context("a list of keys")
+pub(crate) fn push_pressed(row: &mut Row, setup: &Setup, layout: &Layout, name: &str) {
+    let keys = keys_of(row, setup, name);
+    push_after(row, setup, layout, Told::Sent, keys);
 }
 
 /// Whether Enter sends an answer that is bound after a list's keys.
-fn is_bound(alloc: Global, setup: &Setup, list: &str) -> Result<bool> {
-    let (_, keys) = list.split_once(": ").context("a name and keys")?;
-    let mut out = String::new(alloc);
-    push_after(alloc, setup, &mut out, keys)?;
-    Ok(out.as_str().starts_with("7D"))
+fn is_bound(row: &mut Row, setup: &Setup, layout: &Layout, list: &str) -> bool {
+    let (_, keys) = row.cut(list, ": ");
+    let mut told = Row::new(row.alloc());
+    push_after(&mut told, setup, layout, Told::Sent, keys);
+    text_of(row, told).as_str().starts_with("7D")
 }
 
 /// After how many of the lists Enter sends an answer that is bound.
-fn push_lists(alloc: Global, setup: &Setup, out: &mut String) -> Result<()> {
+pub(crate) fn push_lists(row: &mut Row, setup: &Setup, layout: &Layout) {
     let mut bound = 0u32;
     for list in setup.lists.iter() {
-        if is_bound(alloc, setup, list.as_str())? {
+        if is_bound(row, setup, layout, list.as_str()) {
             bound = bound.saturating_add(1);
         }
     }
-    push_number(out, bound)?;
-    out.push_str(" of ")?;
-    Ok(push_length(out, setup.lists.len())?)
+    row.number(bound);
+    row.word_length(" of ", setup.lists.len());
 }
 
 /// How many of so many generated dialogues keep the promise.
-fn push_dialogues(alloc: Global, out: &mut String, count: u32) -> Result<()> {
-    push_number(out, count_kept(alloc, count)?)?;
-    Ok(push_word_number(out, " of ", count)?)
-}
-
-/// Adds what a verb answers; whether it is one of these.
-pub(crate) fn push_answer(
-    alloc: Global,
-    setup: &Setup,
-    out: &mut String,
-    verb: &str,
-    words: &str,
-) -> Result<bool> {
-    match verb {
-        "conforms" => push_check(alloc, setup, out, setup.after.as_str())?,
-        "bound" => push_lists(alloc, setup, out)?,
-        "dialogues" => push_dialogues(alloc, out, number(words)?)?,
-        "pressed" => push_pressed(alloc, setup, out, words)?,
-        _ => return Ok(false),
-    }
-    Ok(true)
+pub(crate) fn push_dialogues(row: &mut Row, words: &str) {
+    let count = row.read_number(words);
+    let kept = count_kept(row, count);
+    row.number(kept);
+    row.word_number(" of ", count);
 }

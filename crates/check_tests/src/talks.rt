@@ -1,127 +1,115 @@
-//! Dialogues of the script: turns judged one after the other.
+//! Dialogues: turns judged one after the other.
 
 use crate::Setup;
 use crate::findings::{lent, push_findings, records_of};
-use anyhow::Result;
-use scr_check::{TalkVerdict, Turn, check_talk, have_one_geometry};
+use crate::script::{keep, layout_of};
+use scr_check::{Finding, TalkVerdict, Turn, check_talk, have_one_geometry};
 use scr_layout::Layout;
-use std::alloc::{AllocError, Global};
-use test_words::{push_bool, push_length};
+use test_words::Row;
 
-/// The layouts of the setup's screens.
-fn layouts_of(alloc: Global, setup: &Setup) -> Result<Vec<Layout>> {
-    let mut layouts = Vec::new(alloc);
-    for text in setup.screens.iter() {
-        layouts.push(Layout::from_text(alloc, text.as_str())?)?;
-    }
-    Ok(layouts)
+/// What a turn is made of.
+#[derive(Drop)]
+pub(crate) struct Round {
+    pub(crate) records: Vec<Vec<u8>>,
+    pub(crate) layout: Layout,
 }
 
-/// The records of so many turns, which are parted by bars.
-fn turns_of(alloc: Global, words: &str, count: usize) -> Result<Vec<Vec<Vec<u8>>>> {
-    let mut turns = Vec::new(alloc);
+/// Adds a round of a layout's text.
+pub(crate) fn push_round(
+    row: &mut Row,
+    rounds: &mut Vec<Round>,
+    text: &str,
+    records: Vec<Vec<u8>>,
+) {
+    if let Some(layout) = layout_of(row, text) {
+        keep(row, rounds, Round { records, layout });
+    }
+}
+
+/// The setup's screens, each with its records, which are parted by bars.
+fn rounds_of(row: &mut Row, setup: &Setup, words: &str) -> Vec<Round> {
+    let mut rounds = Vec::new(row.alloc());
     let mut parts = words.split('|');
-    for _ in 0..count {
-        let records = parts.next().unwrap_or("");
-        turns.push(records_of(alloc, records.trim())?)?;
+    for text in setup.screens.iter() {
+        let records = records_of(row, parts.next().unwrap_or("").trim());
+        push_round(row, &mut rounds, text.as_str(), records);
     }
-    Ok(turns)
+    rounds
 }
 
-fn all_lent<'a>(
-    alloc: Global,
-    turns: &'a [Vec<Vec<u8>>],
-) -> Result<Vec<Vec<&'a [u8]>>, AllocError> {
-    let mut all = Vec::new(alloc);
-    for records in turns {
-        all.push(lent(alloc, records.as_slice())?)?;
+fn all_lent<'a>(row: &mut Row, rounds: &'a [Round]) -> Vec<Vec<&'a [u8]>> {
+    let mut all = Vec::new(row.alloc());
+    for round in rounds {
+        let slices = lent(row, round.records.as_slice());
+        keep(row, &mut all, slices);
     }
-    Ok(all)
+    all
 }
 
-/// Each turn's records with its layout.
-fn with_layouts<'a, 'r>(
-    alloc: Global,
-    records: &'a [Vec<&'r [u8]>],
-    layouts: &'a [Layout],
-) -> Result<Vec<Turn<'a, 'r>>, AllocError> {
-    let mut turns = Vec::new(alloc);
-    for (index, layout) in layouts.iter().enumerate() {
-        if let Some(lent) = records.get(index) {
-            turns.push(Turn {
-                records: lent.as_slice(),
-                layout,
-            })?;
-        }
+/// Each round's records with its layout.
+fn turns_of<'a, 'r>(
+    row: &mut Row,
+    rounds: &'a [Round],
+    all: &'a [Vec<&'r [u8]>],
+) -> Vec<Turn<'a, 'r>> {
+    let mut turns = Vec::new(row.alloc());
+    for (round, slices) in rounds.iter().zip(all) {
+        let turn = Turn {
+            records: slices.as_slice(),
+            layout: &round.layout,
+        };
+        keep(row, &mut turns, turn);
     }
-    Ok(turns)
+    turns
 }
 
-fn push_turn(out: &mut String, turn: usize) -> Result<(), AllocError> {
-    out.push_str("turn ")?;
-    push_length(out, turn)?;
-    out.push_str(": ")
-}
-
-fn push_stop(
-    out: &mut String,
-    layouts: &[Layout],
-    turn: usize,
-    findings: &[scr_check::Finding],
-) -> Result<(), AllocError> {
-    push_turn(out, turn)?;
-    match layouts.get(turn) {
-        Some(layout) => push_findings(out, layout, findings),
-        None => out.push_str("no such turn"),
+fn push_stop(row: &mut Row, rounds: &[Round], turn: usize, findings: &[Finding]) {
+    row.word_length("turn ", turn);
+    row.word(": ");
+    match rounds.get(turn) {
+        Some(round) => push_findings(row, &round.layout, findings),
+        None => row.word("no such turn"),
     }
 }
 
 /// `yes`, or the first turn with findings, and these; of layouts of several geometries that they are.
-fn push_judged(
-    alloc: Global,
-    out: &mut String,
-    layouts: &[Layout],
-    turns: &[Turn<'_, '_>],
-) -> Result<(), AllocError> {
+fn push_verdict(row: &mut Row, rounds: &[Round], turns: &[Turn<'_, '_>]) {
     if !have_one_geometry(turns) {
-        return out.push_str("several geometries");
+        return row.word("several geometries");
     }
-    match check_talk(alloc, turns)? {
-        TalkVerdict::Yes => out.push_str("yes"),
-        TalkVerdict::No { turn, findings } => push_stop(out, layouts, turn, findings.as_slice()),
+    match check_talk(row.alloc(), turns) {
+        Ok(TalkVerdict::Yes) => row.word("yes"),
+        Ok(TalkVerdict::No { turn, findings }) => {
+            push_stop(row, rounds, turn, findings.as_slice());
+        }
+        Err(_) => row.spoil(),
     }
 }
 
-/// What is said of the records of turns on the setup's screens.
-fn push_talk(alloc: Global, setup: &Setup, out: &mut String, words: &str) -> Result<()> {
-    let layouts = layouts_of(alloc, setup)?;
-    let records = turns_of(alloc, words, layouts.len())?;
-    let slices = all_lent(alloc, records.as_slice())?;
-    let turns = with_layouts(alloc, slices.as_slice(), layouts.as_slice())?;
-    Ok(push_judged(alloc, out, layouts.as_slice(), turns.as_slice())?)
+/// The same of rounds.
+pub(crate) fn push_talk(row: &mut Row, rounds: &[Round]) {
+    let all = all_lent(row, rounds);
+    let turns = turns_of(row, rounds, all.as_slice());
+    push_verdict(row, rounds, turns.as_slice());
 }
 
-/// Whether the setup's screens have one geometry.
-fn push_alike(alloc: Global, setup: &Setup, out: &mut String) -> Result<()> {
-    let layouts = layouts_of(alloc, setup)?;
-    let records = turns_of(alloc, "", layouts.len())?;
-    let slices = all_lent(alloc, records.as_slice())?;
-    let turns = with_layouts(alloc, slices.as_slice(), layouts.as_slice())?;
-    Ok(push_bool(out, have_one_geometry(turns.as_slice()))?)
+/// Whether rounds have one geometry.
+fn push_alike(row: &mut Row, rounds: &[Round]) {
+    let all = all_lent(row, rounds);
+    let turns = turns_of(row, rounds, all.as_slice());
+    row.truth(have_one_geometry(turns.as_slice()));
 }
 
 /// Adds what a verb answers; whether it is one of these.
-pub(crate) fn push_answer(
-    alloc: Global,
-    setup: &Setup,
-    out: &mut String,
-    verb: &str,
-    words: &str,
-) -> Result<bool> {
-    match verb {
-        "talk" => push_talk(alloc, setup, out, words)?,
-        "alike" => push_alike(alloc, setup, out)?,
-        _ => return Ok(false),
+pub(crate) fn push_answer(row: &mut Row, setup: &Setup, verb: &str, words: &str) -> bool {
+    if verb != "talk" && verb != "alike" {
+        return false;
     }
-    Ok(true)
+    let rounds = rounds_of(row, setup, words);
+    if verb == "talk" {
+        push_talk(row, rounds.as_slice());
+    } else {
+        push_alike(row, rounds.as_slice());
+    }
+    true
 }
