@@ -14,6 +14,7 @@ pub(crate) struct Asked {
     pub pieces: Vec<Vec<u8>>,
 }
 
+/// The end that runs.
 #[derive(Drop)]
 pub(crate) enum End {
     Terminal(Vec<Key>),

@@ -7,13 +7,14 @@
 //! `many N TEXT` the same text so often as a file. `attach HEX` is a terminal that presses the file's keys on a host that
 //! sends these bytes, and `unflushed HEX` one whose line fails at each flush. `same FORM RECORDS` prints in a form, with the
 //! file as the layout, from streams and of texts, `next TEXT` reads lines, and `all-findings`, `traced` and `lines` call what
-//! `check` reports with. A verb, a command and its input run this, where `^` stands for the file. In texts `\n`, `\r`
+//! `check` reports with. A verb, a command and its input run this command, where `^` stands for the file. In texts `\n`, `\r`
 //! and `\xFF` are bytes; a line that is printed 32 times or more one after the other is printed once, as `[F2*32]`.
 //!
 //! `terminal classic responses HEX` and `host enhanced none HEX` say which core events come to below, each time a new one
 //! that first takes the events HEX. `event LABEL > HEX` prints what it answers to each event of HEX: the reply's bytes and
 //! what is told, or a dash. `name TEXT` prints the device of a name, `layout A B` what a host for these sizes says first, and
-//! `faults` every refusal. `press` and `serve` run a terminal and a host over a line in memory.
+//! `faults` every refusal. `press` runs a terminal with its keys over a line in memory, and `serve` a host with its records;
+//! after `paced` the line gives a piece only once what is due before it was written, and after `endless` it never ends.
 #![tactic(auto)]
 
 mod asked;
