@@ -1,14 +1,13 @@
 //! Terminals that attach to a host in memory.
 
-use crate::commands::push_told;
-use anyhow::{Context, Result};
-use std::alloc::Global;
+use crate::commands::push_ran;
+use ds_keys::Key;
 use std::io;
 use std::io::{Read, Write};
 use term_commands::read_keys;
 use term_sessions::attach_on;
-use test_words::{push_bytes, push_words};
-use tn_session::{Device, Stop};
+use test_words::Row;
+use tn_session::{Device, ScreenModel, Stop};
 
 /// How a host's line ends a flush.
 #[derive(Clone, Copy)]
@@ -53,29 +52,30 @@ fn name_of(stop: Option<Stop>) -> &'static str {
     }
 }
 
+fn push_session(row: &mut Row, host: Host<'_>, keys: &[Key]) {
+    let device = Device {
+        model: ScreenModel::Two,
+        extended: false,
+    };
+    let mut text = Vec::new(row.alloc());
+    let (status, wire) = attach_on(row.alloc(), host, device, keys, &mut text);
+    push_ran(row, Some(status), text.as_slice());
+    let stop = wire.stop();
+    row.word(" got ");
+    row.bytes(wire.into_line().gets.as_slice());
+    row.word(name_of(stop));
+}
+
 /// What a terminal of model 2 prints that presses the file's keys, what the host gets, and how the line stopped.
-pub(crate) fn push_attached(
-    alloc: Global,
-    out: &mut String,
-    sends: &str,
-    keys: &[u8],
-    flush: Flush,
-) -> Result<()> {
-    let mut bytes = Vec::new(alloc);
-    push_words(alloc, &mut bytes, sends)?;
+pub(crate) fn push_attached(row: &mut Row, sends: &str, keys: &[u8], flush: Flush) {
+    let bytes = row.read_bytes(sends);
     let host = Host {
         sends: bytes.as_slice(),
-        gets: Vec::new(alloc),
+        gets: Vec::new(row.alloc()),
         flush,
     };
-    let device = Device::from_name(b"IBM-3278-2").context("a device")?;
     let mut keys = keys;
-    let named = read_keys(alloc, &mut keys).ok().context("keys")?;
-    let mut text = Vec::new(alloc);
-    let (status, wire) = attach_on(alloc, host, device, named.keys.as_slice(), &mut text);
-    push_told(alloc, out, status, text.as_slice())?;
-    let stop = wire.stop();
-    out.push_str(" got ")?;
-    push_bytes(out, wire.into_line().gets.as_slice())?;
-    Ok(out.push_str(name_of(stop))?)
+    if let Some(named) = row.take(read_keys(row.alloc(), &mut keys)) {
+        push_session(row, host, named.keys.as_slice());
+    }
 }

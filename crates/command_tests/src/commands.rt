@@ -3,13 +3,13 @@
 use crate::files::texts_of;
 use crate::notation::push_written;
 use anyhow::{Context, Result};
-use std::alloc::{AllocError, Global};
+use std::alloc::Global;
 use std::io;
 use std::io::{Read, Write};
 use term_commands::{
     Demos, Status, failure, run_check, run_convert, run_convert_back, run_press, run_show, run_talk,
 };
-use test_words::push_word_number;
+use test_words::{Row, push_word_number};
 
 /// A command of the program.
 #[derive(Clone, Copy)]
@@ -94,50 +94,51 @@ pub(crate) fn push_told(
     push_written(alloc, out, written)
 }
 
-/// A command's status, and what it adds to a text.
-pub(crate) fn written(
+/// A command's status, and what it writes.
+pub(crate) fn written<W: Write>(
     alloc: Global,
     command: Command,
     input: &[u8],
     file: &[u8],
-    text: &mut Vec<u8>,
+    writer: &mut W,
 ) -> Result<Status> {
     let mut input = input;
     let files = texts_of(alloc, command, file)?;
-    run(alloc, command, &mut input, files, text)
+    run(alloc, command, &mut input, files, writer)
+}
+
+/// Adds the status of a command that could be run, and what it wrote.
+pub(crate) fn push_ran(row: &mut Row, status: Option<Status>, written: &[u8]) {
+    if let Some(status) = status {
+        let pushed = push_told(row.alloc(), &mut row.text, status, written);
+        let _pushed = row.take(pushed);
+    }
+}
+
+/// Adds the status of a command that could be run.
+pub(crate) fn push_name(row: &mut Row, status: Option<Status>) {
+    if let Some(status) = status {
+        row.word(name_of(status));
+    }
 }
 
 /// A command's status and what it writes.
-pub(crate) fn push_run(
-    alloc: Global,
-    out: &mut String,
-    command: Command,
-    input: &[u8],
-    file: &[u8],
-) -> Result<()> {
-    let mut text = Vec::new(alloc);
-    let status = written(alloc, command, input, file, &mut text)?;
-    push_told(alloc, out, status, text.as_slice())
+pub(crate) fn push_run(row: &mut Row, command: Command, input: &[u8], file: &[u8]) {
+    let mut text = Vec::new(row.alloc());
+    let status = row.take(written(row.alloc(), command, input, file, &mut text));
+    push_ran(row, status, text.as_slice());
 }
 
 /// A command's status alone.
-pub(crate) fn push_status(
-    alloc: Global,
-    out: &mut String,
-    command: Command,
-    input: &[u8],
-    file: &[u8],
-) -> Result<()> {
-    let mut text = Vec::new(alloc);
-    let status = written(alloc, command, input, file, &mut text)?;
-    Ok(out.push_str(name_of(status))?)
+pub(crate) fn push_status(row: &mut Row, command: Command, input: &[u8], file: &[u8]) {
+    let mut text = Vec::new(row.alloc());
+    let status = row.take(written(row.alloc(), command, input, file, &mut text));
+    push_name(row, status);
 }
 
 /// The statuses of an error of want of memory and of another one.
-pub(crate) fn push_failures(out: &mut String) -> Result<(), AllocError> {
-    let memory = failure(&io::Error::from(io::ErrorKind::OutOfMemory));
-    out.push_str(name_of(memory))?;
-    out.push(' ')?;
-    let other = failure(&io::Error::from(io::ErrorKind::ConnectionReset));
-    out.push_str(name_of(other))
+pub(crate) fn push_failures(row: &mut Row) {
+    row.word(name_of(failure(&io::Error::from(io::ErrorKind::OutOfMemory))));
+    row.word(" ");
+    row.word(name_of(failure(&io::Error::from(io::ErrorKind::ConnectionReset))));
 }

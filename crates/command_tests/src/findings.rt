@@ -1,11 +1,11 @@
 //! Each finding by itself: its name, as JSON and in a log, and what to do.
 
 use crate::reports::{is_read_again, push_results};
-use anyhow::{Context, Result};
 use scr_check::{Demo, Finding, Origin, Overlong, Traced};
 use scr_layout::Layout;
-use std::alloc::Global;
+use std::alloc::AllocError;
 use term_findings::{finding_json, findings_log, help_text, line_of_record, name_of};
+use test_words::Row;
 
 /// A layout of two rows of ten, with one entry.
 const CODE: &str = "default = \"2x10\"\n[[field]]\nname = \"code\"\nrow = 1\ncol = 4\nlength = 3\n";
@@ -48,64 +48,98 @@ fn all_findings(layout: &Layout) -> [Finding; 14] {
     ]
 }
 
-/// A finding from these orders, of its attribute and of its field's end: as JSON, and as a result of a log.
+/// A text that was written, or none.
+fn text_of(row: &mut Row, written: Result<String, AllocError>) -> String {
+    row.take(written).unwrap_or(String::new(row.alloc()))
+}
+
+/// A finding as JSON, and as a result of a log.
+fn push_forms(row: &mut Row, layout: &Layout, traced: &Traced) {
+    let alloc = row.alloc();
+    let json = text_of(row, finding_json(alloc, layout, RECORDS, None, traced));
+    row.word("\n");
+    row.word(json.as_str());
+    let path = "a \\ \"b\".hex";
+    let log = text_of(row, findings_log(alloc, path, layout, RECORDS, &[*traced]));
+    push_results(row, log.as_str());
+    let again = is_read_again(row, json.as_str()) && is_read_again(row, log.as_str());
+    row.word_if(!again, "\nread as another");
+}
+
+/// A finding from these orders, of its attribute and of its field's end.
 fn push_finding(
-    alloc: Global,
-    out: &mut String,
+    row: &mut Row,
     layout: &Layout,
     finding: Finding,
     from: (Option<Origin>, Option<Origin>),
-) -> Result<()> {
+) {
     let (origin, end) = from;
     let traced = Traced {
         finding,
         origin,
         end,
     };
-    let json = finding_json(alloc, layout, RECORDS, None, &traced)?;
-    write!(out, "\n{json}")?;
-    let log = findings_log(alloc, "a \\ \"b\".hex", layout, RECORDS, &[traced])?;
-    push_results(alloc, out, log.as_str())?;
-    let again = is_read_again(alloc, json.as_str())? && is_read_again(alloc, log.as_str())?;
-    if !again {
-        out.push_str("\nread as another")?;
+    push_forms(row, layout, &traced);
+}
+
+/// A finding by its name, and what to do.
+fn push_named(row: &mut Row, layout: &Layout, finding: &Finding) {
+    row.word("\n");
+    row.word(name_of(finding));
+    row.word(": ");
+    match row.take(help_text(row.alloc(), layout, finding)) {
+        Some(Some(help)) => row.word(help.as_str()),
+        _ => row.word("nothing"),
     }
-    Ok(())
+}
+
+fn read_code(row: &mut Row) -> Option<Layout> {
+    row.take(Layout::from_text(row.alloc(), CODE))
 }
 
 /// Each finding by its name, what to do, and both forms, as it comes from no order.
-pub(crate) fn push_all(alloc: Global, out: &mut String) -> Result<()> {
-    let layout = Layout::from_text(alloc, CODE).ok().context("a layout")?;
-    for finding in all_findings(&layout) {
-        let name = name_of(&finding);
-        let help = help_text(alloc, &layout, &finding)?;
-        let help = help.as_ref().map(String::as_str).unwrap_or("nothing");
-        write!(out, "\n{name}: {help}")?;
-        push_finding(alloc, out, &layout, finding, (None, None))?;
+fn push_all(row: &mut Row) {
+    if let Some(layout) = read_code(row) {
+        for finding in all_findings(&layout) {
+            push_named(row, &layout, &finding);
+            push_finding(row, &layout, finding, (None, None));
+        }
     }
-    Ok(())
 }
 
 /// A finding from orders of two records, from one order alone, and from one past the end of its record.
-pub(crate) fn push_traced(alloc: Global, out: &mut String) -> Result<()> {
-    let layout = Layout::from_text(alloc, CODE).ok().context("a layout")?;
+fn push_traced(row: &mut Row) {
     let early = Some(Origin { index: 0, at: 1 });
     let late = Some(Origin { index: 1, at: 0 });
     let beyond = Some(Origin { index: 1, at: 2 });
-    for from in [(early, late), (late, late), (beyond, None)] {
-        push_finding(alloc, out, &layout, Finding::EmptyModified(5), from)?;
+    if let Some(layout) = read_code(row) {
+        for from in [(early, late), (late, late), (beyond, None)] {
+            push_finding(row, &layout, Finding::EmptyModified(5), from);
+        }
     }
-    Ok(())
 }
 
 /// The lines of the records of a text.
-pub(crate) fn push_lines(out: &mut String) -> Result<()> {
+fn push_lines(row: &mut Row) {
     let text = b"# A comment\n\nF5C2\r\n  # another\n   \n F1 C2\n";
     for index in 0..3 {
         match line_of_record(text, index) {
-            Some(line) => write!(out, "\nrecord {index} on line {line}")?,
-            None => write!(out, "\nno record {index}")?,
+            Some(line) => {
+                row.word_length("\nrecord ", index);
+                row.word_length(" on line ", line);
+            }
+            None => row.word_length("\nno record ", index),
         }
     }
-    Ok(())
+}
+
+/// Adds what a verb of findings answers; whether it is one of these.
+pub(crate) fn push_answer(row: &mut Row, verb: &str) -> bool {
+    match verb {
+        "all-findings" => push_all(row),
+        "traced" => push_traced(row),
+        "lines" => push_lines(row),
+        _ => return false,
+    }
+    true
 }

@@ -1,21 +1,22 @@
 //! Forms with a layout, from streams and of texts.
 
 use crate::commands::name_of;
-use anyhow::{Context, Result};
+use crate::notation::read_text;
 use std::alloc::Global;
 use term_commands::{Answer, CommandError, Status, printed};
 use term_findings::{Paths, Report, report_texts, run_report};
 use term_pictures::{Annotated, annotated_text, run_annotated};
+use test_words::Row;
 
 /// What is printed of records and a layout.
 #[derive(Clone, Copy)]
-pub(crate) enum Form {
+enum Form {
     Annotated(Annotated),
     Reported(Report<'static>),
 }
 
 /// The form of a name.
-pub(crate) fn form_of(name: &str) -> Option<Form> {
+fn form_of(name: &str) -> Option<Form> {
     match name {
         "svg-layout" => Some(Form::Annotated(Annotated::Svg)),
         "html-layout" => Some(Form::Annotated(Annotated::Html)),
@@ -51,18 +52,24 @@ fn answered(
 }
 
 /// The status, and whether both ways print the same with it.
-pub(crate) fn push_same(
-    alloc: Global,
-    out: &mut String,
-    form: Form,
-    layout: &[u8],
-    records: &[u8],
-) -> Result<()> {
+fn push_same(row: &mut Row, form: Form, layout: &[u8], records: &[u8]) {
+    let alloc = row.alloc();
     let mut text = Vec::new(alloc);
     let status = written(alloc, form, layout, records, &mut text);
     let answer = printed(alloc, answered(alloc, form, layout, records));
-    let told = answer.ok().context("an answer")?;
-    let same = told.text.as_bytes() == text.as_slice() && told.status == status;
-    out.push_str(name_of(status))?;
-    Ok(out.push_str(if same { " the same" } else { " another" })?)
+    if let Some(told) = row.take(answer) {
+        let same = told.text.as_bytes() == text.as_slice() && told.status == status;
+        row.word(name_of(status));
+        row.word(if same { " the same" } else { " another" });
+    }
+}
+
+/// Whether the form of `FORM TEXT` prints the same from streams and of texts.
+pub(crate) fn push_form(row: &mut Row, layout: &[u8], words: &str) {
+    let (form, text) = words.split_once(' ').unwrap_or((words, ""));
+    let records = read_text(row, text);
+    match form_of(form) {
+        Some(form) => push_same(row, form, layout, records.as_slice()),
+        None => row.spoil(),
+    }
 }

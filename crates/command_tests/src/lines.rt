@@ -1,30 +1,38 @@
 //! Lines as they are read.
 
-use crate::notation::bytes_of;
-use anyhow::Result;
-use std::alloc::Global;
-use std::io::BufReader;
+use crate::notation::read_text;
+use std::io::{BufRead, BufReader};
 use term_commands::{next_line, without_end};
-use test_words::push_bytes;
+use test_words::Row;
 
 /// The most lines that are read of an input.
 const MOST_LINES: usize = 64;
 /// So many bytes are read at once: fewer than most lines have.
 const PIECE: usize = 3;
 
-/// Adds each line of an input, without its end, in hexadecimal.
-pub(crate) fn push_read(alloc: Global, out: &mut String, text: &str) -> Result<()> {
-    let input = bytes_of(alloc, text)?;
-    let mut bytes = input.as_slice();
-    let mut reader = BufReader::with_capacity(alloc, PIECE, &mut bytes)?;
-    let mut line = Vec::new(alloc);
+/// Reads the next line; whether there is one.
+fn is_read<R: BufRead>(row: &mut Row, reader: &mut R, line: &mut Vec<u8>) -> bool {
+    row.take(next_line(reader, line)).unwrap_or(false)
+}
+
+fn push_lines<R: BufRead>(row: &mut Row, reader: &mut R) {
+    let mut line = Vec::new(row.alloc());
     for _ in 0..MOST_LINES {
-        if !next_line(&mut reader, &mut line)? {
-            break;
+        if !is_read(row, reader, &mut line) {
+            return;
         }
-        out.push('[')?;
-        push_bytes(out, without_end(line.as_slice()))?;
-        out.push(']')?;
+        row.word("[");
+        row.bytes(without_end(line.as_slice()));
+        row.word("]");
     }
-    Ok(())
+}
+
+/// Adds each line of an input, without its end, in hexadecimal.
+pub(crate) fn push_read(row: &mut Row, text: &str) {
+    let input = read_text(row, text);
+    let mut bytes = input.as_slice();
+    match BufReader::with_capacity(row.alloc(), PIECE, &mut bytes) {
+        Ok(mut reader) => push_lines(row, &mut reader),
+        Err(_) => row.spoil(),
+    }
 }

@@ -1,40 +1,57 @@
-//! Runs the program's commands over lines of a script, and prints each line with their statuses and what they write.
+//! Runs the program's commands and the ends of sessions over lines of a script, and prints each line with what they answer.
 //!
-//! The script is `stdin`, and what must come out `stdout`, whose answers were worked out by hand from docs/PROGRAM.md. Data in
-//! place of test functions: neither is proved.
+//! The script is `stdin`, and what must come out `stdout`, whose answers were worked out by hand from docs/PROGRAM.md and the
+//! tables of docs/PROFILE.md. Data in place of test functions: neither is proved.
 //!
 //! `file TEXT` gives the layout or the keys of the lines below, or of `talk` the layouts, with `|` between two of them, and
 //! `many N TEXT` the same text so often as a file. `attach HEX` is a terminal that presses the file's keys on a host that
 //! sends these bytes, and `unflushed HEX` one whose line fails at each flush. `same FORM RECORDS` prints in a form, with the
 //! file as the layout, from streams and of texts, `next TEXT` reads lines, and `all-findings`, `traced` and `lines` call what
-//! `check` reports with. Every other line is a verb, a command and its input, where `^` stands for the file. In texts `\n`, `\r`
+//! `check` reports with. A verb, a command and its input run this command, where `^` stands for the file. In texts `\n`, `\r`
 //! and `\xFF` are bytes; a line that is printed 32 times or more one after the other is printed once, as `[F2*32]`.
+//!
+//! `terminal classic responses HEX` and `host enhanced none HEX` say which core events come to below, each time a new one
+//! that first takes the events HEX. `event LABEL > HEX` prints what it answers to each event of HEX: the reply's bytes and
+//! what is told, or a dash. `name TEXT` prints the device of a name, `layout A B` what a host for these sizes says first, and
+//! `faults` every refusal. `press` runs a terminal with its keys over a line in memory, and `serve` a host with its records;
+//! after `paced` the line gives a piece only once what is due before it was written, and after `endless` it never ends.
 #![tactic(auto)]
 
+mod asked;
 mod attach;
 mod commands;
+mod cores;
 mod devices;
+mod ends;
 mod failures;
 mod files;
 mod findings;
 mod forms;
 mod fronts;
 mod lines;
+mod lists;
 mod memory;
 mod notation;
 mod reports;
+mod runs;
+mod scripted;
 
 use crate::attach::Flush;
 use crate::commands::Command;
-use crate::findings::{push_all, push_lines, push_traced};
-use crate::forms::{form_of, push_same};
-use crate::notation::{bytes_of, repeated};
-use anyhow::{Context, Result};
-use std::alloc::{AllocError, Global};
-use test_words::is_row;
+use crate::notation::{bytes_of, read_text, repeated};
+use anyhow::Result;
+use std::alloc::Global;
+use test_words::{Row, is_row};
+
+/// What lines above a row gave.
+#[derive(Drop)]
+struct Given {
+    file: Vec<u8>,
+    core: cores::Setup,
+}
 
 /// Each law does nothing.
-fn push_laws(out: &mut String) -> Result<(), AllocError> {
+fn push_laws(row: &mut Row) {
     term_commands::convert_law();
     term_commands::lines_law();
     term_pictures::drawing_law();
@@ -42,95 +59,75 @@ fn push_laws(out: &mut String) -> Result<(), AllocError> {
     term_pictures::names_law();
     term_traces::pieces_law();
     term_traces::text_law();
-    out.push_str("done")
+    row.word("done");
 }
 
-/// Adds what a verb answers of streams that are slow or that fail.
-fn push_failed(
-    alloc: Global,
-    out: &mut String,
-    verb: &str,
-    command: Command,
-    input: &[u8],
-    file: &[u8],
-) -> Result<()> {
+/// Adds what a verb answers of a command; whether it is one of these.
+fn push_command(row: &mut Row, verb: &str, command: Command, input: &[u8], file: &[u8]) -> bool {
     match verb {
-        "slow" => failures::push_slow(alloc, out, command, input, file),
-        "reads" => failures::push_reads(alloc, out, command, input, file),
-        "files" => failures::push_files(alloc, out, command, input, file),
-        "interrupted" => failures::push_interrupted(alloc, out, command, input, file),
-        "writes" => failures::push_writes(alloc, out, command, input, file),
-        "flush" => failures::push_flush(alloc, out, command, input, file),
-        "turn" => failures::push_turn(alloc, out, command, input, file),
-        _ => Ok(out.push_str("no such verb")?),
+        "run" => commands::push_run(row, command, input, file),
+        "status" => commands::push_status(row, command, input, file),
+        "fronts" => fronts::push_fronts(row, command, input, file),
+        "file-fronts" => fronts::push_file_fronts(row, command, input, file),
+        _ => return failures::push_answer(row, verb, command, input, file),
     }
+    true
 }
 
-/// Adds what a verb answers of a command.
-fn push_command(
-    alloc: Global,
-    out: &mut String,
-    verb: &str,
-    command: Command,
-    input: &[u8],
-    file: &[u8],
-) -> Result<()> {
-    match verb {
-        "run" => commands::push_run(alloc, out, command, input, file),
-        "status" => commands::push_status(alloc, out, command, input, file),
-        "twice" => memory::push_twice(alloc, out, command, input, file),
-        "fronts" => fronts::push_fronts(alloc, out, command, input, file),
-        "file-fronts" => fronts::push_file_fronts(alloc, out, command, input, file),
-        _ => push_failed(alloc, out, verb, command, input, file),
-    }
-}
-
-/// Adds what a verb, a command and its input answer.
-fn push_words(alloc: Global, out: &mut String, file: &[u8], verb: &str, words: &str) -> Result<()> {
-    let (command, text) = words.split_once(' ').unwrap_or((words, ""));
-    let command = commands::command_of(command).context("a command")?;
+/// Adds what a verb answers of a command and its input; whether it is one of these.
+fn push_input(row: &mut Row, verb: &str, command: Command, text: &str, file: &[u8]) -> bool {
     if text == "^" {
-        return push_command(alloc, out, verb, command, file, file);
+        return push_command(row, verb, command, file, file);
     }
-    let input = bytes_of(alloc, text)?;
-    push_command(alloc, out, verb, command, input.as_slice(), file)
+    let input = read_text(row, text);
+    push_command(row, verb, command, input.as_slice(), file)
 }
 
-/// Adds whether a form prints the same from streams and of texts.
-fn push_form(alloc: Global, out: &mut String, file: &[u8], words: &str) -> Result<()> {
-    let (form, text) = words.split_once(' ').unwrap_or((words, ""));
-    let form = form_of(form).context("a form")?;
-    let records = bytes_of(alloc, text)?;
-    push_same(alloc, out, form, file, records.as_slice())
+/// Adds what a verb, a command and its input answer; whether they are these.
+fn push_words(row: &mut Row, file: &[u8], verb: &str, words: &str) -> bool {
+    let (command, text) = words.split_once(' ').unwrap_or((words, ""));
+    match commands::command_of(command) {
+        Some(command) => push_input(row, verb, command, text, file),
+        None => false,
+    }
 }
 
-/// Adds what a row answers that runs a command.
-fn push_ran(alloc: Global, out: &mut String, file: &[u8], verb: &str, words: &str) -> Result<()> {
+/// Adds what a verb of lines and forms answers; whether it is one of these.
+fn push_read(row: &mut Row, file: &[u8], verb: &str, words: &str) -> bool {
     match verb {
-        "attach" => attach::push_attached(alloc, out, words, file, Flush::Done),
-        "unflushed" => attach::push_attached(alloc, out, words, file, Flush::Failed),
-        "same" => push_form(alloc, out, file, words),
-        "next" => lines::push_read(alloc, out, words),
-        _ => push_words(alloc, out, file, verb, words),
+        "laws" => push_laws(row),
+        "failures" => commands::push_failures(row),
+        "attach" => attach::push_attached(row, words, file, Flush::Done),
+        "unflushed" => attach::push_attached(row, words, file, Flush::Failed),
+        "same" => forms::push_form(row, file, words),
+        "next" => lines::push_read(row, words),
+        _ => return false,
     }
+    true
 }
 
 /// Adds what a row answers.
-fn push_answer(alloc: Global, out: &mut String, file: &[u8], line: &str) -> Result<()> {
-    let (verb, words) = line.split_once(' ').unwrap_or((line, ""));
-    match verb {
-        "laws" => Ok(push_laws(out)?),
-        "failures" => Ok(commands::push_failures(out)?),
-        "all-findings" => push_all(alloc, out),
-        "traced" => push_traced(alloc, out),
-        "lines" => push_lines(out),
-        _ => push_ran(alloc, out, file, verb, words),
+fn push_answer(row: &mut Row, given: &Given, verb: &str, words: &str) {
+    row.word(" > ");
+    let file = given.file.as_slice();
+    let is_verb = cores::push_answer(row, &given.core, verb, words)
+        || runs::push_answer(row, verb, words)
+        || findings::push_answer(row, verb)
+        || push_read(row, file, verb, words)
+        || push_words(row, file, verb, words);
+    row.word_if(!is_verb, "no such verb");
+}
+
+/// Adds a line as it is printed: of a row with its answer.
+fn push_line(row: &mut Row, given: &mut Given, line: &str, verb: &str, words: &str) {
+    row.word(line);
+    if is_row(line) && !cores::take_line(row, &mut given.core, verb, words) {
+        push_answer(row, given, verb, words);
     }
 }
 
 /// Takes a line that gives the file; whether it is one.
-fn take_line(alloc: Global, file: &mut Vec<u8>, line: &str) -> Result<bool> {
-    let (verb, words) = line.split_once(' ').unwrap_or((line, ""));
+fn take_file(alloc: Global, file: &mut Vec<u8>, verb: &str, words: &str) -> Result<bool> {
     match verb {
         "file" => *file = bytes_of(alloc, words)?,
         "many" => *file = repeated(alloc, words)?,
@@ -139,22 +136,29 @@ fn take_line(alloc: Global, file: &mut Vec<u8>, line: &str) -> Result<bool> {
     Ok(true)
 }
 
-/// A line as it is printed: of a row with its answer.
-fn printed(alloc: Global, file: &mut Vec<u8>, line: &str) -> Result<String> {
-    let mut out = String::from_str(alloc, line)?;
-    if is_row(line) && !take_line(alloc, file, line)? {
-        out.push_str(" > ")?;
-        push_answer(alloc, &mut out, file.as_slice(), line)?;
+/// A line as it is printed. A row that is answered twice, and the file that it reads, tell that memory was refused.
+fn printed(alloc: Global, given: &mut Given, line: &str) -> Result<String> {
+    let (verb, words) = line.split_once(' ').unwrap_or((line, ""));
+    if verb == "twice" {
+        return memory::twice_text(alloc, line, words, given.file.as_slice());
     }
-    Ok(out)
+    if take_file(alloc, &mut given.file, verb, words)? {
+        return Ok(String::from_str(alloc, line)?);
+    }
+    let mut row = Row::new(alloc);
+    push_line(&mut row, given, line, verb, words);
+    row.finish()
 }
 
 fn main(rt: HostRuntime) -> Result<()> {
     let alloc = rt.alloc();
-    let mut file = Vec::new(alloc);
+    let mut given = Given {
+        file: Vec::new(alloc),
+        core: cores::first_setup(alloc),
+    };
     for line in rt.lines(alloc) {
         let line = line?;
-        let text = printed(alloc, &mut file, line.as_str())?;
+        let text = printed(alloc, &mut given, line.as_str())?;
         println!(rt; "{text}")?;
     }
     Ok(())

@@ -2,7 +2,7 @@
 
 use anyhow::{Context, Result};
 use std::alloc::{AllocError, Global};
-use test_words::{byte, cut_word, number, push_word_number};
+use test_words::{Row, byte, cut_word, number, push_word_number};
 
 /// How many equal lines are printed as one with their number.
 const FOLDED: u32 = 32;
@@ -13,59 +13,74 @@ fn push_part(bytes: &mut Vec<u8>, byte: u8, rest: &str) -> Result<(), AllocError
     bytes.extend_from_slice(rest.as_bytes())
 }
 
-/// Adds a byte of two digits, and more text.
-fn push_digits(bytes: &mut Vec<u8>, part: &str) -> Result<()> {
+/// The byte of two digits, and what follows it.
+fn of_digits(part: &str) -> Result<(u8, &str)> {
     let (digits, rest) = part.split_at_checked(2).context("two digits")?;
-    Ok(push_part(bytes, byte(digits)?, rest)?)
+    Ok((byte(digits)?, rest))
 }
 
-/// Adds what follows a backslash: `n`, `r` or `x` and two digits, and more text.
-fn push_escaped(bytes: &mut Vec<u8>, part: &str) -> Result<()> {
-    let (first, rest) = part.split_at_checked(1).context("a letter")?;
-    match first {
-        "n" => Ok(push_part(bytes, b'\n', rest)?),
-        "r" => Ok(push_part(bytes, b'\r', rest)?),
-        _ => push_digits(bytes, rest),
+/// The byte of what follows a backslash, `n`, `r` or `x` and two digits, and what follows it.
+fn unescaped(part: &str) -> Result<(u8, &str)> {
+    match part.split_at_checked(1) {
+        Some(("n", rest)) => Ok((b'\n', rest)),
+        Some(("r", rest)) => Ok((b'\r', rest)),
+        Some((_, rest)) => of_digits(rest),
+        None => None.context("a letter"),
     }
-}
-
-/// The bytes of a text with escapes.
-pub(crate) fn bytes_of(alloc: Global, text: &str) -> Result<Vec<u8>> {
-    let (first, rest) = text.split_once('\\').unwrap_or((text, ""));
-    let mut bytes = Vec::new(alloc);
-    bytes.extend_from_slice(first.as_bytes())?;
-    if !rest.is_empty() {
-        push_parts(&mut bytes, rest)?;
-    }
-    Ok(bytes)
 }
 
 /// Adds what follows each backslash.
 fn push_parts(bytes: &mut Vec<u8>, parts: &str) -> Result<()> {
     for part in parts.split('\\') {
-        push_escaped(bytes, part)?;
+        let (byte, rest) = unescaped(part)?;
+        push_part(bytes, byte, rest)?;
     }
     Ok(())
 }
 
-/// Adds bytes so many times.
-fn push_times(bytes: &mut Vec<u8>, part: &[u8], times: u32) -> Result<(), AllocError> {
+/// Adds the bytes of a text with escapes.
+fn push_text(bytes: &mut Vec<u8>, text: &str) -> Result<()> {
+    let (first, rest) = text.split_once('\\').unwrap_or((text, ""));
+    bytes.extend_from_slice(first.as_bytes())?;
+    if rest.is_empty() {
+        return Ok(());
+    }
+    push_parts(bytes, rest)
+}
+
+/// The bytes of a text with escapes.
+pub(crate) fn bytes_of(alloc: Global, text: &str) -> Result<Vec<u8>> {
+    let mut bytes = Vec::new(alloc);
+    push_text(&mut bytes, text)?;
+    Ok(bytes)
+}
+
+/// The same; spoils a row where it cannot be read.
+pub(crate) fn read_text(row: &mut Row, text: &str) -> Vec<u8> {
+    row.take(bytes_of(row.alloc(), text))
+        .unwrap_or(Vec::new(row.alloc()))
+}
+
+/// Adds the bytes of a text so many times.
+fn push_times(bytes: &mut Vec<u8>, text: &str, times: u32) -> Result<()> {
     for _ in 0..times {
-        bytes.extend_from_slice(part)?;
+        push_text(bytes, text)?;
     }
     Ok(())
+}
+
+/// Adds the bytes of `N TEXT ^ TEXT`.
+fn push_repeated(bytes: &mut Vec<u8>, words: &str) -> Result<()> {
+    let (times, texts) = cut_word(words)?;
+    let (often, last) = texts.split_once(" ^ ").unwrap_or((texts, ""));
+    push_times(bytes, often, number(times)?)?;
+    push_text(bytes, last)
 }
 
 /// The bytes of `N TEXT ^ TEXT`: the first text so many times, then the other.
 pub(crate) fn repeated(alloc: Global, words: &str) -> Result<Vec<u8>> {
-    let (times, texts) = cut_word(words)?;
-    let times = number(times)?;
-    let (often, last) = texts.split_once(" ^ ").unwrap_or((texts, ""));
-    let part = bytes_of(alloc, often)?;
-    let last = bytes_of(alloc, last)?;
     let mut bytes = Vec::new(alloc);
-    push_times(&mut bytes, part.as_slice(), times)?;
-    bytes.extend_from_slice(last.as_slice())?;
+    push_repeated(&mut bytes, words)?;
     Ok(bytes)
 }
 

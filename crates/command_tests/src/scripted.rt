@@ -1,5 +1,6 @@
 //! A line in memory.
 
+use std::alloc::Global;
 use std::io;
 use std::io::{Read, Write};
 
@@ -40,21 +41,61 @@ impl Script {
 
     /// Whether the next piece isn't due yet.
     fn is_early(&self) -> bool {
-        self.giving == Giving::Paced
-            && self
-                .due
-                .get(self.next)
-                .is_none_or(|due| self.written.len() < *due)
+        match (self.giving, self.due.get(self.next)) {
+            (Giving::Paced, Some(due)) => self.written.len() < *due,
+            (Giving::Paced, None) => true,
+            _ => false,
+        }
     }
 
     /// What comes after the last piece.
-    fn next_byte(&mut self) -> Option<u8> {
-        if self.giving != Giving::Endless {
-            return None;
+    fn end(&self) -> &[u8] {
+        match (self.giving, self.at) {
+            (Giving::Endless, 0) => &[0xFF],
+            (Giving::Endless, _) => &[0xF1],
+            _ => &[],
         }
-        let first = self.at == 0;
-        self.at = if first { 1 } else { 0 };
-        Some(if first { 0xFF } else { 0xF1 })
+    }
+
+    /// What is left of the next piece, or what comes after the last.
+    fn rest(&self) -> &[u8] {
+        match self.pieces.get(self.next) {
+            Some(piece) => piece.as_slice().get(self.at..).unwrap_or(&[]),
+            None => self.end(),
+        }
+    }
+
+    /// Goes on by so many of so many bytes.
+    fn advance(&mut self, count: usize, length: usize) {
+        if self.next >= self.pieces.len() {
+            self.at = if self.at == 0 { 1 } else { 0 };
+        } else if count >= length {
+            self.next = self.next.saturating_add(1);
+            self.at = 0;
+        } else {
+            self.at = self.at.saturating_add(count);
+        }
+    }
+}
+
+/// A line that gives these pieces, takes so many bytes a write, and fails at the call of a number; never at 0.
+pub(crate) fn script_of(
+    alloc: Global,
+    pieces: Vec<Vec<u8>>,
+    width: usize,
+    fails_at: usize,
+) -> Script {
+    Script {
+        giving: Giving::Ends,
+        due: Vec::new(alloc),
+        pieces,
+        next: 0,
+        at: 0,
+        written: Vec::new(alloc),
+        width,
+        calls: 0,
+        fails_at,
+        read_failed: false,
     }
 }
 
@@ -68,25 +109,10 @@ impl Read for Script {
             self.read_failed = true;
             return Err(failure());
         }
-        let Some(piece) = self.pieces.get(self.next) else {
-            let Some((first, _rest)) = buf.split_first_mut() else {
-                return Ok(0);
-            };
-            let Some(byte) = self.next_byte() else {
-                return Ok(0);
-            };
-            *first = byte;
-            return Ok(1);
-        };
-        let rest = piece.as_slice().get(self.at..).unwrap_or(&[]);
-        let count = rest.len().min(buf.len());
-        buf[..count].copy_from_slice(&rest[..count]);
-        if count == rest.len() {
-            self.next = self.next.saturating_add(1);
-            self.at = 0;
-        } else {
-            self.at = self.at.saturating_add(count);
-        }
+        let mut rest = self.rest();
+        let length = rest.len();
+        let count = rest.read(buf)?;
+        self.advance(count, length);
         Ok(count)
     }
 }
@@ -97,8 +123,7 @@ impl Write for Script {
             return Err(failure());
         }
         let count = buf.len().min(self.width);
-        self.written.extend_from_slice(&buf[..count])?;
-        Ok(count)
+        self.written.write(&buf[..count])
     }
 
     fn flush(&mut self) -> io::Result<()> {
