@@ -209,6 +209,28 @@ fn drawn_layout<'a>(alloc: Global) -> Result<Arg<'a>, AllocError> {
     Ok(layout.help("With svg and html: name the fields of this layout, and mark what check finds"))
 }
 
+/// The file of the layout, which must be given.
+fn layout<'a>(alloc: Global) -> Arg<'a> {
+    Arg::new(alloc, "LAYOUT")
+        .required(true)
+        .help("The file of the layout, in TOML")
+}
+
+/// The file of the keys, which must be given.
+fn keys<'a>(alloc: Global) -> Arg<'a> {
+    Arg::new(alloc, "KEYS")
+        .required(true)
+        .help("The file of the keys, one a line")
+}
+
+/// What is asked for by its name alone.
+fn flag<'a>(alloc: Global, name: &'a str, help: &'a str) -> Arg<'a> {
+    Arg::new(alloc, name)
+        .long(name)
+        .action(ArgAction::SetTrue)
+        .help(help)
+}
+
 fn show<'a>(alloc: Global) -> Result<Command<'a>, AllocError> {
     let layout = drawn_layout(alloc)?;
     Command::new(alloc, "show")
@@ -219,24 +241,22 @@ fn show<'a>(alloc: Global) -> Result<Command<'a>, AllocError> {
         .arg(layout)
 }
 
-fn check<'a>(alloc: Global) -> Result<Command<'a>, AllocError> {
-    let layout = Arg::new(alloc, "LAYOUT")
-        .required(true)
-        .help("The file of the layout, in TOML");
-    let demo = Arg::new(alloc, "demo")
-        .long("demo")
-        .action(ArgAction::SetTrue)
-        .help("Press the keys of each finding that has some, and print what is sent");
-    let records = Arg::new(alloc, "records")
+/// The file of the records, where they aren't on standard input.
+fn records_file<'a>(alloc: Global) -> Arg<'a> {
+    Arg::new(alloc, "records")
         .long("records")
         .value_name("FILE")
-        .help("The file of the records, in place of standard input");
+        .help("The file of the records, in place of standard input")
+}
+
+fn check<'a>(alloc: Global) -> Result<Command<'a>, AllocError> {
+    let demo = "Press the keys of each finding that has some, and print what is sent";
     Command::new(alloc, "check")
         .about("Print yes, or the findings of records and a layout")
         .after_help(CHECK)
-        .arg(layout)?
-        .arg(demo)?
-        .arg(records)?
+        .arg(layout(alloc))?
+        .arg(flag(alloc, "demo", demo))?
+        .arg(records_file(alloc))?
         .arg(format(alloc, FINDING_FORMS, "How the findings are printed"))
 }
 
@@ -254,20 +274,14 @@ fn talk<'a>(alloc: Global) -> Result<Command<'a>, AllocError> {
 }
 
 fn press<'a>(alloc: Global) -> Result<Command<'a>, AllocError> {
-    let keys = Arg::new(alloc, "KEYS")
-        .required(true)
-        .help("The file of the keys, one a line");
     Command::new(alloc, "press")
         .about("Press keys on the screen that the records leave, and print what is sent")
         .after_help(PRESS)
-        .arg(keys)
+        .arg(keys(alloc))
 }
 
 fn convert<'a>(alloc: Global) -> Result<Command<'a>, AllocError> {
-    let back = Arg::new(alloc, "back")
-        .long("back")
-        .action(ArgAction::SetTrue)
-        .help("Read such lines, and print the records");
+    let back = flag(alloc, "back", "Read such lines, and print the records");
     Command::new(alloc, "convert")
         .about("Print each record as lines: its command and its orders")
         .after_help(CONVERT)
@@ -281,36 +295,31 @@ fn draft<'a>(alloc: Global) -> Command<'a> {
 }
 
 fn bind<'a>(alloc: Global) -> Result<Command<'a>, AllocError> {
-    let layout = Arg::new(alloc, "LAYOUT")
-        .required(true)
-        .help("The file of the layout, in TOML");
-    let text = Arg::new(alloc, "text")
-        .long("text")
-        .action(ArgAction::SetTrue)
-        .help("Print fields as text, and not in hexadecimal");
+    let text = "Print fields as text, and not in hexadecimal";
     Command::new(alloc, "bind")
         .about("Print the fields of each answer, by the names of a layout")
         .after_help(BIND)
-        .arg(layout)?
-        .arg(text)
+        .arg(layout(alloc))?
+        .arg(flag(alloc, "text", text))
 }
 
-fn records<'a>(alloc: Global) -> Result<Command<'a>, AllocError> {
-    let from = Arg::new(alloc, "from")
+/// What the lines are of.
+fn source<'a>(alloc: Global) -> Arg<'a> {
+    Arg::new(alloc, "from")
         .long("from")
         .value_name("SOURCE")
         .value_parser(SOURCES)
         .default_value("trace")
-        .help("Where the lines come from: a trace, or a captured stream");
-    let answers = Arg::new(alloc, "answers")
-        .long("answers")
-        .action(ArgAction::SetTrue)
-        .help("Print what the terminal sent, and not the host");
+        .help("Where the lines come from: a trace, or a captured stream")
+}
+
+fn records<'a>(alloc: Global) -> Result<Command<'a>, AllocError> {
+    let answers = "Print what the terminal sent, and not the host";
     Command::new(alloc, "records")
         .about("Print the records of a traced or captured session")
         .after_help(RECORDS)
-        .arg(from)?
-        .arg(answers)
+        .arg(source(alloc))?
+        .arg(flag(alloc, "answers", answers))
 }
 
 /// A port of TCP, which must be given.
@@ -323,68 +332,104 @@ fn port<'a>(alloc: Global, help: &'a str) -> Arg<'a> {
         .help(help)
 }
 
-fn serve<'a>(alloc: Global) -> Result<Command<'a>, AllocError> {
-    let layout = Arg::new(alloc, "LAYOUT")
-        .required(true)
-        .help("The file of the layout, in TOML");
-    let count = Arg::new(alloc, "count")
+/// The count of terminals, which must be given.
+fn count<'a>(alloc: Global) -> Arg<'a> {
+    Arg::new(alloc, "count")
         .long("count")
         .required(true)
         .value_name("N")
         .value_parser(clap::value_parser!(u16).range(1..=1000))
-        .help("How many terminals are served, one after the other: 1 to 1000");
-    let listen = Arg::new(alloc, "listen")
+        .help("How many terminals are served, one after the other: 1 to 1000")
+}
+
+/// The address of the machine itself.
+fn listen<'a>(alloc: Global) -> Arg<'a> {
+    Arg::new(alloc, "listen")
         .long("listen")
         .value_name("ADDRESS")
         .default_value("127.0.0.1")
-        .help("The address that is listened at");
+        .help("The address that is listened at")
+}
+
+fn serve<'a>(alloc: Global) -> Result<Command<'a>, AllocError> {
     Command::new(alloc, "serve")
         .about("Serve the screen to terminals over TCP, and print what they send")
         .after_help(SERVE)
-        .arg(layout)?
+        .arg(layout(alloc))?
         .arg(port(alloc, "The port that is listened at: 1 to 65535"))?
-        .arg(count)?
-        .arg(listen)
+        .arg(count(alloc))?
+        .arg(listen(alloc))
 }
 
-fn attach<'a>(alloc: Global) -> Result<Command<'a>, AllocError> {
-    let host = Arg::new(alloc, "HOST")
+/// The host, which must be given.
+fn host<'a>(alloc: Global) -> Arg<'a> {
+    Arg::new(alloc, "HOST")
         .required(true)
-        .help("The host's name or address");
-    let keys = Arg::new(alloc, "KEYS")
-        .required(true)
-        .help("The file of the keys, one a line");
-    let device = Arg::new(alloc, "device")
+        .help("The host's name or address")
+}
+
+/// What the terminal calls itself.
+fn device<'a>(alloc: Global) -> Arg<'a> {
+    Arg::new(alloc, "device")
         .long("device")
         .value_name("NAME")
         .default_value("IBM-3278-2")
-        .help("The terminal: IBM-3278-M or IBM-3279-M, M from 2 to 5, and -E where it is extended");
+        .help("The terminal: IBM-3278-M or IBM-3279-M, M from 2 to 5, and -E where it is extended")
+}
+
+fn attach<'a>(alloc: Global) -> Result<Command<'a>, AllocError> {
     Command::new(alloc, "attach")
         .about("Attach a terminal to a host over TCP, press keys, and print a report")
         .after_help(ATTACH)
-        .arg(host)?
-        .arg(keys)?
+        .arg(host(alloc))?
+        .arg(keys(alloc))?
         .arg(port(alloc, "The host's port: 1 to 65535"))?
-        .arg(device)
+        .arg(device(alloc))
 }
 
-/// The words of the command line, parsed.
-pub(crate) fn parsed<'a>(alloc: Global, words: &'a [String]) -> Result<ArgMatches<'a>, Error> {
+/// The program, before its commands.
+fn program<'a>(alloc: Global) -> Command<'a> {
     Command::new(alloc, "term3270")
         .version(VERSION)
         .about(
             "Shows, checks, converts and serves 3270 screens: records in hexadecimal, one a line, from standard input",
         )
         .after_help(STATUSES)
+}
+
+/// With the commands that show screens and judge them.
+fn with_screens<'a>(alloc: Global, program: Command<'a>) -> Result<Command<'a>, AllocError> {
+    program
         .subcommand(show(alloc)?)?
         .subcommand(check(alloc)?)?
         .subcommand(talk(alloc)?)?
-        .subcommand(press(alloc)?)?
+        .subcommand(press(alloc)?)
+}
+
+/// With the commands that turn lines into others.
+fn with_lines<'a>(alloc: Global, program: Command<'a>) -> Result<Command<'a>, AllocError> {
+    program
         .subcommand(convert(alloc)?)?
         .subcommand(draft(alloc))?
         .subcommand(bind(alloc)?)?
-        .subcommand(records(alloc)?)?
+        .subcommand(records(alloc)?)
+}
+
+/// With the commands over TCP.
+fn with_sessions<'a>(alloc: Global, program: Command<'a>) -> Result<Command<'a>, AllocError> {
+    program
         .subcommand(serve(alloc)?)?
-        .subcommand(attach(alloc)?)?
-        .try_get_matches_from(words)
+        .subcommand(attach(alloc)?)
+}
+
+/// The program with all its commands, in the order in which help lists them.
+fn with_commands<'a>(alloc: Global) -> Result<Command<'a>, AllocError> {
+    let screens = with_screens(alloc, program(alloc))?;
+    let lines = with_lines(alloc, screens)?;
+    with_sessions(alloc, lines)
+}
+
+/// The words of the command line, parsed.
+pub(crate) fn parsed<'a>(alloc: Global, words: &'a [String]) -> Result<ArgMatches<'a>, Error> {
+    with_commands(alloc)?.try_get_matches_from(words)
 }
