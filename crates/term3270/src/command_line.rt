@@ -397,36 +397,26 @@ fn program<'a>(alloc: Global) -> Command<'a> {
         .after_help(STATUSES)
 }
 
-/// With the commands that show screens and judge them.
-fn with_screens<'a>(alloc: Global, program: Command<'a>) -> Result<Command<'a>, AllocError> {
-    program
-        .subcommand(show(alloc)?)?
-        .subcommand(check(alloc)?)?
-        .subcommand(talk(alloc)?)?
-        .subcommand(press(alloc)?)
-}
-
-/// With the commands that turn lines into others.
-fn with_lines<'a>(alloc: Global, program: Command<'a>) -> Result<Command<'a>, AllocError> {
-    program
-        .subcommand(convert(alloc)?)?
-        .subcommand(draft(alloc))?
-        .subcommand(bind(alloc)?)?
-        .subcommand(records(alloc)?)
-}
-
-/// With the commands over TCP.
-fn with_sessions<'a>(alloc: Global, program: Command<'a>) -> Result<Command<'a>, AllocError> {
-    program
-        .subcommand(serve(alloc)?)?
-        .subcommand(attach(alloc)?)
+/// With one more command, where there was memory for it.
+fn with<'a>(
+    program: Command<'a>,
+    command: Result<Command<'a>, AllocError>,
+) -> Result<Command<'a>, AllocError> {
+    program.subcommand(command?)
 }
 
 /// The program with all its commands, in the order in which help lists them.
 fn with_commands<'a>(alloc: Global) -> Result<Command<'a>, AllocError> {
-    let screens = with_screens(alloc, program(alloc))?;
-    let lines = with_lines(alloc, screens)?;
-    with_sessions(alloc, lines)
+    let shown = with(program(alloc), show(alloc))?;
+    let checked = with(shown, check(alloc))?;
+    let talked = with(checked, talk(alloc))?;
+    let pressed = with(talked, press(alloc))?;
+    let converted = with(pressed, convert(alloc))?;
+    let drafted = with(converted, Ok(draft(alloc)))?;
+    let bound = with(drafted, bind(alloc))?;
+    let recorded = with(bound, records(alloc))?;
+    let served = with(recorded, serve(alloc))?;
+    with(served, attach(alloc))
 }
 
 /// The words of the command line, parsed.
