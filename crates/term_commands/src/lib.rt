@@ -24,5 +24,5 @@ pub use input::sizes::SizeLine;
 pub use law::{convert_law, lines_law};
 pub use output::answer::{Answer, finish, printed};
 pub use output::demo::{Demos, demo_sends, demo_terminal};
-pub use shown::show_all;
+pub use shown::shown_on;
 pub use status::Status;

@@ -30,16 +30,11 @@ message_data text = object (member (codes "text") (string text) no_members)
 abbrev pub level_data : Data
 level_data = object (member (codes "level") (string (codes "error")) no_members)
 
--- a rule with its meaning, how it is mended and what it says in brief
-abbrev pub described_data : Rule → Data → Data → Data → Data
-described_data rule meaning mend brief =
-    object (member (codes "defaultConfiguration") level_data (member (codes "fullDescription") meaning
-    (member (codes "help") mend (member (codes "id") (string (rule_id rule))
-    (member (codes "name") (string (rule_name rule)) (member (codes "shortDescription") brief no_members))))))
-
 unfoldable pub rule_data : Rule → Data
 rule_data rule =
-    described_data rule (message_data (meaning_of rule)) (message_data (rule_help rule)) (message_data (brief_of rule))
+    object (member (codes "defaultConfiguration") level_data (member (codes "fullDescription") (message_data (meaning_of rule))
+    (member (codes "help") (message_data (rule_help rule)) (member (codes "id") (string (rule_id rule))
+    (member (codes "name") (string (rule_name rule)) (member (codes "shortDescription") (message_data (brief_of rule)) no_members))))))
 
 abbrev pub driver_data : Data
 driver_data =
@@ -60,10 +55,13 @@ columns_region line (Some columns) =
 abbrev pub region_data : Region → Data
 region_data region = columns_region region.line region.columns
 
+-- the file of a path
+abbrev pub artifact_data : List ℕ → Data
+artifact_data path = object (member (codes "uri") (string (uri_of path)) no_members)
+
 abbrev pub physical_data : List ℕ → Region → Data
 physical_data path region =
-    object (member (codes "artifactLocation") (object (member (codes "uri") (string (uri_of path)) no_members))
-    (member (codes "region") (region_data region) no_members))
+    object (member (codes "artifactLocation") (artifact_data path) (member (codes "region") (region_data region) no_members))
 
 abbrev pub location_data : List ℕ → Region → Data
 location_data path region = object (member (codes "physicalLocation") (physical_data path region) no_members)
@@ -81,15 +79,11 @@ then_related None members = members
 then_related (Some related) members = member (codes "relatedLocations") (array (item related no_items)) members
 
 -- a result of this rule, in this file at this place, with this text, and with another place if there is one
--- an error of a rule at a location, with a message
-abbrev pub error_data : Rule → Data → Data → Option Data → Data
-error_data rule location message related =
-    object (member (codes "level") (string (codes "error")) (member (codes "locations") (array (item location no_items))
-    (member (codes "message") message
-    (then_related related (member (codes "ruleId") (string (rule_id rule)) (member (codes "ruleIndex") (count (rule_index rule)) no_members))))))
-
 unfoldable pub result_data : Rule → List ℕ → Region → List ℕ → Option Data → Data
-result_data rule path region text related = error_data rule (location_data path region) (message_data text) related
+result_data rule path region text related =
+    object (member (codes "level") (string (codes "error")) (member (codes "locations") (array (item (location_data path region) no_items))
+    (member (codes "message") (message_data text)
+    (then_related related (member (codes "ruleId") (string (rule_id rule)) (member (codes "ruleIndex") (count (rule_index rule)) no_members))))))
 
 abbrev pub help_end : Option (List ℕ) → List ℕ
 help_end None = []

@@ -15,12 +15,13 @@ ghost use Rattle.term_findings.specs.RecordLine.{record_numbers};
 ghost use Rattle.term_findings.specs.Report.{finding_line, verdict_data, verdict_word, refusal_data, pressed_lines, report_findings};
 
 use crate::members::finding_value;
+use crate::object::put_str;
 use crate::record_line::record_numbers;
 use ds_screen::PlaneCells;
 use ds_terminal::Terminal;
 use scr_check::Traced;
 use scr_layout::Layout;
-use serde_json::{Value, json};
+use serde_json::{Map, Value, put};
 use std::alloc::{AllocError, Global};
 use term_commands::{Answer, Demos, Fault, Status, demo_terminal};
 
@@ -141,9 +142,12 @@ fn verdict_value(
 ) -> Result<Value, AllocError>
     ensures { IfOk result (λ value. view value ≡ verdict_data fields records findings.now) }
 {
-    let found = findings.len();
-    let word = verdict_word(findings);
-    json!(in alloc; {"findings": found, "records": records, "fields": fields, "verdict": word})
+    let mut members = Map::new(alloc);
+    put(&mut members, alloc, "findings", Value::from(findings.len()))?;
+    put(&mut members, alloc, "records", Value::from(records))?;
+    put(&mut members, alloc, "fields", Value::from(fields))?;
+    put_str(alloc, &mut members, "verdict", verdict_word(findings))?;
+    Ok(Value::Object(members))
 }
 
 /// The line of the verdict.
@@ -166,7 +170,10 @@ fn refusal_value(alloc: Global, fault: Fault) -> Result<Value, AllocError>
     ensures { IfOk result (λ value. view value ≡ refusal_data fault) }
 {
     let words = format!(in alloc; "{fault}")?;
-    json!(in alloc; {"verdict": "refused", "words": words})
+    let mut members = Map::new(alloc);
+    put(&mut members, alloc, "words", Value::String(words))?;
+    put_str(alloc, &mut members, "verdict", "refused")?;
+    Ok(Value::Object(members))
 }
 
 /// The report of an input that is refused.

@@ -8,6 +8,7 @@ mod json;
 mod log;
 mod members;
 mod names;
+mod object;
 mod paths;
 mod record_line;
 mod region;

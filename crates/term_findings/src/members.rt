@@ -5,25 +5,23 @@ ghost use Rattle.std.specs.String.{string_bytes};
 ghost use Rattle.hex.specs.Hex.{encode_upper};
 ghost use Rattle.serde_json.specs.View.{view, members_view};
 ghost use Rattle.term_findings.specs.Facts.{sent_from};
-ghost use Rattle.term_findings.specs.Members.{with_count, with_text, with_words, with_spot, with_end, with_place, with_entry, with_sizes, with_keys, with_help, spot_data, pressed, keys_data, finding_data};
+ghost use Rattle.term_findings.specs.Members.{with_count, with_text, with_words, with_spot, with_end, with_place, with_entry, with_sizes, with_keys, with_help, spot_data, key_data, pressed, keys_data, finding_data};
 
 use crate::facts::{
     byte_of, column_at, entry_of, length_of, place_of, record_of, row_at, size_text, sizes_of,
 };
 use crate::help::help_text;
 use crate::names::name_of;
+use crate::object::{Members, put_str};
 use ds_codec::Size;
 use ds_screen::PlaneCells;
 use ds_terminal::Terminal;
 use order_lines::push_bytes;
 use scr_check::{Demo, Finding, Origin, Traced};
 use scr_layout::{Entry, Layout};
-use serde_json::{Map, Value, json, put};
+use serde_json::{Map, Value, put};
 use std::alloc::{AllocError, Global};
 use term_commands::demo_sends;
-
-/// The members of an object.
-type Members = Map<String, Value>;
 
 /// A number at a key, where there is one.
 fn put_count(
@@ -74,11 +72,10 @@ fn put_words(
     ensures { OnOk result (members_view members.new.entries
         ≡ with_words entries.now finding.now (members_view members.old.entries)) }
 {
+    put_number(alloc, members, "number", Some(u64::from(finding.number())))?;
+    put_str(alloc, members, "name", name_of(finding))?;
     let mut words = String::new(alloc);
     finding.push_text(&mut words, entries)?;
-    let name = String::from_str(alloc, name_of(finding))?;
-    put_number(alloc, members, "number", Some(u64::from(finding.number())))?;
-    put_text(alloc, members, "name", name)?;
     put_text(alloc, members, "words", words)
 }
 
@@ -186,7 +183,17 @@ fn put_sizes(
     put_text(alloc, members, "layout", size_text(alloc, declared)?)
 }
 
-/// A key as a line of keys, with how often it is pressed; nothing where it isn't.
+/// A key as a line of keys, with how often it is pressed.
+fn key_value(alloc: Global, line: &str, times: u32) -> Result<Value, AllocError>
+    ensures { IfOk result (λ value. view value ≡ key_data line.now times) }
+{
+    let mut members = Map::new(alloc);
+    put_str(alloc, &mut members, "key", line)?;
+    put(&mut members, alloc, "times", Value::from(times))?;
+    Ok(Value::Object(members))
+}
+
+/// The same among others; nothing where it isn't pressed.
 fn push_key(alloc: Global, keys: &mut Vec<Value>, line: &str, times: u32) -> Result<(), AllocError>
     ensures { OnOk result (map view keys.new.items
         ≡ map view keys.old.items ++ pressed line.now times) }
@@ -194,7 +201,7 @@ fn push_key(alloc: Global, keys: &mut Vec<Value>, line: &str, times: u32) -> Res
     if times == 0 {
         return Ok(());
     }
-    keys.push(json!(in alloc; {"key": line, "times": times})?)?;
+    keys.push(key_value(alloc, line, times)?)?;
     Ok(())
 }
 

@@ -1,23 +1,24 @@
 //! The report as a log of SARIF 2.1.0.
 
-ghost use Rattle.std.specs.Prelude.{◌≡◌, ◌≤◌, ◌++◌, false, map, option_map, IfOk, OnOk, None, Some};
+ghost use Rattle.std.specs.Prelude.{◌≡◌, ◌≤◌, ◌++◌, false, map, option_map, IfOk, OnOk, Some};
 ghost use Rattle.std.specs.String.{string_bytes};
-ghost use Rattle.serde_json.specs.Data.{array, depth};
+ghost use Rattle.serde_json.specs.Data.{array, item, no_items, depth, put as with_member};
 ghost use Rattle.serde_json.specs.Read.{read};
-ghost use Rattle.serde_json.specs.View.{view, items_of};
+ghost use Rattle.serde_json.specs.View.{view, items_of, members_view};
 ghost use Rattle.serde_json.specs.Written.{compact_text, has_float};
 ghost use Rattle.term_commands.specs.Fault.{fault_text};
 ghost use Rattle.term_findings.specs.Region.{standing_in};
 ghost use Rattle.term_findings.specs.Rule.{rule_help};
-ghost use Rattle.term_findings.specs.Sarif.{message_data, described_data, rule_data, tool_data, region_data, physical_data, location_data, end_data, error_data, result_data, help_end, message_of, end_of, finding_result, findings_data, refusal_results, refusal_log_data, run_data, log_data, findings_log_data};
+ghost use Rattle.term_findings.specs.Sarif.{message_data, level_data, rule_data, driver_data, tool_data, region_data, artifact_data, physical_data, location_data, end_data, result_data, help_end, message_of, end_of, finding_result, findings_data, refusal_results, refusal_log_data, run_data, log_data, findings_log_data};
 
 use crate::help::help_text;
-use crate::region::{Region, Standing, finding_region, order_region, standing_in};
+use crate::object::{Members, listed, put_str, single};
+use crate::region::{Columns, Region, Standing, finding_region, order_region, standing_in};
 use crate::rule::{Rule, all_rules, rule_of};
 use crate::uri::uri_of;
 use scr_check::{Finding, Origin, Traced};
 use scr_layout::Layout;
-use serde_json::{Value, json};
+use serde_json::{Map, Value, put};
 use std::alloc::{AllocError, Global};
 use term_commands::Fault;
 
@@ -29,7 +30,21 @@ const SCHEMA: &str = "https://json.schemastore.org/sarif-2.1.0.json";
 fn message_value(alloc: Global, text: &str) -> Result<Value, AllocError>
     ensures { IfOk result (λ value. view value ≡ message_data text.now) }
 {
-    json!(in alloc; {"text": text})
+    let text = String::from_str(alloc, text)?;
+    single(alloc, "text", Value::String(text))
+}
+
+/// A message at a key.
+fn put_message(
+    alloc: Global,
+    members: &mut Members,
+    key: &str,
+    text: &str,
+) -> Result<(), AllocError>
+    ensures { OnOk result (members_view members.new.entries
+        ≡ with_member key.now (message_data text.now) (members_view members.old.entries)) }
+{
+    put(members, alloc, key, message_value(alloc, text)?)
 }
 
 /// What a rule means, and how it is mended.
@@ -41,27 +56,12 @@ fn rule_help(alloc: Global, rule: Rule) -> Result<String, AllocError>
     format!(in alloc; "{meaning} {mend}")
 }
 
-/// A rule, with its texts.
-fn described_value(
-    alloc: Global,
-    rule: Rule,
-    meaning: Value,
-    mend: Value,
-    brief: Value,
-) -> Result<Value, AllocError>
-    ensures { IfOk result (λ value. view value
-        ≡ described_data rule (view meaning) (view mend) (view brief)) }
+/// The level of all results.
+fn level_value(alloc: Global) -> Result<Value, AllocError>
+    ensures { IfOk result (λ value. view value ≡ level_data) }
 {
-    let id = rule.id();
-    let name = rule.name();
-    json!(in alloc; {
-        "defaultConfiguration": {"level": "error"},
-        "fullDescription": meaning,
-        "help": mend,
-        "id": id,
-        "name": name,
-        "shortDescription": brief
-    })
+    let error = String::from_str(alloc, "error")?;
+    single(alloc, "level", Value::String(error))
 }
 
 #[tactic(auto, unfolding(crate::specs::Sarif::rule_data))]
@@ -69,10 +69,19 @@ fn rule_value(alloc: Global, rule: Rule) -> Result<Value, AllocError>
     ensures { IfOk result (λ value. view value ≡ rule_data rule) }
 {
     let help = rule_help(alloc, rule)?;
-    let meaning = message_value(alloc, rule.meaning())?;
-    let mend = message_value(alloc, help.as_str())?;
-    let brief = message_value(alloc, rule.brief())?;
-    described_value(alloc, rule, meaning, mend, brief)
+    let mut members = Map::new(alloc);
+    put(
+        &mut members,
+        alloc,
+        "defaultConfiguration",
+        level_value(alloc)?,
+    )?;
+    put_message(alloc, &mut members, "fullDescription", rule.meaning())?;
+    put_message(alloc, &mut members, "help", help.as_str())?;
+    put_str(alloc, &mut members, "id", rule.id())?;
+    put_str(alloc, &mut members, "name", rule.name())?;
+    put_message(alloc, &mut members, "shortDescription", rule.brief())?;
+    Ok(Value::Object(members))
 }
 
 fn rules_value(alloc: Global, rules: &[Rule]) -> Result<Value, AllocError>
@@ -85,95 +94,92 @@ fn rules_value(alloc: Global, rules: &[Rule]) -> Result<Value, AllocError>
     Ok(Value::Array(values))
 }
 
-/// The program, with its rules.
+/// The program's name and version, with its rules.
+fn driver_value(alloc: Global) -> Result<Value, AllocError>
+    ensures { IfOk result (λ value. view value ≡ driver_data) }
+{
+    let mut members = Map::new(alloc);
+    put_str(alloc, &mut members, "name", "term3270")?;
+    put(
+        &mut members,
+        alloc,
+        "rules",
+        rules_value(alloc, &all_rules())?,
+    )?;
+    put_str(alloc, &mut members, "version", VERSION)?;
+    Ok(Value::Object(members))
+}
+
 #[tactic(auto, unfolding(crate::specs::Sarif::tool_data))]
 fn tool_value(alloc: Global) -> Result<Value, AllocError>
     ensures { IfOk result (λ value. view value ≡ tool_data) }
 {
-    let rules = rules_value(alloc, &all_rules())?;
-    json!(in alloc; {"driver": {"name": "term3270", "rules": rules, "version": VERSION}})
+    single(alloc, "driver", driver_value(alloc)?)
 }
 
 fn region_value(alloc: Global, region: Region) -> Result<Value, AllocError>
     ensures { IfOk result (λ value. view value ≡ region_data region) }
 {
-    let line = region.line;
-    match region.columns {
-        Some(columns) => {
-            let after = columns.after;
-            let start = columns.start;
-            json!(in alloc; {"endColumn": after, "startColumn": start, "startLine": line})
-        }
-        None => json!(in alloc; {"startLine": line}),
+    let mut members = Map::new(alloc);
+    put(&mut members, alloc, "startLine", Value::from(region.line))?;
+    if let Some(Columns { start, after }) = region.columns {
+        put(&mut members, alloc, "startColumn", Value::from(start))?;
+        put(&mut members, alloc, "endColumn", Value::from(after))?;
     }
+    Ok(Value::Object(members))
+}
+
+/// The file of a path.
+fn artifact_value(alloc: Global, path: &str) -> Result<Value, AllocError>
+    ensures { IfOk result (λ value. view value ≡ artifact_data path.now) }
+{
+    let uri = uri_of(alloc, path)?;
+    single(alloc, "uri", Value::String(uri))
 }
 
 fn physical_value(alloc: Global, path: &str, region: Region) -> Result<Value, AllocError>
     ensures { IfOk result (λ value. view value ≡ physical_data path.now region) }
 {
-    let uri = uri_of(alloc, path)?;
-    let place = region_value(alloc, region)?;
-    json!(in alloc; {"artifactLocation": {"uri": uri}, "region": place})
+    let mut members = Map::new(alloc);
+    put(
+        &mut members,
+        alloc,
+        "artifactLocation",
+        artifact_value(alloc, path)?,
+    )?;
+    put(&mut members, alloc, "region", region_value(alloc, region)?)?;
+    Ok(Value::Object(members))
 }
 
 fn location_value(alloc: Global, path: &str, region: Region) -> Result<Value, AllocError>
     ensures { IfOk result (λ value. view value ≡ location_data path.now region) }
 {
     let physical = physical_value(alloc, path, region)?;
-    json!(in alloc; {"physicalLocation": physical})
+    single(alloc, "physicalLocation", physical)
 }
 
 /// Where the field of a finding ends.
 fn end_value(alloc: Global, path: &str, region: Region) -> Result<Value, AllocError>
     ensures { IfOk result (λ value. view value ≡ end_data path.now region) }
 {
-    let message = message_value(alloc, "the order that ends the field")?;
+    let mut members = Map::new(alloc);
+    put_message(
+        alloc,
+        &mut members,
+        "message",
+        "the order that ends the field",
+    )?;
     let physical = physical_value(alloc, path, region)?;
-    json!(in alloc; {"message": message, "physicalLocation": physical})
+    put(&mut members, alloc, "physicalLocation", physical)?;
+    Ok(Value::Object(members))
 }
 
-/// A result of a rule, without another place.
-fn single_value(
-    alloc: Global,
-    rule: Rule,
-    location: Value,
-    message: Value,
-) -> Result<Value, AllocError>
+/// The one location of a result.
+fn locations_value(alloc: Global, path: &str, region: Region) -> Result<Value, AllocError>
     ensures { IfOk result (λ value. view value
-        ≡ error_data rule (view location) (view message) None) }
+        ≡ array (item (location_data path.now region) no_items)) }
 {
-    let id = rule.id();
-    let index = rule.index();
-    json!(in alloc; {
-        "level": "error",
-        "locations": [location],
-        "message": message,
-        "ruleId": id,
-        "ruleIndex": index
-    })
-}
-
-/// The same with another place.
-fn related_value(
-    alloc: Global,
-    rule: Rule,
-    location: Value,
-    message: Value,
-    related: Value,
-) -> Result<Value, AllocError>
-    ensures { IfOk result (λ value. view value
-        ≡ error_data rule (view location) (view message) (Some (view related))) }
-{
-    let id = rule.id();
-    let index = rule.index();
-    json!(in alloc; {
-        "level": "error",
-        "locations": [location],
-        "message": message,
-        "relatedLocations": [related],
-        "ruleId": id,
-        "ruleIndex": index
-    })
+    listed(alloc, location_value(alloc, path, region)?)
 }
 
 /// A result of a rule at a place, with a text, and with another place if there is one.
@@ -189,12 +195,22 @@ fn result_value(
     ensures { IfOk result (λ value. view value
         ≡ result_data rule path.now region text.now (option_map view related)) }
 {
-    let location = location_value(alloc, path, region)?;
-    let message = message_value(alloc, text)?;
-    match related {
-        Some(related) => related_value(alloc, rule, location, message, related),
-        None => single_value(alloc, rule, location, message),
+    let mut members = Map::new(alloc);
+    put_str(alloc, &mut members, "level", "error")?;
+    let locations = locations_value(alloc, path, region)?;
+    put(&mut members, alloc, "locations", locations)?;
+    put_message(alloc, &mut members, "message", text)?;
+    put_str(alloc, &mut members, "ruleId", rule.id())?;
+    put(&mut members, alloc, "ruleIndex", Value::from(rule.index()))?;
+    if let Some(related) = related {
+        put(
+            &mut members,
+            alloc,
+            "relatedLocations",
+            listed(alloc, related)?,
+        )?;
     }
+    Ok(Value::Object(members))
 }
 
 fn push_help(out: &mut String, help: Option<String>) -> Result<(), AllocError>
@@ -291,8 +307,17 @@ fn results_value(
 fn run_value(alloc: Global, results: Value) -> Result<Value, AllocError>
     ensures { IfOk result (λ value. view value ≡ run_data (view results)) }
 {
-    let tool = tool_value(alloc)?;
-    json!(in alloc; {"results": results, "tool": tool})
+    let mut members = Map::new(alloc);
+    put(&mut members, alloc, "results", results)?;
+    put(&mut members, alloc, "tool", tool_value(alloc)?)?;
+    Ok(Value::Object(members))
+}
+
+/// The one run of a log.
+fn runs_value(alloc: Global, results: Value) -> Result<Value, AllocError>
+    ensures { IfOk result (λ value. view value ≡ array (item (run_data (view results)) no_items)) }
+{
+    listed(alloc, run_value(alloc, results)?)
 }
 
 /// A log of one run, with these results.
@@ -300,8 +325,12 @@ fn run_value(alloc: Global, results: Value) -> Result<Value, AllocError>
 fn log_value(alloc: Global, results: Value) -> Result<Value, AllocError>
     ensures { IfOk result (λ value. view value ≡ log_data (view results)) }
 {
-    let run = run_value(alloc, results)?;
-    json!(in alloc; {"$schema": SCHEMA, "runs": [run], "version": "2.1.0"})
+    let runs = runs_value(alloc, results)?;
+    let mut members = Map::new(alloc);
+    put(&mut members, alloc, "runs", runs)?;
+    put_str(alloc, &mut members, "$schema", SCHEMA)?;
+    put_str(alloc, &mut members, "version", "2.1.0")?;
+    Ok(Value::Object(members))
 }
 
 #[tactic(auto, using(crate::proofs::Logged::log_plain, crate::proofs::Logged::log_nests))]
@@ -355,7 +384,7 @@ fn refusal_results(
     };
     let rule = Rule::InputRefused;
     let told = result_value(alloc, rule, path, region, words.as_str(), None)?;
-    json!(in alloc; [told])
+    listed(alloc, told)
 }
 
 /// What is wrong with the input of this path, at a line, as a log of SARIF 2.1.0.

@@ -11,14 +11,13 @@ ghost use Rattle.term_pictures.specs.Annotated.{annotated_drawn, annotated_told,
 use crate::html::push_annotated_page;
 use crate::notes::push_annotated_svg;
 use ds_screen::{PlaneCells, Screen};
-use ds_terminal::Terminal;
 use scr_check::{Finding, Verdict, check};
 use scr_layout::{Entry, Layout};
 use std::alloc::{AllocError, Global};
 use std::io::{Read, Write};
 use term_commands::{
     Answer, CommandError, SizeLine, Status, finish, layout_in, lent, read_layout, read_records,
-    records_in, show_all,
+    records_in, shown_on,
 };
 
 /// In which form a screen is drawn with its layout.
@@ -65,6 +64,21 @@ fn findings_of(
     }
 }
 
+/// The text of the screen that records left, in a form, with a layout and what is found of both.
+fn annotated_screen(
+    alloc: Global,
+    form: Annotated,
+    layout: &Layout,
+    records: &[Vec<u8>],
+    screen: &Screen<PlaneCells>,
+) -> Result<String, AllocError>
+    ensures { IfOk result (λ text. string_bytes text ≡ annotated_drawn form layout.now.entries
+        (answer_of layout.now (records_held records.now)) screen.now) }
+{
+    let findings = findings_of(alloc, layout, records)?;
+    drawn(alloc, form, screen, layout.entries(), findings.as_slice())
+}
+
 /// What is printed of a layout and records that were told.
 fn annotated_told(
     alloc: Global,
@@ -75,12 +89,10 @@ fn annotated_told(
     ensures { Gives answer_seen result
         (annotated_told form layout.now (records_held records.now)) }
 {
-    let mut terminal = Terminal::<PlaneCells>::new(alloc, layout.geometry())?;
-    show_all(&mut terminal, records)?;
-    let findings = findings_of(alloc, layout, records)?;
-    let findings = findings.as_slice();
+    let terminal = shown_on(alloc, layout.geometry(), records)?;
+    let text = annotated_screen(alloc, form, layout, records, terminal.screen())?;
     Ok(Answer {
-        text: drawn(alloc, form, terminal.screen(), layout.entries(), findings)?,
+        text,
         status: Status::Done,
     })
 }

@@ -3,16 +3,18 @@
 ghost use Rattle.std.specs.Prelude.{◌≡◌, ◌<◌, ◌++◌, map, IfOk, OnOk, string_bytes};
 ghost use Rattle.std.specs.List.{range_with_len};
 ghost use Rattle.order_lines.specs.Print.{hex_byte};
+ghost use Rattle.serde_json.specs.Data.{string};
 ghost use Rattle.serde_json.specs.View.{view};
+ghost use Rattle.term_commands.specs.Screen.{lock_word};
 ghost use Rattle.term_pictures.specs.Seen.{is_numeric};
 ghost use Rattle.term_pictures.specs.Json.{field_data, fields_data, row_data, rows_data, screen_data, json_text, json_line};
 
 use crate::seen::is_intensified;
 use crate::words::word_of;
-use ds_codec::Attr;
-use ds_screen::{FieldAt, PlaneCells, Screen};
+use ds_codec::{Attr, Size};
+use ds_screen::{FieldAt, Lock, PlaneCells, Screen};
 use order_lines::push_hex;
-use serde_json::{Value, json};
+use serde_json::{Map, Value, put};
 use std::alloc::{AllocError, Global};
 
 /// Whether digits alone are to be typed.
@@ -23,38 +25,54 @@ fn is_numeric(attr: Attr) -> bool
 }
 
 /// Two hexadecimal digits.
-fn hex_text(alloc: Global, byte: u8) -> Result<String, AllocError>
-    ensures { IfOk result (λ text. string_bytes text ≡ hex_byte byte) }
+fn hex_value(alloc: Global, byte: u8) -> Result<Value, AllocError>
+    ensures { IfOk result (λ value. view value ≡ string (hex_byte byte)) }
 {
     let mut text = String::new(alloc);
     push_hex(&mut text, byte)?;
-    Ok(text)
+    Ok(Value::String(text))
 }
 
 fn field_value(alloc: Global, field: FieldAt) -> Result<Value, AllocError>
     ensures { IfOk result (λ value. view value ≡ field_data field) }
 {
     let attr = field.attr;
-    let attribute = hex_text(alloc, attr.bits())?;
-    let hidden = attr.hidden();
-    let intensified = is_intensified(attr);
-    let modified = attr.modified();
-    let numeric = is_numeric(attr);
-    let protected = attr.protected();
-    let at = field.at;
-    let length = field.length;
-    let place = field.place;
-    json!(in alloc; {
-        "at": at,
-        "attribute": attribute,
-        "hidden": hidden,
-        "intensified": intensified,
-        "length": length,
-        "modified": modified,
-        "numeric": numeric,
-        "place": place,
-        "protected": protected
-    })
+    let mut members = Map::new(alloc);
+    put(&mut members, alloc, "at", Value::from(field.at))?;
+    put(
+        &mut members,
+        alloc,
+        "attribute",
+        hex_value(alloc, attr.bits())?,
+    )?;
+    put(&mut members, alloc, "hidden", Value::from(attr.hidden()))?;
+    put(
+        &mut members,
+        alloc,
+        "intensified",
+        Value::from(is_intensified(attr)),
+    )?;
+    put(&mut members, alloc, "length", Value::from(field.length))?;
+    put(
+        &mut members,
+        alloc,
+        "modified",
+        Value::from(attr.modified()),
+    )?;
+    put(
+        &mut members,
+        alloc,
+        "numeric",
+        Value::from(is_numeric(attr)),
+    )?;
+    put(&mut members, alloc, "place", Value::from(field.place))?;
+    put(
+        &mut members,
+        alloc,
+        "protected",
+        Value::from(attr.protected()),
+    )?;
+    Ok(Value::Object(members))
 }
 
 fn fields_value(alloc: Global, screen: &Screen<PlaneCells>) -> Result<Value, AllocError>
@@ -84,27 +102,36 @@ fn rows_value(alloc: Global, screen: &Screen<PlaneCells>) -> Result<Value, Alloc
     Ok(Value::Array(rows))
 }
 
+fn keyboard_value(alloc: Global, lock: Lock) -> Result<Value, AllocError>
+    ensures { IfOk result (λ value. view value ≡ string (lock_word lock)) }
+{
+    Ok(Value::String(String::from_str(alloc, word_of(lock))?))
+}
+
 #[tactic(auto, unfolding(crate::specs::Json::screen_data))]
 fn screen_value(alloc: Global, screen: &Screen<PlaneCells>) -> Result<Value, AllocError>
     ensures { IfOk result (λ value. view value ≡ screen_data screen.now) }
 {
-    let size = screen.size();
-    let aid = hex_text(alloc, screen.aid().byte())?;
-    let columns = size.cols;
-    let cursor = screen.cursor();
-    let fields = fields_value(alloc, screen)?;
-    let keyboard = word_of(screen.lock());
-    let rows = size.rows;
-    let text = rows_value(alloc, screen)?;
-    json!(in alloc; {
-        "aid": aid,
-        "columns": columns,
-        "cursor": cursor,
-        "fields": fields,
-        "keyboard": keyboard,
-        "rows": rows,
-        "text": text
-    })
+    let Size { rows, cols } = screen.size();
+    let mut members = Map::new(alloc);
+    put(
+        &mut members,
+        alloc,
+        "aid",
+        hex_value(alloc, screen.aid().byte())?,
+    )?;
+    put(&mut members, alloc, "columns", Value::from(cols))?;
+    put(&mut members, alloc, "cursor", Value::from(screen.cursor()))?;
+    put(&mut members, alloc, "fields", fields_value(alloc, screen)?)?;
+    put(
+        &mut members,
+        alloc,
+        "keyboard",
+        keyboard_value(alloc, screen.lock())?,
+    )?;
+    put(&mut members, alloc, "rows", Value::from(rows))?;
+    put(&mut members, alloc, "text", rows_value(alloc, screen)?)?;
+    Ok(Value::Object(members))
 }
 
 /// The text of a screen's value.

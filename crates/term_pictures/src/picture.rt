@@ -12,11 +12,10 @@ use crate::html::push_page;
 use crate::json::push_json;
 use crate::svg::push_svg;
 use ds_screen::{PlaneCells, Screen};
-use ds_terminal::Terminal;
 use std::alloc::{AllocError, Global};
 use std::io::{Read, Write};
 use term_commands::{
-    Answer, CommandError, Records, SizeLine, Status, finish, read_records, records_in, show_all,
+    Answer, CommandError, Records, SizeLine, Status, finish, read_records, records_in, shown_on,
 };
 
 /// The text of a screen in a form.
@@ -37,8 +36,7 @@ fn drawn(alloc: Global, drawing: Drawing, screen: &Screen<PlaneCells>) -> Result
 fn picture_told(alloc: Global, drawing: Drawing, told: &Records) -> Result<Answer, CommandError>
     ensures { Gives answer_seen result (pictured_told drawing (records_seen told.now)) }
 {
-    let mut terminal = Terminal::<PlaneCells>::new(alloc, told.geometry)?;
-    show_all(&mut terminal, told.records.as_slice())?;
+    let terminal = shown_on(alloc, told.geometry, told.records.as_slice())?;
     Ok(Answer {
         text: drawn(alloc, drawing, terminal.screen())?,
         status: Status::Done,

@@ -18,7 +18,7 @@ use crate::input::records::{Records, read_records, records_in};
 use crate::input::sizes::SizeLine;
 use crate::output::answer::{Answer, finish};
 use crate::output::bytes::push_sent;
-use crate::shown::show_all;
+use crate::shown::shown_on;
 use crate::status::Status;
 use ds_keys::Key;
 use ds_screen::PlaneCells;
@@ -86,8 +86,7 @@ fn push_keys(
 fn press_told(alloc: Global, told: &Records, named: &Keys) -> Result<Answer, CommandError>
     ensures { Gives answer_seen result (press_told (records_seen told.now) (keys_seen named.now)) }
 {
-    let mut terminal = Terminal::<PlaneCells>::new(alloc, told.geometry)?;
-    show_all(&mut terminal, told.records.as_slice())?;
+    let mut terminal = shown_on(alloc, told.geometry, told.records.as_slice())?;
     let mut text = String::new(alloc);
     push_keys(alloc, &mut text, &mut terminal, named.keys.as_slice())?;
     Ok(Answer {

@@ -11,10 +11,8 @@ use crate::input::records::{Records, read_records, records_in};
 use crate::input::sizes::SizeLine;
 use crate::output::answer::{Answer, finish};
 use crate::output::screen::screen_text;
-use crate::shown::show_all;
+use crate::shown::shown_on;
 use crate::status::Status;
-use ds_screen::PlaneCells;
-use ds_terminal::Terminal;
 use std::alloc::Global;
 use std::io::{Read, Write};
 
@@ -22,8 +20,7 @@ use std::io::{Read, Write};
 fn show_told(alloc: Global, told: &Records) -> Result<Answer, CommandError>
     ensures { Gives answer_seen result (show_told (records_seen told.now)) }
 {
-    let mut terminal = Terminal::<PlaneCells>::new(alloc, told.geometry)?;
-    show_all(&mut terminal, told.records.as_slice())?;
+    let terminal = shown_on(alloc, told.geometry, told.records.as_slice())?;
     Ok(Answer {
         text: screen_text(alloc, terminal.screen())?,
         status: Status::Done,
