@@ -6,9 +6,10 @@
 //! `file TEXT` gives the layout or the keys of the lines below, or of `talk` the layouts, with `|` between two of them, and
 //! `many N TEXT` the same text so often as a file. `attach HEX` is a terminal that presses the file's keys on a host that
 //! sends these bytes, and `unflushed HEX` one whose line fails at each flush. `same FORM RECORDS` prints in a form, with the
-//! file as the layout, from streams and of texts, `next TEXT` reads lines, and `all-findings`, `traced` and `lines` call what
-//! `check` reports with. A verb, a command and its input run this command, where `^` stands for the file. In texts `\n`, `\r`
-//! and `\xFF` are bytes; a line that is printed 32 times or more one after the other is printed once, as `[F2*32]`.
+//! file as the layout, from streams and of texts, `next TEXT` reads lines, `told TEXT` prints what is told of the screen that
+//! records leave, and `all-findings`, `traced` and `lines` call what `check` reports with. A verb, a command and its input run
+//! this command, where `^` stands for the file. In texts `\n`, `\r` and `\xFF` are bytes; a line that is printed 32 times or
+//! more one after the other is printed once, as `[F2*32]`.
 //!
 //! `terminal classic responses HEX` and `host enhanced none HEX` say which core events come to below, each time a new one
 //! that first takes the events HEX. `event LABEL > HEX` prints what it answers to each event of HEX: the reply's bytes and
@@ -35,6 +36,7 @@ mod notation;
 mod reports;
 mod runs;
 mod scripted;
+mod told;
 
 use crate::attach::Flush;
 use crate::commands::Command;
@@ -101,6 +103,7 @@ fn push_read(row: &mut Row, file: &[u8], verb: &str, words: &str) -> bool {
         "unflushed" => attach::push_attached(row, words, file, Flush::Failed),
         "same" => forms::push_form(row, file, words),
         "next" => lines::push_read(row, words),
+        "told" => told::push_told(row, words),
         _ => return false,
     }
     true

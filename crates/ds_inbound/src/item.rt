@@ -3,7 +3,7 @@
 use ds_codec::Char;
 
 /// A character, or the mark and the place of a field.
-#[derive(Clone, Copy, Debug, PartialEq, Eq)]
+#[derive(Clone, Copy)]
 pub enum Item {
     Char(Char),
     Field(u32),

@@ -4,7 +4,7 @@ use ds_screen::FieldAt;
 use std::marker::Model;
 
 /// A field of the screen, with the name that a draft gives it.
-#[derive(Debug, Drop)]
+#[derive(Drop)]
 pub struct Drafted {
     pub name: String,
     pub field: FieldAt,

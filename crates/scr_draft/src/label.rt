@@ -10,7 +10,7 @@ use ds_screen::{PlaneCells, Screen};
 use std::alloc::AllocError;
 
 /// Positions of a row, from the first letter or digit to behind the last one; none where both are 0.
-#[derive(Clone, Copy, Debug, PartialEq, Eq)]
+#[derive(Clone, Copy)]
 pub struct Label {
     pub start: u32,
     pub stop: u32,

@@ -9,7 +9,7 @@ use ds_codec::{Attr, Cell, Char};
 use ds_screen::{PlaneCells, Screen, text_of};
 
 /// What an operator sees at a position, where it is text.
-#[derive(Clone, Copy, Debug, PartialEq, Eq)]
+#[derive(Clone, Copy)]
 pub enum Mark {
     /// No text: an attribute, or a character of a field that is unprotected or hidden.
     Border,

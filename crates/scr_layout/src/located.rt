@@ -3,7 +3,7 @@
 use ds_places::Placed;
 
 /// An entry's place, and its index.
-#[derive(Clone, Copy, Debug, PartialEq, Eq)]
+#[derive(Clone, Copy, Debug)]
 pub(crate) struct Located {
     pub place: u32,
     pub index: usize,

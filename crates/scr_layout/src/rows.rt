@@ -19,7 +19,7 @@ use std::alloc::{AllocError, Global};
 use toml::{Table, Value};
 
 /// How many entries a table stands for, and how many rows each lies below the one before it. Both are 1 to 255.
-#[derive(Clone, Copy, Debug, PartialEq, Eq)]
+#[derive(Clone, Copy)]
 pub(crate) struct Rows {
     pub count: u8,
     pub down: u8,

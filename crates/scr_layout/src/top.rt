@@ -13,7 +13,7 @@ use ds_codec::{Mode, Size};
 use toml::{Table, Value};
 
 /// The version of a layout's keys.
-#[derive(Clone, Copy, Debug, PartialEq, Eq)]
+#[derive(Clone, Copy)]
 pub(crate) enum Version {
     /// A field stands for one entry.
     One,

@@ -232,13 +232,12 @@ fn flag<'a>(alloc: Global, name: &'a str, help: &'a str) -> Arg<'a> {
 }
 
 fn show<'a>(alloc: Global) -> Result<Command<'a>, AllocError> {
-    let layout = drawn_layout(alloc)?;
     Command::new(alloc, "show")
         .about("Print the screen that the records leave (the default command)")
         .after_help(SHOW)
         .arg(format(alloc, SCREEN_FORMS, "How the screen is printed"))?
         .arg(color(alloc))?
-        .arg(layout)
+        .arg(drawn_layout(alloc)?)
 }
 
 /// The file of the records, where they aren't on standard input.
@@ -397,26 +396,61 @@ fn program<'a>(alloc: Global) -> Command<'a> {
         .after_help(STATUSES)
 }
 
-/// With one more command, where there was memory for it.
-fn with<'a>(
-    program: Command<'a>,
-    command: Result<Command<'a>, AllocError>,
-) -> Result<Command<'a>, AllocError> {
-    program.subcommand(command?)
+/// The commands, in the order in which help lists them.
+#[derive(Clone, Copy)]
+enum Named {
+    Show,
+    Check,
+    Talk,
+    Press,
+    Convert,
+    Draft,
+    Bind,
+    Records,
+    Serve,
+    Attach,
 }
 
-/// The program with all its commands, in the order in which help lists them.
+const COMMANDS: &[Named] = &[
+    Named::Show,
+    Named::Check,
+    Named::Talk,
+    Named::Press,
+    Named::Convert,
+    Named::Draft,
+    Named::Bind,
+    Named::Records,
+    Named::Serve,
+    Named::Attach,
+];
+
+fn command<'a>(alloc: Global, named: Named) -> Result<Command<'a>, AllocError> {
+    match named {
+        Named::Show => show(alloc),
+        Named::Check => check(alloc),
+        Named::Talk => talk(alloc),
+        Named::Press => press(alloc),
+        Named::Convert => convert(alloc),
+        Named::Draft => Ok(draft(alloc)),
+        Named::Bind => bind(alloc),
+        Named::Records => records(alloc),
+        Named::Serve => serve(alloc),
+        Named::Attach => attach(alloc),
+    }
+}
+
+/// With one more command.
+fn with<'a>(alloc: Global, program: Command<'a>, named: Named) -> Result<Command<'a>, AllocError> {
+    program.subcommand(command(alloc, named)?)
+}
+
+/// The program with all its commands.
 fn with_commands<'a>(alloc: Global) -> Result<Command<'a>, AllocError> {
-    let shown = with(program(alloc), show(alloc))?;
-    let checked = with(shown, check(alloc))?;
-    let talked = with(checked, talk(alloc))?;
-    let pressed = with(talked, press(alloc))?;
-    let converted = with(pressed, convert(alloc))?;
-    let drafted = with(converted, Ok(draft(alloc)))?;
-    let bound = with(drafted, bind(alloc))?;
-    let recorded = with(bound, records(alloc))?;
-    let served = with(recorded, serve(alloc))?;
-    with(served, attach(alloc))
+    let mut program = program(alloc);
+    for named in COMMANDS {
+        program = with(alloc, program, *named)?;
+    }
+    Ok(program)
 }
 
 /// The words of the command line, parsed.

@@ -51,7 +51,7 @@ impl Write for TcpLine {
 }
 
 /// A place on the net: a host's name or address, and a port.
-#[derive(Clone, Copy, Debug)]
+#[derive(Clone, Copy)]
 pub(crate) struct Place<'a> {
     pub host: &'a str,
     pub port: u16,

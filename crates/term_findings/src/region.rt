@@ -17,7 +17,7 @@ use term_commands::Fault;
 const MOST_BYTES: usize = 16_777_216;
 
 /// The columns of a byte's two digits, counted from 1.
-#[derive(Clone, Copy, Debug, PartialEq, Eq)]
+#[derive(Clone, Copy)]
 pub(crate) struct Columns {
     /// The first digit's.
     pub start: usize,
@@ -26,7 +26,7 @@ pub(crate) struct Columns {
 }
 
 /// Part of an input.
-#[derive(Clone, Copy, Debug, PartialEq, Eq)]
+#[derive(Clone, Copy)]
 pub(crate) struct Region {
     /// The line, counted from 1.
     pub line: usize,
@@ -35,7 +35,7 @@ pub(crate) struct Region {
 }
 
 /// Where records stand in their text: the line of each, counted from 1, and the column after each of its digits.
-#[derive(Debug, Drop)]
+#[derive(Drop)]
 pub(crate) struct Standing {
     numbers: Vec<usize>,
     ends: Vec<Vec<usize>>,

@@ -6,7 +6,7 @@ ghost use Rattle.term_findings.specs.Rule.{all_rules, rule_of, rule_index, rule_
 use scr_check::Finding;
 
 /// A kind of result.
-#[derive(Clone, Copy, Debug, PartialEq, Eq)]
+#[derive(Clone, Copy)]
 pub(crate) enum Rule {
     RecordRefused,
     NoRecord,

@@ -5,7 +5,9 @@ ghost use Rattle.scr_check.specs.Findings.{answer_of};
 ghost use Rattle.term_commands.specs.Fault.{Gives, GivesOrFails};
 ghost use Rattle.term_commands.specs.Held.{answer_seen, records_held};
 ghost use Rattle.term_commands.specs.LayoutText.{layout_in};
+ghost use Rattle.term_commands.specs.Printed.{printed};
 ghost use Rattle.term_commands.specs.Streams.{Prints};
+ghost use Rattle.term_commands.specs.declared.status.Status.TheVariants.{Done};
 ghost use Rattle.term_pictures.specs.Annotated.{annotated_drawn, annotated_told, annotated_records, annotated, printed_annotated};
 
 use crate::html::push_annotated_page;
@@ -64,19 +66,23 @@ fn findings_of(
     }
 }
 
-/// The text of the screen that records left, in a form, with a layout and what is found of both.
+/// The screen that records left, in a form, with a layout and what is found of both.
 fn annotated_screen(
     alloc: Global,
     form: Annotated,
     layout: &Layout,
     records: &[Vec<u8>],
     screen: &Screen<PlaneCells>,
-) -> Result<String, AllocError>
-    ensures { IfOk result (λ text. string_bytes text ≡ annotated_drawn form layout.now.entries
-        (answer_of layout.now (records_held records.now)) screen.now) }
+) -> Result<Answer, AllocError>
+    ensures { IfOk result (λ answer. answer_seen answer ≡ printed (annotated_drawn form
+        layout.now.entries (answer_of layout.now (records_held records.now)) screen.now) Done) }
 {
     let findings = findings_of(alloc, layout, records)?;
-    drawn(alloc, form, screen, layout.entries(), findings.as_slice())
+    let findings = findings.as_slice();
+    Ok(Answer {
+        text: drawn(alloc, form, screen, layout.entries(), findings)?,
+        status: Status::Done,
+    })
 }
 
 /// What is printed of a layout and records that were told.
@@ -90,11 +96,8 @@ fn annotated_told(
         (annotated_told form layout.now (records_held records.now)) }
 {
     let terminal = shown_on(alloc, layout.geometry(), records)?;
-    let text = annotated_screen(alloc, form, layout, records, terminal.screen())?;
-    Ok(Answer {
-        text,
-        status: Status::Done,
-    })
+    let screen = terminal.screen();
+    Ok(annotated_screen(alloc, form, layout, records, screen)?)
 }
 
 fn annotated_records(

@@ -2,17 +2,16 @@
 
 ghost use Rattle.std.specs.Prelude.{◌≡◌, ◌<◌, ◌*◌, ◌+◌, ◌++◌, length, OnOk, string_bytes};
 ghost use Rattle.std.specs.List.{flat_map, range_with_len};
-ghost use Rattle.ds_screen.specs.Fields.{is_character, fields_of};
+ghost use Rattle.ds_screen.specs.Fields.{is_character};
 ghost use Rattle.ds_screen.specs.Shown.{printed_under, printed_cell};
-ghost use Rattle.term_commands.specs.Screen.{header_line, field_line};
 ghost use Rattle.term_pictures.specs.Colored.{look_at, begins_run, ends_run, before_cell, behind_cell, colored_cell, colored_column, colored_row, colored_line, colored_text};
 
 use crate::look::Look;
 use crate::seen::{is_intensified, ruling};
-use crate::words::{push_field, push_header};
 use ds_codec::{Attr, Cell};
 use ds_screen::{PlaneCells, Screen, text_of};
 use std::alloc::AllocError;
+use term_commands::{push_field_lines, push_screen_line};
 
 /// What is printed of a cell, by what rules it.
 fn printed_under(ruling: Attr, cell: &Cell) -> u8
@@ -168,22 +167,11 @@ fn push_lines(out: &mut String, screen: &Screen<PlaneCells>) -> Result<(), Alloc
     Ok(())
 }
 
-/// The lines of the fields, as `show` prints them.
-fn push_fields(out: &mut String, screen: &Screen<PlaneCells>) -> Result<(), AllocError>
-    ensures { OnOk result (string_bytes out.new ≡ string_bytes out.old
-        ++ flat_map field_line (fields_of screen.now.cells)) }
-{
-    for field in screen.fields() {
-        push_field(out, field)?;
-    }
-    Ok(())
-}
-
 /// The text of `show` with looks.
 pub(crate) fn push_colored(out: &mut String, screen: &Screen<PlaneCells>) -> Result<(), AllocError>
     ensures { OnOk result (string_bytes out.new ≡ string_bytes out.old ++ colored_text screen.now) }
 {
-    push_header(out, screen)?;
-    push_fields(out, screen)?;
+    push_screen_line(out, screen)?;
+    push_field_lines(out, screen)?;
     push_lines(out, screen)
 }

@@ -10,12 +10,12 @@ ghost use Rattle.term_pictures.specs.Seen.{is_numeric};
 ghost use Rattle.term_pictures.specs.Json.{field_data, fields_data, row_data, rows_data, screen_data, json_text, json_line};
 
 use crate::seen::is_intensified;
-use crate::words::word_of;
 use ds_codec::{Attr, Size};
 use ds_screen::{FieldAt, Lock, PlaneCells, Screen};
 use order_lines::push_hex;
 use serde_json::{Map, Value, put};
 use std::alloc::{AllocError, Global};
+use term_commands::lock_word;
 
 /// Whether digits alone are to be typed.
 fn is_numeric(attr: Attr) -> bool
@@ -105,7 +105,7 @@ fn rows_value(alloc: Global, screen: &Screen<PlaneCells>) -> Result<Value, Alloc
 fn keyboard_value(alloc: Global, lock: Lock) -> Result<Value, AllocError>
     ensures { IfOk result (λ value. view value ≡ string (lock_word lock)) }
 {
-    Ok(Value::String(String::from_str(alloc, word_of(lock))?))
+    Ok(Value::String(String::from_str(alloc, lock_word(lock))?))
 }
 
 #[tactic(auto, unfolding(crate::specs::Json::screen_data))]

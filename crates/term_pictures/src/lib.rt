@@ -13,7 +13,6 @@ mod notes;
 mod picture;
 mod seen;
 mod svg;
-mod words;
 
 pub use annotated::{Annotated, annotated_text, run_annotated};
 pub use drawing::Drawing;

@@ -3,7 +3,7 @@
 use std::alloc::AllocError;
 
 /// The look of a cell.
-#[derive(Clone, Copy, Debug, PartialEq, Eq)]
+#[derive(Clone, Copy)]
 pub(crate) struct Look {
     /// A character of an intensified field.
     pub bold: bool,

@@ -11,7 +11,7 @@ use scr_check::Finding;
 use scr_layout::Entry;
 
 /// A frame, in units of the drawing.
-#[derive(Clone, Copy, Debug, PartialEq, Eq)]
+#[derive(Clone, Copy)]
 pub(crate) struct Frame {
     pub left: u32,
     pub top: u32,

@@ -3,7 +3,9 @@
 ghost use Rattle.std.specs.Prelude.{◌≡◌, IfOk, IfSome, string_bytes};
 ghost use Rattle.term_commands.specs.Fault.{Gives, GivesOrFails};
 ghost use Rattle.term_commands.specs.Held.{answer_seen, records_seen};
+ghost use Rattle.term_commands.specs.Printed.{printed};
 ghost use Rattle.term_commands.specs.Streams.{Prints};
+ghost use Rattle.term_commands.specs.declared.status.Status.TheVariants.{Done};
 ghost use Rattle.term_pictures.specs.Picture.{drawn, pictured_told, pictured, printed_picture};
 
 use crate::colored::push_colored;
@@ -32,15 +34,27 @@ fn drawn(alloc: Global, drawing: Drawing, screen: &Screen<PlaneCells>) -> Result
     Ok(out)
 }
 
+/// What is printed of a screen in a form.
+fn drawn_answer(
+    alloc: Global,
+    drawing: Drawing,
+    screen: &Screen<PlaneCells>,
+) -> Result<Answer, AllocError>
+    ensures { IfOk result (λ answer. answer_seen answer
+        ≡ printed (drawn drawing screen.now) Done) }
+{
+    Ok(Answer {
+        text: drawn(alloc, drawing, screen)?,
+        status: Status::Done,
+    })
+}
+
 /// What is printed, in a form, of the screen that records leave.
 fn picture_told(alloc: Global, drawing: Drawing, told: &Records) -> Result<Answer, CommandError>
     ensures { Gives answer_seen result (pictured_told drawing (records_seen told.now)) }
 {
     let terminal = shown_on(alloc, told.geometry, told.records.as_slice())?;
-    Ok(Answer {
-        text: drawn(alloc, drawing, terminal.screen())?,
-        status: Status::Done,
-    })
+    Ok(drawn_answer(alloc, drawing, terminal.screen())?)
 }
 
 /// What is printed, in a form, of the screen that a text of records leaves, or its first fault.

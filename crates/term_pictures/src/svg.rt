@@ -6,17 +6,17 @@ ghost use Rattle.term_pictures.specs.Seen.{seen_at};
 ghost use Rattle.term_pictures.specs.Svg.{left_of, top_of, places, escaped, class_of, text_element, seen_text, text_at, line_element, begins_line, line_at, size_words, cursor_words, cursor_place, keyboard_words, title, title_line, root_line, style_lines, head_lines, box_element, cursor_element, svg_element};
 
 use crate::seen::{is_intensified, open_length, ruling, seen_at};
-use crate::words::word_of;
 use ds_codec::Attr;
 use ds_screen::{Lock, PlaneCells, Screen};
 use std::alloc::AllocError;
+use term_commands::lock_word;
 
 /// The look of a drawing: green on black, what is intensified and the cursor white.
 const STYLE: &str =
     "<style>\ntext { fill: lime; font: 16px monospace }\ntext.bright { fill: white }\nline { stroke: lime }\nrect.cursor { fill: none; stroke: white }\n</style>\n<rect width=\"100%\" height=\"100%\"/>\n";
 
 /// Where a cell stands: its left edge and its upper edge.
-#[derive(Clone, Copy, Debug, PartialEq, Eq)]
+#[derive(Clone, Copy)]
 pub(crate) struct Corner {
     pub left: u32,
     pub top: u32,
@@ -187,7 +187,7 @@ fn push_keyboard(out: &mut String, lock: Lock) -> Result<(), AllocError>
     ensures { OnOk result (string_bytes out.new ≡ string_bytes out.old ++ keyboard_words lock) }
 {
     out.push_str(", keyboard ")?;
-    out.push_str(word_of(lock))
+    out.push_str(lock_word(lock))
 }
 
 /// Where the cursor stands.

@@ -16,7 +16,7 @@ use tn_session::RunFault;
 use tn_traces::{Said, Side};
 
 /// What comes after a line.
-#[derive(Clone, Copy, Debug, PartialEq, Eq)]
+#[derive(Clone, Copy)]
 pub(crate) enum Next {
     /// The next line.
     Goes,

@@ -15,7 +15,7 @@ use tn_traces::{Negotiated, Sender, negotiated_after, read_record};
 use tn_wire::{Deframer, Event, Step};
 
 /// What is known of a connection beside what is open of its streams.
-#[derive(Clone, Copy, Debug, PartialEq, Eq)]
+#[derive(Clone, Copy)]
 pub(crate) struct Reading {
     /// How far TN3270E is agreed.
     pub(crate) now: Negotiated,
@@ -24,7 +24,7 @@ pub(crate) struct Reading {
 }
 
 /// What is to be done with the events of a piece.
-#[derive(Clone, Copy, Debug, PartialEq, Eq)]
+#[derive(Clone, Copy)]
 pub(crate) struct Task {
     /// Who sent it.
     pub(crate) sender: Sender,

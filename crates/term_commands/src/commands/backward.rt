@@ -6,20 +6,20 @@ use ds_codec::Geometry;
 use order_lines::Draft;
 
 /// The size for which records are written.
-#[derive(Clone, Copy, Debug, PartialEq, Eq)]
+#[derive(Clone, Copy)]
 pub enum SizeInUse {
     Default,
     Alternate,
 }
 
 /// The bytes of a record.
-#[derive(Debug, Drop)]
+#[derive(Drop)]
 pub struct WrittenRecord {
     pub bytes: Vec<u8>,
 }
 
 /// What order lines tell.
-#[derive(Debug, Drop)]
+#[derive(Drop)]
 pub struct Backward {
     /// A line of sizes may come before any line that is neither empty nor a comment.
     pub size_line: SizeLine,

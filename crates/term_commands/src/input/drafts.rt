@@ -12,7 +12,7 @@ use order_lines::{Told, read_line};
 use std::alloc::{AllocError, Global};
 
 /// What one line tells.
-#[derive(Debug, Drop)]
+#[derive(Drop)]
 pub enum OrderLine {
     /// It is empty, which ends a record.
     Empty,

@@ -20,7 +20,7 @@ use std::io::Read;
 const MOST_KEYS: usize = 100_000;
 
 /// What one line tells.
-#[derive(Clone, Copy, Debug)]
+#[derive(Clone, Copy)]
 pub enum KeyLine {
     Ignored,
     Named(Key),

@@ -25,7 +25,7 @@ pub const MOST_RECORDS: usize = 1_000;
 pub const MOST_RECORD_BYTES: usize = 32_768;
 
 /// What one line tells.
-#[derive(Debug, Drop)]
+#[derive(Drop)]
 pub enum Line {
     Ignored,
     Sizes(Geometry),

@@ -19,7 +19,7 @@ use std::io::Read;
 use std::mem::replace;
 
 /// The records that lines tell, turn by turn.
-#[derive(Debug, Drop)]
+#[derive(Drop)]
 pub struct Turns {
     /// The turns that ended.
     pub ended: Vec<Vec<Vec<u8>>>,

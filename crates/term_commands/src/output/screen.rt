@@ -10,7 +10,8 @@ use ds_screen::{FieldAt, Lock, PlaneCells, Screen};
 use order_lines::push_hex;
 use std::alloc::{AllocError, Global};
 
-fn word_of(lock: Lock) -> &'static str
+/// The word of a keyboard's state: `free`, `waiting` or `error`.
+pub fn lock_word(lock: Lock) -> &'static str
     ensures { result.now ≡ lock_word lock }
 {
     match lock {
@@ -20,14 +21,19 @@ fn word_of(lock: Lock) -> &'static str
     }
 }
 
-fn push_header(out: &mut String, screen: &Screen<PlaneCells>) -> Result<(), AllocError>
+/// Adds the line of a screen: its size, cursor, keyboard and attention identifier.
+///
+/// # Errors
+///
+/// Where a request for memory was refused.
+pub fn push_screen_line(out: &mut String, screen: &Screen<PlaneCells>) -> Result<(), AllocError>
     ensures { OnOk result (string_bytes out.new ≡ string_bytes out.old ++ header_line screen.now) }
 {
     let size = screen.size();
     let rows = size.rows;
     let cols = size.cols;
     let cursor = screen.cursor();
-    let lock = word_of(screen.lock());
+    let lock = lock_word(screen.lock());
     write!(
         out,
         "screen {rows}x{cols} cursor {cursor} keyboard {lock} aid "
@@ -50,7 +56,12 @@ fn push_field(out: &mut String, field: FieldAt) -> Result<(), AllocError>
     write!(out, " place {place} length {length}\n")
 }
 
-fn push_fields(out: &mut String, screen: &Screen<PlaneCells>) -> Result<(), AllocError>
+/// Adds a line for each field, in the order of their places: its attribute, its first cell and its length.
+///
+/// # Errors
+///
+/// Where a request for memory was refused.
+pub fn push_field_lines(out: &mut String, screen: &Screen<PlaneCells>) -> Result<(), AllocError>
     ensures { OnOk result (string_bytes out.new ≡ string_bytes out.old
         ++ flat_map field_line (fields_of screen.now.cells)) }
 {
@@ -89,8 +100,8 @@ pub fn screen_text(alloc: Global, screen: &Screen<PlaneCells>) -> Result<String,
     ensures { IfOk result (λ text. string_bytes text ≡ screen_text screen.now) }
 {
     let mut out = String::new(alloc);
-    push_header(&mut out, screen)?;
-    push_fields(&mut out, screen)?;
+    push_screen_line(&mut out, screen)?;
+    push_field_lines(&mut out, screen)?;
     push_rows(alloc, &mut out, screen)?;
     Ok(out)
 }
