@@ -78,7 +78,14 @@ abbrev pub then_related : Option Data → Members → Members
 then_related None members = members
 then_related (Some related) members = member (codes "relatedLocations") (array (item related no_items)) members
 
--- a result of this rule, in this file at this place, with this text, and with another place if there is one
+-- a result of this rule, in this file at this place, with this text
+abbrev pub result_members : Rule → List ℕ → Region → List ℕ → Members
+result_members rule path region text =
+    member (codes "level") (string (codes "error")) (member (codes "locations") (array (item (location_data path region) no_items))
+    (member (codes "message") (message_data text)
+    (member (codes "ruleId") (string (rule_id rule)) (member (codes "ruleIndex") (count (rule_index rule)) no_members))))
+
+-- the same, and with another place if there is one
 unfoldable pub result_data : Rule → List ℕ → Region → List ℕ → Option Data → Data
 result_data rule path region text related =
     object (member (codes "level") (string (codes "error")) (member (codes "locations") (array (item (location_data path region) no_items))

@@ -1,15 +1,15 @@
 //! The report as a log of SARIF 2.1.0.
 
-ghost use Rattle.std.specs.Prelude.{◌≡◌, ◌≤◌, ◌++◌, false, map, option_map, IfOk, OnOk, Some};
+ghost use Rattle.std.specs.Prelude.{◌≡◌, ◌≤◌, ◌++◌, codes, false, map, option_map, IfOk, OnOk, Some};
 ghost use Rattle.std.specs.String.{string_bytes};
-ghost use Rattle.serde_json.specs.Data.{array, item, no_items, depth, put as with_member};
+ghost use Rattle.serde_json.specs.Data.{array, object, item, no_items, depth, put as with_member};
 ghost use Rattle.serde_json.specs.Read.{read};
 ghost use Rattle.serde_json.specs.View.{view, items_of, members_view};
 ghost use Rattle.serde_json.specs.Written.{compact_text, has_float};
 ghost use Rattle.term_commands.specs.Fault.{fault_text};
 ghost use Rattle.term_findings.specs.Region.{standing_in};
 ghost use Rattle.term_findings.specs.Rule.{rule_help};
-ghost use Rattle.term_findings.specs.Sarif.{message_data, level_data, rule_data, driver_data, tool_data, region_data, artifact_data, physical_data, location_data, end_data, result_data, help_end, message_of, end_of, finding_result, findings_data, refusal_results, refusal_log_data, run_data, log_data, findings_log_data};
+ghost use Rattle.term_findings.specs.Sarif.{message_data, level_data, rule_data, driver_data, tool_data, columns_region, region_data, artifact_data, physical_data, location_data, end_data, result_members, result_data, help_end, message_of, end_of, finding_result, findings_data, refusal_results, refusal_log_data, run_data, log_data, findings_log_data};
 
 use crate::help::help_text;
 use crate::object::{Members, listed, put_str, single};
@@ -117,16 +117,29 @@ fn tool_value(alloc: Global) -> Result<Value, AllocError>
     single(alloc, "driver", driver_value(alloc)?)
 }
 
+/// The columns of a line.
+fn columns_value(alloc: Global, line: usize, columns: Columns) -> Result<Value, AllocError>
+    ensures { IfOk result (λ value. view value ≡ columns_region line (Some columns)) }
+{
+    let mut members = Map::new(alloc);
+    put(&mut members, alloc, "endColumn", Value::from(columns.after))?;
+    put(
+        &mut members,
+        alloc,
+        "startColumn",
+        Value::from(columns.start),
+    )?;
+    put(&mut members, alloc, "startLine", Value::from(line))?;
+    Ok(Value::Object(members))
+}
+
 fn region_value(alloc: Global, region: Region) -> Result<Value, AllocError>
     ensures { IfOk result (λ value. view value ≡ region_data region) }
 {
-    let mut members = Map::new(alloc);
-    put(&mut members, alloc, "startLine", Value::from(region.line))?;
-    if let Some(Columns { start, after }) = region.columns {
-        put(&mut members, alloc, "startColumn", Value::from(start))?;
-        put(&mut members, alloc, "endColumn", Value::from(after))?;
+    match region.columns {
+        Some(columns) => columns_value(alloc, region.line, columns),
+        None => single(alloc, "startLine", Value::from(region.line)),
     }
-    Ok(Value::Object(members))
 }
 
 /// The file of a path.
@@ -182,6 +195,37 @@ fn locations_value(alloc: Global, path: &str, region: Region) -> Result<Value, A
     listed(alloc, location_value(alloc, path, region)?)
 }
 
+/// The members of a result of a rule at a place, with a text.
+fn result_members(
+    alloc: Global,
+    rule: Rule,
+    path: &str,
+    region: Region,
+    text: &str,
+) -> Result<Members, AllocError>
+    ensures { IfOk result (λ members. members_view members.entries
+        ≡ result_members rule path.now region text.now) }
+{
+    let mut members = Map::new(alloc);
+    put_str(alloc, &mut members, "level", "error")?;
+    let locations = locations_value(alloc, path, region)?;
+    put(&mut members, alloc, "locations", locations)?;
+    put_message(alloc, &mut members, "message", text)?;
+    put_str(alloc, &mut members, "ruleId", rule.id())?;
+    put(&mut members, alloc, "ruleIndex", Value::from(rule.index()))?;
+    Ok(members)
+}
+
+/// An object with another place.
+fn related_value(alloc: Global, mut members: Members, related: Value) -> Result<Value, AllocError>
+    ensures { IfOk result (λ value. view value ≡ object (with_member (codes "relatedLocations")
+        (array (item (view related) no_items)) (members_view members.entries))) }
+{
+    let places = listed(alloc, related)?;
+    put(&mut members, alloc, "relatedLocations", places)?;
+    Ok(Value::Object(members))
+}
+
 /// A result of a rule at a place, with a text, and with another place if there is one.
 #[tactic(auto, unfolding(crate::specs::Sarif::result_data))]
 fn result_value(
@@ -195,22 +239,11 @@ fn result_value(
     ensures { IfOk result (λ value. view value
         ≡ result_data rule path.now region text.now (option_map view related)) }
 {
-    let mut members = Map::new(alloc);
-    put_str(alloc, &mut members, "level", "error")?;
-    let locations = locations_value(alloc, path, region)?;
-    put(&mut members, alloc, "locations", locations)?;
-    put_message(alloc, &mut members, "message", text)?;
-    put_str(alloc, &mut members, "ruleId", rule.id())?;
-    put(&mut members, alloc, "ruleIndex", Value::from(rule.index()))?;
-    if let Some(related) = related {
-        put(
-            &mut members,
-            alloc,
-            "relatedLocations",
-            listed(alloc, related)?,
-        )?;
+    let members = result_members(alloc, rule, path, region, text)?;
+    match related {
+        Some(related) => related_value(alloc, members, related),
+        None => Ok(Value::Object(members)),
     }
-    Ok(Value::Object(members))
 }
 
 fn push_help(out: &mut String, help: Option<String>) -> Result<(), AllocError>
