@@ -4,7 +4,7 @@ use ds_codec::Attr;
 use ds_places::Placed;
 
 /// An attribute and its position, counted from 0.
-#[derive(Clone, Copy, Debug, PartialEq, Eq)]
+#[derive(Clone, Copy)]
 pub struct Mark {
     pub at: u32,
     pub attribute: Attr,

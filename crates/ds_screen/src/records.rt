@@ -108,7 +108,7 @@ pub(crate) fn clear_unprotected<C: Cells>(cells: &mut C) -> u32
 }
 
 /// What a write begins with.
-#[derive(Clone, Copy, Debug, PartialEq, Eq)]
+#[derive(Clone, Copy)]
 pub(crate) struct Base {
     /// The write control character.
     pub wcc: u8,

@@ -3,7 +3,7 @@
 use ds_codec::{Attr, Cell};
 
 /// A position, the attribute that rules it, and its cell.
-#[derive(Clone, Copy, Debug, PartialEq, Eq)]
+#[derive(Clone, Copy)]
 pub(crate) struct RuledCell {
     /// The position, counted from 0.
     pub at: u32,

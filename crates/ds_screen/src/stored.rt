@@ -7,7 +7,7 @@ ghost use Rattle.ds_screen.specs.declared.stored.Kind.TheVariants.{Plain};
 use ds_codec::{Attr, Cell, Char};
 
 /// What the code of a position is.
-#[derive(Clone, Copy, Debug, PartialEq, Eq)]
+#[derive(Clone, Copy, PartialEq, Eq)]
 pub(crate) enum Kind {
     /// The bits of an attribute.
     Attribute,
@@ -28,7 +28,7 @@ pub(crate) fn is_plain(kind: Kind) -> bool
 }
 
 /// The kind and the code of a position.
-#[derive(Clone, Copy, Debug, PartialEq, Eq)]
+#[derive(Clone, Copy)]
 pub(crate) struct Stored {
     pub kind: Kind,
     pub code: u8,
