@@ -44,16 +44,6 @@ marked_ruled v w cells rule old size within each =
       ];
     }
 
-pub marked_blank : (v : Marked) (n : ℕ) → v.marks ≡ [] → v.size ≡ n → IsMarked v (replicate n blank)
-marked_blank v n none size =
-    record {
-      sized = length-replicate n blank ∙ sym size;
-      each = λ p. ap (λ l. at_place place_of l p) none ∙ ap (mark_of p) (sym (elim (cases_lt p n) [
-        | inl lt ↦ get_or-replicate n p blank blank lt
-        | inr far ↦ past_blank (replicate n blank) p (omega (arith, length-replicate n blank))
-      ]));
-    }
-
 -- ---- one cell
 pub field_each : (cells : List Cell) (p q bits : ℕ)
     → cond (eqb p q) (Some (let m : Mark = record { at = p; attribute = bits } in m)) (mark_of q (cell_at cells q)) ≡ mark_of q (single_cell cells p (Field bits) q)
@@ -231,14 +221,6 @@ none_there v cells q marked none = no_mark q (cell_at cells q) (sym (marked.each
     no_mark q (Field bits) e = absurd cc
     no_mark q (Char c) e = refl
 
-pub attribute_told : (v : Marked) (cells : List Cell) (q : ℕ) (o : Option Mark) → IsMarked v cells → o ≡ at_place place_of v.marks q
-    → option_map (λ mark. mark.attribute) o ≡ attribute_of (cell_at cells q)
-attribute_told v cells q o marked is = ap (option_map (λ (mark : Mark). mark.attribute)) (is ∙ marked.each q) ∙ told q (cell_at cells q)
-  where
-    told : (q : ℕ) (cell : Cell) → option_map (λ (mark : Mark). mark.attribute) (mark_of q cell) ≡ attribute_of cell
-    told q (Field bits) = refl
-    told q (Char c) = refl
-
 -- ---- the first from a position on
 pub first_there : (v : Marked) (cells : List Cell) (b : ℕ) (mark : Mark) → IsMarked v cells → IsFirstFrom place_of v.marks b (Some mark) → IsFirst is_attribute cells b mark.at
 first_there v cells b mark marked found =
@@ -383,17 +365,6 @@ held_inside v q mark kept held =
 abbrev pub NoneFree : List Cell → ℕ → ℕ → Type 0
 NoneFree cells from at = (q : ℕ) → from ≤ q → q < at → is_unprotected_attribute (cell_at cells q) ≡ false
 
-pub free_more : (v : Marked) (cells : List Cell) (from at : ℕ) (mark : Mark) → IsMarked v cells → IsFirstFrom place_of v.marks at (Some mark)
-    → not (is_protected mark.attribute) ≡ false → NoneFree cells from at → NoneFree cells from (mark.at + 1)
-free_more v cells from at mark marked found shut misses q low high =
-    elim (cases_lt q at) [
-      | inl early ↦ misses q low early
-      | inr late ↦ elim (cases_eq q mark.at) [
-        | inl same ↦ ap (λ z. is_unprotected_attribute (cell_at cells z)) same ∙ ap is_unprotected_attribute (held_there v cells mark.at mark marked found.1).0 ∙ shut
-        | inr apart ↦ not_unprotected (cell_at cells q) (none_there v cells q marked (found.2 q late (omega arith)))
-      ]
-    ]
-
 pub free_found : (v : Marked) (cells : List Cell) (from at : ℕ) (mark : Mark) → IsMarked v cells → from ≤ at → IsFirstFrom place_of v.marks at (Some mark)
     → not (is_protected mark.attribute) ≡ true → NoneFree cells from at → first_from is_unprotected_attribute cells from ≡ Some mark.at
 free_found v cells from at mark marked order found opens misses =
@@ -462,15 +433,6 @@ last_rules v cells mark marked found =
           let end : n - 1 ≡ mark.at = omega (arith, there.2) in
           ap (ruling_bits cells) end ∙ sym own
     ]))
-
-pub nothing_rules : (v : Marked) (cells : List Cell) → IsMarked v cells → IsLastBelow place_of v.marks v.size None → 0 < v.size
-    → 0 ≡ ruling_bits cells (ring_back (length cells) 0 1)
-nothing_rules v cells marked none some =
-    let n : ℕ = length cells in
-    let p : ℕ = ring_back n 0 1 in
-    let inside : p < n = back_lt n 0 1 (omega (arith, marked.sized)) (omega (arith, marked.sized)) (omega arith) in
-    sym (ap (bits_at cells) (sym (before_none cells n p refl
-    (λ d few. none_there v cells (ring_back n p d) marked (none (ring_back n p d) (let lt = back_inside_ring n p d inside few in omega (arith, lt, marked.sized)))))))
 
 -- ---- the least open position
 abbrev pub NoneOpen : List Cell → ℕ → Type 0

@@ -37,13 +37,6 @@ pub planes_as : (codes : List ℕ) (kinds : List Kind) (n : ℕ) (rule : ℕ →
 unfolding plane_cells
 planes_as codes kinds n rule len same = ap (λ m. ruled m (plane_cell codes kinds)) len ∙ ruled_same n (plane_cell codes kinds) rule same
 
-set_one : {T : Type 0} (xs : List T) (p q : ℕ) (x d : T) → q < length xs → get_or (set xs q x) p d ≡ cond (eqb p q) x (get_or xs p d)
-set_one xs p q x d lt =
-    elim (cases_eq p q) [
-      | inl same ↦ ap (λ k. get_or (set xs q x) k d) same ∙ get_or-set_same xs q x d lt ∙ sym (cond-true (eqb p q) _ _ (eq-eqb p q same))
-      | inr apart ↦ get_or-set_other xs q p x d apart ∙ sym (cond-false (eqb p q) _ _ (ne_eqb p q apart))
-    ]
-
 pub planes_set : (codes : List ℕ) (kinds : List Kind) (q code : ℕ) (kind : Kind) → length kinds ≡ length codes → q < length codes
     → plane_cells (set codes q code) (set kinds q kind) ≡ set (plane_cells codes kinds) q (stored_cell kind code)
 unfolding plane_cells
@@ -54,23 +47,6 @@ planes_set codes kinds q code kind same lt =
     (λ p below apart.
     ap (λ k. stored_cell k (get_or (set codes q code) p 0)) (get_or-set_other kinds q p kind Plain apart)
     ∙ ap (stored_cell (get_or kinds p Plain)) (get_or-set_other codes q p code 0 apart)))
-
-pub are_set : (codes : List ℕ) (kinds : List Kind) (q code : ℕ) (kind : Kind) → ArePlanes codes kinds → q < length codes → is_storable kind code ≡ true
-    → ArePlanes (set codes q code) (set kinds q kind)
-are_set codes kinds q code kind planes lt good =
-    record {
-      same = length-set kinds q kind ∙ planes.same ∙ sym (length-set codes q code);
-      each = λ p below. elim (cases_eq p q) [
-        | inl here ↦
-            ap (λ z. is_storable (get_or (set kinds q kind) z Plain) (get_or (set codes q code) z 0)) here
-            ∙ ap (λ k. is_storable k (get_or (set codes q code) q 0)) (get_or-set_same kinds q kind Plain (omega (arith, planes.same)))
-            ∙ ap (is_storable kind) (get_or-set_same codes q code 0 lt) ∙ good
-        | inr apart ↦
-            ap (λ k. is_storable k (get_or (set codes q code) p 0)) (get_or-set_other kinds q p kind Plain apart)
-            ∙ ap (is_storable (get_or kinds p Plain)) (get_or-set_other codes q p code 0 apart)
-            ∙ planes.each p (omega (arith, length-set codes q code))
-      ];
-    }
 
 pub planes_blank : (codes : List ℕ) (kinds : List Kind) (n : ℕ) → codes ≡ replicate n 0 → kinds ≡ replicate n Plain → plane_cells codes kinds ≡ replicate n blank
 planes_blank codes kinds n zeros plain =
@@ -113,12 +89,6 @@ stay_plain kinds kind from to p d all is inside =
           get_or_default kinds p d Plain (omega (arith, below, inside)) ∙ all p ∙ sym is
       | false ↦ λ outside. refl
     ] refl
-
-pub plain_set : (kinds : List Kind) (q : ℕ) (kind : Kind) → AreAllPlain kinds → kind ≡ Plain → q < length kinds → AreAllPlain (set kinds q kind)
-plain_set kinds q kind all is inside p = elim (cases_eq p q) [
-  | inl here ↦ ap (λ i. get_or (set kinds q kind) i Plain) here ∙ get_or-set_same kinds q kind Plain inside ∙ is
-  | inr apart ↦ get_or-set_other kinds q p kind Plain apart ∙ all p
-]
 
 -- ---- what a method sees of the planes that it works on
 pub counted : (codes : List ℕ) (kinds : List Kind) (room : ℕ) (now : Held) → held_cells codes kinds room ≡ now → length codes ≡ length now.cells

@@ -21,11 +21,6 @@ attributes_skip cells p lt none =
     let more : length cells - p ≡ suc (length cells - (p + 1)) = omega arith in
     ap (λ k. filter (λ q. is_attribute (cell_at cells q)) (range_with_len p k)) more ∙ cond-false (is_attribute (cell_at cells p)) _ _ none
 
-pub attributes_end : (cells : List Cell) (p : ℕ) → length cells ≤ p → attributes_from cells p ≡ []
-attributes_end cells p far =
-    let none : length cells - p ≡ 0 = omega arith in
-    ap (λ k. filter (λ q. is_attribute (cell_at cells q)) (range_with_len p k)) none
-
 -- ---- ring steps
 pub back_on : (n q i e : ℕ) → q < n → i < n → e ≤ i → ring_back n (ring_on n q i) e ≡ ring_on n q (i - e)
 back_on n q i e inside few less =

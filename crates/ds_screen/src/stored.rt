@@ -7,7 +7,7 @@ ghost use Rattle.ds_screen.specs.declared.stored.Kind.TheVariants.{Plain};
 use ds_codec::{Attr, Cell, Char};
 
 /// What the code of a position is.
-#[derive(Clone, Copy)]
+#[derive(Clone, Copy, PartialEq, Eq)]
 pub(crate) enum Kind {
     /// The bits of an attribute.
     Attribute,

@@ -1,11 +1,11 @@
--- The orders that are looked for first: no command and no other order begins as they do.
+-- Lines by their first word: no command and no other order begins as they do.
 use Rattle.std.proofs.Common.{◌≡◌, ℕ, List, ◌++◌, refl}
 use Rattle.std.specs.Prelude.{codes, Option, Some, None}
 use Rattle.std.specs.Option.{option_map}
 use Rattle.hex.specs.Hex.{decode_of}
-use Rattle.ds_codec.specs.Order.{Item}
-use Rattle.order_lines.specs.Words.{byte_told}
-use Rattle.order_lines.specs.Told.{order, first_told, attribute_from, text_from, command_told, order_told, short_told, told_of}
+use Rattle.ds_codec.specs.Order.{Item, start_field_extended, modify_field, set_buffer_address, erase_unprotected_to_address}
+use Rattle.order_lines.specs.Words.{byte_told, number_told, pairs_told}
+use Rattle.order_lines.specs.Told.{order, first_told, attribute_from, text_from, repeat_told, command_told, order_told, short_told, address_told, told_of}
 
 order_first : (told : Option Item) → first_told None told ≡ option_map order told
 order_first (Some told) = refl
@@ -18,3 +18,27 @@ text_first rest = order_first (text_from (decode_of rest))
 pub attribute_first : (rest : List ℕ) → told_of (codes "SF " ++ rest) ≡ option_map order (attribute_from (byte_told rest))
 unfolding command_told order_told short_told
 attribute_first rest = order_first (attribute_from (byte_told rest))
+
+pub set_address_first : (rest : List ℕ) → address_told (codes "SBA " ++ rest) ≡ option_map set_buffer_address (number_told rest)
+unfolding address_told
+set_address_first rest = refl
+
+pub erase_first : (rest : List ℕ) → address_told (codes "EUA " ++ rest) ≡ option_map erase_unprotected_to_address (number_told rest)
+unfolding address_told
+erase_first rest = refl
+
+pub repeat_first : (rest : List ℕ) → address_told (codes "RA " ++ rest) ≡ repeat_told rest
+unfolding address_told
+repeat_first rest = refl
+
+pub text_told_first : (rest : List ℕ) → order_told (codes "TEXT " ++ rest) ≡ text_from (decode_of rest)
+unfolding order_told
+text_told_first rest = refl
+
+pub extended_first : (rest : List ℕ) → order_told (codes "SFE" ++ rest) ≡ option_map start_field_extended (pairs_told rest)
+unfolding order_told
+extended_first rest = refl
+
+pub modify_first : (rest : List ℕ) → order_told (codes "MF" ++ rest) ≡ option_map modify_field (pairs_told rest)
+unfolding order_told
+modify_first rest = refl

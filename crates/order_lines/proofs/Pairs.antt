@@ -1,5 +1,5 @@
 -- Pairs read one after the other.
-use Rattle.std.proofs.Common.{◌≡◌, ◌<◌, ℕ, true, false, cond, eqb, List, [], ◌∷◌, ◌++◌, length, Option, Some, None, refl, sym, ap, ◌∙◌, arith, append_assoc}
+use Rattle.std.proofs.Common.{◌≡◌, ℕ, true, false, cond, eqb, List, [], ◌∷◌, ◌++◌, length, Option, Some, None, refl, sym, ap, ◌∙◌, append_assoc}
 use Rattle.std.specs.Option.{option_map}
 use Rattle.order_lines.specs.Words.{pair_told, pair_before, first_pair_of, pairs_more, pairs_told}
 
@@ -16,8 +16,8 @@ from_pair : (pair : Option (ℕ × ℕ)) (rest : List ℕ) → pairs_more pair (
 from_pair (Some pair) rest = refl
 from_pair None rest = refl
 
-first_of : (words : List ℕ) → 0 < length words → pairs_told words ≡ after_first (first_pair_of words)
-first_of [] some = absurd (omega arith)
+first_of : (words : List ℕ) → eqb (length words) 0 ≡ false → pairs_told words ≡ after_first (first_pair_of words)
+first_of [] some = absurd cc
 first_of (s ∷ []) some = refl
 first_of (s ∷ a ∷ []) some = refl
 first_of (s ∷ a ∷ b ∷ []) some = refl
@@ -30,18 +30,17 @@ first_of (s ∷ a ∷ b ∷ e ∷ c ∷ d ∷ rest) some =
       | false ↦ refl
     ]
 
-front_more : (bytes : List ℕ) (kind value : ℕ) (others : Option (List ℕ)) → before_pairs ((bytes ++ kind ∷ []) ++ value ∷ []) others ≡ before_pairs bytes (pairs_more (Some (kind, value)) others)
+front_more : (bytes : List ℕ) (kind value : ℕ) (others : Option (List ℕ)) → before_pairs (bytes ++ kind ∷ value ∷ []) others ≡ before_pairs bytes (pairs_more (Some (kind, value)) others)
 front_more bytes kind value None = refl
-front_more bytes kind value (Some others) =
-    ap Some (append_assoc (bytes ++ kind ∷ []) (value ∷ []) others ∙ append_assoc bytes (kind ∷ []) (value ∷ others))
+front_more bytes kind value (Some others) = ap Some (append_assoc bytes (kind ∷ value ∷ []) others)
 
 -- a pair more was read
-pub pair_pushed : (bytes after words rest others : List ℕ) (kind value : ℕ) → before_pairs bytes (pairs_told rest) ≡ pairs_told words → 0 < length rest
-    → Some (kind, value, others) ≡ first_pair_of rest → after ≡ (bytes ++ kind ∷ []) ++ value ∷ [] → before_pairs after (pairs_told others) ≡ pairs_told words
+pub pair_pushed : (bytes after words rest others : List ℕ) (kind value : ℕ) → before_pairs bytes (pairs_told rest) ≡ pairs_told words → eqb (length rest) 0 ≡ false
+    → Some (kind, value, others) ≡ first_pair_of rest → after ≡ bytes ++ kind ∷ value ∷ [] → before_pairs after (pairs_told others) ≡ pairs_told words
 pair_pushed bytes after words rest others kind value so_far some first is =
     rw is (front_more bytes kind value (pairs_told others) ∙ ap (before_pairs bytes) (ap after_first first ∙ sym (first_of rest some)) ∙ so_far)
 
 -- what follows begins with no pair
-pub no_pair : (bytes words rest : List ℕ) → before_pairs bytes (pairs_told rest) ≡ pairs_told words → 0 < length rest → None ≡ first_pair_of rest → None ≡ pairs_told words
+pub no_pair : (bytes words rest : List ℕ) → before_pairs bytes (pairs_told rest) ≡ pairs_told words → eqb (length rest) 0 ≡ false → None ≡ first_pair_of rest → None ≡ pairs_told words
 no_pair bytes words rest so_far some none =
     ap (before_pairs bytes) (ap after_first none ∙ sym (first_of rest some)) ∙ so_far

@@ -129,12 +129,12 @@ pub fn push_bytes(out: &mut String, bytes: &[u8]) -> Result<(), AllocError>
     push_part(out, rest)
 }
 
-fn push_pair(out: &mut String, kind: u8, value: u8) -> Result<(), AllocError>
-    ensures { OnOk result (string_bytes out.new ≡ string_bytes out.old ++ pair_word kind value) }
+fn push_pair(out: &mut String, name: &str, kind: u8, value: u8) -> Result<(), AllocError>
+    ensures { OnOk result (string_bytes out.new ≡ string_bytes out.old ++ (name.now
+        ++ pair_word kind value)) }
 {
-    push_hex(out, kind)?;
-    out.push_str("=")?;
-    push_hex(out, value)
+    push_named(out, name, kind)?;
+    push_named(out, "=", value)
 }
 
 fn push_pairs(out: &mut String, pairs: &[u8]) -> Result<(), AllocError>
@@ -142,11 +142,19 @@ fn push_pairs(out: &mut String, pairs: &[u8]) -> Result<(), AllocError>
 {
     let mut rest = pairs;
     while let [kind, value, others @ ..] = rest {
-        out.push_str(" ")?;
-        push_pair(out, *kind, *value)?;
+        push_pair(out, " ", *kind, *value)?;
         rest = others;
     }
     Ok(())
+}
+
+/// A name, and pairs.
+fn push_list(out: &mut String, name: &str, pairs: &[u8]) -> Result<(), AllocError>
+    ensures { OnOk result (string_bytes out.new ≡ string_bytes out.old ++ (name.now
+        ++ pair_words pairs.now)) }
+{
+    out.push_str(name)?;
+    push_pairs(out, pairs)
 }
 
 fn push_named(out: &mut String, name: &str, byte: u8) -> Result<(), AllocError>
@@ -186,19 +194,10 @@ fn push_order(out: &mut String, order: &Order<'_>) -> Result<(), AllocError>
             push_bytes(out, run)
         }
         Order::Sf(attribute) => push_named(out, "SF ", attribute.bits()),
-        Order::Sfe(pairs) => {
-            out.push_str("SFE")?;
-            push_pairs(out, pairs)
-        }
+        Order::Sfe(pairs) => push_list(out, "SFE", pairs),
         Order::Sba(address) => write!(out, "SBA {address}"),
-        Order::Sa(kind, value) => {
-            out.push_str("SA ")?;
-            push_pair(out, *kind, *value)
-        }
-        Order::Mf(pairs) => {
-            out.push_str("MF")?;
-            push_pairs(out, pairs)
-        }
+        Order::Sa(kind, value) => push_pair(out, "SA ", *kind, *value),
+        Order::Mf(pairs) => push_list(out, "MF", pairs),
         Order::Ic => out.push_str("IC"),
         Order::Pt => out.push_str("PT"),
         Order::Ra(address, character) => push_repeat(out, *address, *character),

@@ -3,8 +3,8 @@
 ghost use Rattle.std.specs.Prelude.{◌≡◌, IfOk, Some, None, true, false};
 ghost use Rattle.std.specs.Option.{option_map};
 ghost use Rattle.hex.specs.Hex.{decode_of};
-ghost use Rattle.ds_codec.specs.Order.{start_field_extended, modify_field, graphic_escape};
-ghost use Rattle.order_lines.specs.Words.{byte_told, pair_told, pairs_told};
+ghost use Rattle.ds_codec.specs.Order.{start_field_extended, modify_field, graphic_escape, set_buffer_address, erase_unprotected_to_address};
+ghost use Rattle.order_lines.specs.Words.{byte_told, pair_told, pairs_told, number_told};
 ghost use Rattle.order_lines.specs.Told.{write_told, alone_told, command_told, attribute_from, character_from, set_from, character_told, repeat_told, text_from, address_told, short_told, order_told, order as as_order, told_of, item_held, told_held};
 
 use crate::owned_order::OwnedOrder;
@@ -39,15 +39,15 @@ fn write_line(line: &[u8]) -> Option<Command>
 fn alone_line(line: &[u8]) -> Option<Command>
     ensures { result ≡ alone_told line.now }
 {
-    if line == b"EAU".as_slice() {
+    if *line == *b"EAU".as_slice() {
         Some(Command::EraseAllUnprotected)
-    } else if line == b"RB".as_slice() {
+    } else if *line == *b"RB".as_slice() {
         Some(Command::ReadBuffer)
-    } else if line == b"RM".as_slice() {
+    } else if *line == *b"RM".as_slice() {
         Some(Command::ReadModified)
-    } else if line == b"RMA".as_slice() {
+    } else if *line == *b"RMA".as_slice() {
         Some(Command::ReadModifiedAll)
-    } else if line == b"NOP".as_slice() {
+    } else if *line == *b"NOP".as_slice() {
         Some(Command::NoOperation)
     } else {
         None
@@ -85,16 +85,33 @@ fn repeat_line(rest: &[u8]) -> Option<OwnedOrder>
     Some(OwnedOrder::Ra(address, character))
 }
 
+/// The address of Set Buffer Address.
+fn set_address_line(rest: &[u8]) -> Option<OwnedOrder>
+    ensures { option_map item_held result ≡ option_map set_buffer_address (number_told rest.now) }
+{
+    let address = number(rest)?;
+    Some(OwnedOrder::Sba(address))
+}
+
+/// The address of Erase Unprotected to Address.
+fn erase_line(rest: &[u8]) -> Option<OwnedOrder>
+    ensures { option_map item_held result
+        ≡ option_map erase_unprotected_to_address (number_told rest.now) }
+{
+    let address = number(rest)?;
+    Some(OwnedOrder::Eua(address))
+}
+
 /// The orders with an address.
 #[tactic(auto, unfolding(crate::specs::Told::address_told))]
 fn address_line(line: &[u8]) -> Option<OwnedOrder>
     ensures { option_map item_held result ≡ address_told line.now }
 {
     if let Some(rest) = line.strip_prefix(b"SBA ".as_slice()) {
-        return Some(OwnedOrder::Sba(number(rest)?));
+        return set_address_line(rest);
     }
     if let Some(rest) = line.strip_prefix(b"EUA ".as_slice()) {
-        return Some(OwnedOrder::Eua(number(rest)?));
+        return erase_line(rest);
     }
     match line.strip_prefix(b"RA ".as_slice()) {
         Some(rest) => repeat_line(rest),
@@ -144,9 +161,9 @@ fn short_line(line: &[u8]) -> Option<OwnedOrder>
     if let Some(rest) = line.strip_prefix(b"GE ".as_slice()) {
         return graphic_line(rest);
     }
-    if line == b"IC".as_slice() {
+    if *line == *b"IC".as_slice() {
         Some(OwnedOrder::Ic)
-    } else if line == b"PT".as_slice() {
+    } else if *line == *b"PT".as_slice() {
         Some(OwnedOrder::Pt)
     } else {
         address_line(line)

@@ -1,6 +1,6 @@
 //! Words of a line: bytes in hexadecimal, pairs, numbers.
 
-ghost use Rattle.std.specs.Prelude.{◌≡◌, ◌==◌, ◌<◌, ◌+◌, ◌-◌, ◌*◌, not, true, length, position, IfSome, OnOk, IfOk};
+ghost use Rattle.std.specs.Prelude.{◌≡◌, ◌∷◌, [], ◌==◌, ◌<◌, ◌+◌, ◌-◌, ◌*◌, not, true, length, position, IfSome, OnOk, IfOk};
 ghost use Rattle.std.specs.Option.{option_map};
 ghost use Rattle.std.specs.Char.{is_ascii_digit};
 ghost use Rattle.std.specs.List.{list_all};
@@ -20,16 +20,33 @@ pub fn byte(word: &[u8]) -> Option<u8>
     }
 }
 
+/// A type and a value, where both were read.
+fn pair_from(kind: Option<u8>, value: Option<u8>) -> Option<(u8, u8)>
+    ensures { result ≡ pair_from kind value }
+{
+    match (kind, value) {
+        (Some(kind), Some(value)) => Some((kind, value)),
+        _ => None,
+    }
+}
+
+/// A type and a value, by their digits and the sign between them.
+fn pair_of(a: u8, b: u8, sign: u8, c: u8, d: u8) -> Option<(u8, u8)>
+    ensures { result ≡ pair_told (a ∷ b ∷ sign ∷ c ∷ d ∷ []) }
+{
+    if sign == b'=' {
+        pair_from(byte_of_digits(a, b), byte_of_digits(c, d))
+    } else {
+        None
+    }
+}
+
 /// A type and a value with `=` between them.
 pub fn pair(word: &[u8]) -> Option<(u8, u8)>
     ensures { result ≡ pair_told word.now }
 {
     match word {
-        [a, b, b'=', c, d] => {
-            let kind = byte_of_digits(*a, *b)?;
-            let value = byte_of_digits(*c, *d)?;
-            Some((kind, value))
-        }
+        [a, b, sign, c, d] => pair_of(*a, *b, *sign, *c, *d),
         _ => None,
     }
 }
@@ -41,9 +58,8 @@ fn first_pair(words: &[u8]) -> Option<(u8, u8, &[u8])>
     ensures shorter { IfSome result (λ first. length first.2.now < length words.now) }
 {
     match words {
-        [b' ', a, b, b'=', c, d, others @ ..] => {
-            let kind = byte_of_digits(*a, *b)?;
-            let value = byte_of_digits(*c, *d)?;
+        [b' ', a, b, sign, c, d, others @ ..] => {
+            let (kind, value) = pair_of(*a, *b, *sign, *c, *d)?;
             Some((kind, value, others))
         }
         _ => None,
@@ -61,8 +77,7 @@ pub fn pairs(alloc: Global, words: &[u8]) -> Result<Option<Vec<u8>>, AllocError>
         let Some((kind, value, others)) = first_pair(rest) else {
             return Ok(None);
         };
-        bytes.push(kind)?;
-        bytes.push(value)?;
+        bytes.extend_from_slice(&[kind, value])?;
         rest = others;
     }
     Ok(Some(bytes))
