@@ -1,6 +1,7 @@
 -- Records in turn under the rule of their turn: one record further, and that the rules are those of the openings.
-use Rattle.std.proofs.Common.{◌≡◌, ℕ, suc, ◌+◌, ◌<◌, List, [], ◌∷◌, map, length, get_or, drop, Result, Ok, Err, refl, sym, ◌∙◌, ap, arith}
+use Rattle.std.proofs.Common.{◌≡◌, ℕ, suc, ◌+◌, ◌<◌, ◌≤◌, List, [], ◌∷◌, map, length, get_or, drop, Result, Ok, Err, refl, sym, ◌∙◌, ap, arith}
 use Rattle.std.proofs.Math.Seq.{drop-cons}
+use Rattle.std.proofs.lemmas.List.{drop_all}
 use Rattle.ds_codec.specs.declared.refused.Refused as read
 use Rattle.ds_codec.specs.Record.{Message}
 use Rattle.ds_codec.specs.Reading.{◌>>=◌, read_of}
@@ -17,6 +18,17 @@ one_more fault f records index d w next lt takes =
     ap (λ k. all_taken_by fault (index + 1) next (map f (drop k records))) (let e : index + 1 ≡ suc index = omega arith in e)
     ∙ sym (ap (λ l. all_taken_by fault index w (map f l)) (drop-cons records index d lt)
     ∙ ap (λ r. r >>= λ later. all_taken_by fault (index + 1) later (map f (drop (suc index) records))) takes)
+
+pub one_stops : {A : Type 0} (fault : Fault) (f : A → List ℕ) (records : List A) (index : ℕ) (d : A) (w : Picture) (finding : Finding) → index < length records
+    → taken_by fault index w (read_of w.geometry.mode (f (get_or records index d))) ≡ Err finding
+    → all_taken_by fault index w (map f (drop index records)) ≡ Err finding
+one_stops fault f records index d w finding lt stops =
+    ap (λ l. all_taken_by fault index w (map f l)) (drop-cons records index d lt)
+    ∙ ap (λ r. r >>= λ later. all_taken_by fault (index + 1) later (map f (drop (suc index) records))) stops
+
+pub all_end : {A : Type 0} (fault : Fault) (f : A → List ℕ) (records : List A) (index : ℕ) (w : Picture) → length records ≤ index
+    → all_taken_by fault index w (map f (drop index records)) ≡ Ok w
+all_end fault f records index w le = ap (λ l. all_taken_by fault index w (map f l)) (drop_all index records le)
 
 -- ---- the rule of the first turn
 pub first_one : (index : ℕ) (v : Picture) (r : Result Message read.Refused) → taken_by (λ i command orders. command_fault i command) index v r ≡ taken index v r

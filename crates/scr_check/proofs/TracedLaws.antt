@@ -1,5 +1,6 @@
 -- Findings with the orders that they come from: the position before a place, and that equal notes tell the same.
-use Rattle.std.proofs.Common.{◌≡◌, ◌≢◌, ℕ, ◌-◌, Option, Some, None, Result, Ok, Err, List, [], ◌∷◌, map, refl, ◌∙◌, ap, arith}
+use Rattle.std.proofs.Common.{◌≡◌, ◌≢◌, ℕ, suc, ◌+◌, ◌-◌, ◌<◌, Option, Some, None, Result, Ok, Err, List, [], ◌∷◌, ◌++◌, map, length, get_or, drop, refl, sym, ◌∙◌, ap, append_assoc, arith}
+use Rattle.std.proofs.Math.Seq.{drop-cons}
 use Rattle.std.specs.Prelude.{option_and_then}
 use Rattle.std.proofs.lemmas.Bool.Decides.{nat_tests}
 use Rattle.ds_screen.specs.Picture.{Picture}
@@ -39,3 +40,13 @@ all_same one other same r layout [] = refl
 all_same one other same r layout (finding ∷ findings) =
     ap (λ t. t ∷ map (traced_by one r layout) findings) (same_traced one other same r layout finding)
     ∙ ap (λ l. traced_by other r layout finding ∷ l) (all_same one other same r layout findings)
+
+-- ---- one finding more
+pub traced_more : {A B : Type 0} (f : A → B) (findings : List A) (i : ℕ) (d : A) (before after : List B) (one : B) → i < length findings
+    → one ≡ f (get_or findings i d) → after ≡ before ++ one ∷ [] → after ++ map f (drop (i + 1) findings) ≡ before ++ map f (drop i findings)
+traced_more f findings i d before after one lt is pushed =
+    let rest = map f (drop (suc i) findings) in
+    ap (λ k. after ++ map f (drop k findings)) (let e : i + 1 ≡ suc i = omega arith in e)
+    ∙ ap (λ l. l ++ rest) (pushed ∙ ap (λ b. before ++ b ∷ []) is)
+    ∙ append_assoc before (f (get_or findings i d) ∷ []) rest
+    ∙ sym (ap (λ l. before ++ map f l) (drop-cons findings i d lt))

@@ -107,18 +107,17 @@ none_of [] none = refl
 none_of (finding ∷ findings) none = let e : length (finding ∷ findings) ≡ 0 = eqb-true (length (finding ∷ findings)) 0 none in absurd (omega (arith, e))
 
 -- ---- the first turn
-pub starts_none : (round : Round) (rounds : List Round) (v : Picture) (later : Option Stop) → opening_of round.layout round.records ≡ Ok v → findings_of round.layout v ≡ [] → later ≡ walk_from 1 v rounds
-    → later ≡ walk_of (round ∷ rounds)
+pub starts_open : (round : Round) (rounds : List Round) (v : Picture) (later : Option Stop) → opening_of round.layout round.records ≡ Ok v
+    → later ≡ stops_or 0 (findings_of round.layout v) (walk_from 1 v rounds) → later ≡ walk_of (round ∷ rounds)
 unfolding walk_of
-starts_none round rounds v later opens clean is =
-    is ∙ sym (ap (λ r. stops_or 0 (told round.layout r) (goes_on (λ w. walk_from 1 w rounds) r)) opens ∙ ap (λ l. stops_or 0 l (walk_from 1 v rounds)) clean)
+starts_open round rounds v later opens is =
+    is ∙ sym (ap (λ r. stops_or 0 (told round.layout r) (goes_on (λ w. walk_from 1 w rounds) r)) opens)
 
-pub starts_found : (round : Round) (rounds : List Round) (r : Result Picture Finding) (findings : List Finding) → opening_of round.layout round.records ≡ r → findings ≡ told round.layout r
-    → (length findings == 0) ≡ false → Some (record { turn = 0; findings = findings }) ≡ walk_of (round ∷ rounds)
+pub starts_stands : (round : Round) (rounds : List Round) (finding : Finding) (later : Option Stop) → opening_of round.layout round.records ≡ Err finding
+    → later ≡ Some (record { turn = 0; findings = finding ∷ [] }) → later ≡ walk_of (round ∷ rounds)
 unfolding walk_of
-starts_found round rounds r findings opens is some =
-    sym (ap (λ s. stops_or 0 (told round.layout s) (goes_on (λ w. walk_from 1 w rounds) s)) opens
-    ∙ ap (λ l. stops_or 0 l (goes_on (λ w. walk_from 1 w rounds) r)) (sym is) ∙ stops_at 0 findings (goes_on (λ w. walk_from 1 w rounds) r) some)
+starts_stands round rounds finding later stands is =
+    is ∙ sym (ap (λ r. stops_or 0 (told round.layout r) (goes_on (λ w. walk_from 1 w rounds) r)) stands)
 
 pub starts_empty : (rounds : List Round) → rounds ≡ [] → None ≡ walk_of rounds
 unfolding walk_of

@@ -23,7 +23,11 @@ abbrev pub Gives : {X A : Type 0} → (X → A) → Result X BindError → Resul
 Gives view (Ok x) due = due ≡ Ok (view x)
 Gives view (Err e) due = Fails e due
 
+-- the pair that is due of a field, with its bytes
+abbrev pub BindsAs : Result Pair BindFault → FieldSlice → Result Bound BindFault → Type 0
+BindsAs due field (Ok pair) = (due ≡ Ok (bound_seen pair)) × (pair.raw ≡ field.raw)
+BindsAs due field (Err fault) = due ≡ Err fault
+
 -- the pair of one field
 abbrev pub BindsField : List Declared → List Bound → FieldSlice → Result Bound BindFault → Type 0
-BindsField entries bound field (Ok pair) = (bound_field entries (map bound_seen bound) (sent_of field) ≡ Ok (bound_seen pair)) × (pair.raw ≡ field.raw)
-BindsField entries bound field (Err fault) = bound_field entries (map bound_seen bound) (sent_of field) ≡ Err fault
+BindsField entries bound field result = BindsAs (bound_field entries (map bound_seen bound) (sent_of field)) field result

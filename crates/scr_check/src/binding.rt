@@ -4,8 +4,8 @@ ghost use Rattle.std.specs.Prelude.{◌≡◌, ◌==◌, nat_lt, length, map, Ok
 ghost use Rattle.std.specs.List.{list_any};
 ghost use Rattle.ds_inbound.specs.Characters.{characters_in};
 ghost use Rattle.ds_inbound.specs.Reading.{sent_of};
-ghost use Rattle.scr_check.specs.Binding.{is_bound, bound_of};
-ghost use Rattle.scr_check.specs.Bound.{Gives, BindsField, bound_seen};
+ghost use Rattle.scr_check.specs.Binding.{is_bound, bound_at, bound_of};
+ghost use Rattle.scr_check.specs.Bound.{Gives, BindsAs, BindsField, bound_seen};
 
 use crate::bound::Bound;
 use ds_inbound::{FieldSlice, Inbound, chars};
@@ -115,21 +115,16 @@ fn is_longer(raw: &[u8], declared: u32) -> bool
     chars(raw).nth(declared as usize).is_some()
 }
 
-/// The pair of a field and its entry, behind those that are bound.
-fn bind_field<'a>(
-    layout: &Layout,
+/// The pair of a field and the entry of this index, behind those that are bound.
+fn bind_entry<'a>(
+    index: usize,
+    entry: &Entry,
     bound: &[Bound<'a>],
     field: FieldSlice<'a>,
 ) -> Result<Bound<'a>, BindFault>
-    ensures { BindsField layout.now.entries bound.now field.entry result }
+    ensures { BindsAs (bound_at (map bound_seen bound.now) (sent_of field.entry) index entry.now)
+        field.entry result }
 {
-    let entries = layout.entries();
-    let Some(index) = layout.entry_at(field.place) else {
-        return Err(BindFault::NotDeclared);
-    };
-    let Some(entry) = entries.get(index) else {
-        return Err(BindFault::NotDeclared);
-    };
     if is_bound(index, bound) {
         return Err(BindFault::Twice);
     }
@@ -140,6 +135,23 @@ fn bind_field<'a>(
         entry: index,
         raw: field.raw,
     })
+}
+
+/// The pair of a field and its entry, behind those that are bound.
+fn bind_field<'a>(
+    layout: &Layout,
+    bound: &[Bound<'a>],
+    field: FieldSlice<'a>,
+) -> Result<Bound<'a>, BindFault>
+    ensures { BindsField layout.now.entries bound.now field.entry result }
+{
+    let Some(index) = layout.entry_at(field.place) else {
+        return Err(BindFault::NotDeclared);
+    };
+    match layout.entries().get(index) {
+        Some(entry) => bind_entry(index, entry, bound, field),
+        None => Err(BindFault::NotDeclared),
+    }
 }
 
 /// The fields of an answer in its order, each with the entry at its place: an answer to Read Modified

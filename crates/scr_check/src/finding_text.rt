@@ -1,11 +1,13 @@
 //! Findings, as they are printed.
 
-ghost use Rattle.std.specs.Prelude.{◌≡◌, ◌++◌, [], OnOk};
+ghost use Rattle.std.specs.Prelude.{◌≡◌, ◌++◌, [], Some, OnOk};
+ghost use Rattle.std.specs.Fmt.{decimal};
 ghost use Rattle.std.specs.String.{string_bytes};
 ghost use Rattle.scr_check.specs.FindingText.{name_at, finding_text, missing_text, keys_end, overlong_text, other_kind_text};
 
 use crate::finding::{Demo, Finding, Overlong};
 use ds_codec::Size;
+use ds_terminal::Refused;
 use scr_layout::Entry;
 use std::alloc::AllocError;
 use std::fmt;
@@ -75,6 +77,36 @@ fn push_other_kind(out: &mut String, name: &str) -> Result<(), AllocError>
     write!(out, "F12 {name} is of the other kind")
 }
 
+fn push_refused(out: &mut String, index: usize, refused: Refused) -> Result<(), AllocError>
+    ensures { OnOk result (string_bytes out.new
+        ≡ string_bytes out.old ++ finding_text [] (Finding.RecordRefused index refused)) }
+{
+    write!(out, "F1 record {index} {refused}")
+}
+
+/// A front, a number, and a back.
+fn push_record(out: &mut String, front: &str, index: usize, back: &str) -> Result<(), AllocError>
+    ensures { OnOk result (string_bytes out.new
+        ≡ string_bytes out.old ++ (front.now ++ (decimal index ++ back.now))) }
+{
+    write!(out, "{front}{index}{back}")
+}
+
+/// A front, a place, and the keys.
+fn push_undeclared(out: &mut String, front: &str, place: u32, demo: Demo) -> Result<(), AllocError>
+    ensures { OnOk result (string_bytes out.new
+        ≡ string_bytes out.old ++ (front.now ++ (decimal place ++ keys_end (Some demo)))) }
+{
+    write!(out, "{front}{place}, keys: {demo}")
+}
+
+fn push_empty(out: &mut String, place: u32) -> Result<(), AllocError>
+    ensures { OnOk result (string_bytes out.new
+        ≡ string_bytes out.old ++ finding_text [] (Finding.EmptyModified place)) }
+{
+    write!(out, "F13 empty modified field at {place}")
+}
+
 impl Finding {
     ghost use Rattle.std.specs.Prelude.{◌≡◌, ◌++◌, OnOk};
     ghost use Rattle.std.specs.String.{string_bytes};
@@ -87,25 +119,25 @@ impl Finding {
             ≡ string_bytes out.old ++ finding_text entries.now self) }
     {
         match self {
-            Finding::RecordRefused(index, refused) => write!(out, "F1 record {index} {refused}"),
+            Finding::RecordRefused(index, refused) => push_refused(out, index, refused),
             Finding::NoRecord => out.push_str("F2 no record"),
             Finding::FirstNotErase => out.push_str("F3 first record does not erase"),
-            Finding::NotAWrite(index) => write!(out, "F4 record {index} is no write"),
+            Finding::NotAWrite(index) => push_record(out, "F4 record ", index, " is no write"),
             Finding::KeyboardLocked => out.push_str("F5 keyboard stays locked"),
             Finding::OtherSize(shown, declared) => push_sizes(out, shown, declared),
             Finding::Unformatted => out.push_str("F7 no field"),
             Finding::Undeclared(place, demo) => {
-                write!(out, "F8 undeclared input at {place}, keys: {demo}")
+                push_undeclared(out, "F8 undeclared input at ", place, demo)
             }
             Finding::UndeclaredFixed(place, demo) => {
-                write!(out, "F9 undeclared fixed at {place}, keys: {demo}")
+                push_undeclared(out, "F9 undeclared fixed at ", place, demo)
             }
             Finding::Missing(index) => push_missing(out, name_at(entries, index)),
             Finding::TooLong(found) => push_overlong(out, name_at(entries, found.entry), found),
             Finding::OtherKind(index) => push_other_kind(out, name_at(entries, index)),
-            Finding::EmptyModified(place) => write!(out, "F13 empty modified field at {place}"),
+            Finding::EmptyModified(place) => push_empty(out, place),
             Finding::CursorDependent(index) => {
-                write!(out, "F14 record {index} depends on the cursor")
+                push_record(out, "F14 record ", index, " depends on the cursor")
             }
         }
     }

@@ -5,7 +5,7 @@ ghost use Rattle.ds_codec.specs.Reading.{read_of};
 ghost use Rattle.ds_screen.specs.Picture.{Picture};
 ghost use Rattle.ds_screen.specs.Outline.{IsOutlineOf};
 ghost use Rattle.ds_screen.specs.Writes.{most_positions};
-ghost use Rattle.scr_check.specs.Origins.{noted, read_writes, notes_from, kept_at, AreOrigins};
+ghost use Rattle.scr_check.specs.Origins.{noted, read_writes, notes_from, last_at, kept_at, AreOrigins};
 ghost use Rattle.scr_check.specs.Noting.{HasSlots, Keeps, NotesOn};
 
 use crate::opening::FirstTurn;
@@ -154,6 +154,22 @@ fn note_all(
     Ok(())
 }
 
+/// The same from slots for so many positions, of which none has a note yet.
+fn note_new(
+    alloc: Global,
+    outline: &mut Outline,
+    records: &[&[u8]],
+    most: usize,
+) -> Result<Origins, AllocError>
+    requires { (v : Picture) × IsOutlineOf outline.old v × (most_positions v.geometry ≤ most) }
+    ensures { IfOk result (λ origins. (v : Picture) → IsOutlineOf outline.old v
+        → (p : ℕ) → kept_at origins p ≡ last_at p (notes_from 0 v (map (λ bytes. bytes.now) records.now))) }
+{
+    let mut slots = vec![in alloc; None; most]?;
+    note_all(alloc, outline, records, &mut slots)?;
+    Ok(Origins { slots })
+}
+
 /// For each position of a new terminal of the layout's geometry, the order that wrote there last when the records are taken in turn as `check` takes them, up to the first against which something stands. Builds no
 /// screen, reads each record twice, and takes time for the records' bytes and the positions of the larger size.
 ///
@@ -173,7 +189,5 @@ pub fn find_origins(
         .cells()
         .max(geometry.alternate_size().cells());
     let mut outline = Outline::new(alloc, geometry)?;
-    let mut slots = vec![in alloc; None; most as usize]?;
-    note_all(alloc, &mut outline, records, &mut slots)?;
-    Ok(Origins { slots })
+    note_new(alloc, &mut outline, records, most as usize)
 }

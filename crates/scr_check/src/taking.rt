@@ -65,7 +65,9 @@ pub(crate) fn take_all<R: TurnRule>(outline: &mut Outline, records: &[&[u8]]) ->
         (map (λ bytes. bytes.now) records.now) result }
 {
     for (index, bytes) in records.iter().enumerate() {
-        take::<R>(outline, index, bytes)?;
+        if let Err(finding) = take::<R>(outline, index, bytes) {
+            return Err(finding);
+        }
     }
     Ok(())
 }

@@ -1,9 +1,10 @@
 //! Dialogues: several screens in turn, with an operator between them.
 
-ghost use Rattle.std.specs.Prelude.{◌≡◌, ◌↔◌, true, IfOk};
+ghost use Rattle.std.specs.Prelude.{◌≡◌, ◌↔◌, [], ◌∷◌, true, Some, IfOk};
 ghost use Rattle.ds_screen.specs.Outline.{IsOutlineOf};
 ghost use Rattle.ds_screen.specs.Picture.{Picture};
-ghost use Rattle.scr_check.specs.Walk.{walk_from, walk_of};
+ghost use Rattle.scr_check.specs.Findings.{findings_of};
+ghost use Rattle.scr_check.specs.Walk.{stops_or, walk_from, walk_of};
 ghost use Rattle.scr_check.specs.Talk.{TalksKeep};
 ghost use Rattle.scr_check.specs.TalkSeen.{rounds_of, stop_in, AreOfGeometry, HaveOneGeometry};
 
@@ -78,6 +79,34 @@ fn check_later(
     Ok(TalkVerdict::Yes)
 }
 
+/// The one finding against the first turn.
+fn stopped_first(alloc: Global, finding: Finding) -> Result<TalkVerdict, AllocError>
+    ensures { IfOk result (λ verdict. stop_in verdict
+        ≡ Some (record { turn = 0; findings = finding ∷ [] })) }
+{
+    Ok(TalkVerdict::No {
+        turn: 0,
+        findings: vec![in alloc; finding]?,
+    })
+}
+
+/// What stands against the screen that the first turn opened, or else against the later turns.
+fn check_opened(
+    alloc: Global,
+    outline: &mut Outline,
+    layout: &Layout,
+    others: &[Turn<'_, '_>],
+) -> Result<TalkVerdict, AllocError>
+    ensures { IfOk result (λ verdict. (v : Picture) → IsOutlineOf outline.old v → v.size ≡ layout.now.size
+        → stop_in verdict ≡ stops_or 0 (findings_of layout.now v) (walk_from 1 v (rounds_of others.now))) }
+{
+    let findings = findings_of(alloc, outline, layout)?;
+    if !findings.is_empty() {
+        return Ok(TalkVerdict::No { turn: 0, findings });
+    }
+    check_later(alloc, outline, others)
+}
+
 /// Whether the records of each turn, on whatever an operator can have left of the turn before without Clear,
 /// lead to a screen with exactly the fields of that turn's layout; otherwise the first turn that does not, and
 /// all its findings, as `check` tells them. The first turn is on a new terminal; the others need not erase, but
@@ -96,18 +125,8 @@ pub fn check_talk(alloc: Global, turns: &[Turn<'_, '_>]) -> Result<TalkVerdict, 
     let Some((first, others)) = turns.split_first() else {
         return Ok(TalkVerdict::Yes);
     };
-    let mut outline = match open(alloc, first.records, first.layout)? {
-        Opening::Leads(outline) => outline,
-        Opening::Stands(finding) => {
-            return Ok(TalkVerdict::No {
-                turn: 0,
-                findings: vec![in alloc; finding]?,
-            });
-        }
-    };
-    let findings = findings_of(alloc, &outline, first.layout)?;
-    if !findings.is_empty() {
-        return Ok(TalkVerdict::No { turn: 0, findings });
+    match open(alloc, first.records, first.layout)? {
+        Opening::Leads(mut outline) => check_opened(alloc, &mut outline, first.layout, others),
+        Opening::Stands(finding) => stopped_first(alloc, finding),
     }
-    check_later(alloc, &mut outline, others)
 }

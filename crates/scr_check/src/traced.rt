@@ -5,7 +5,7 @@ ghost use Rattle.ds_screen.specs.Picture.{Picture};
 ghost use Rattle.ds_screen.specs.Outline.{IsOutlineOf};
 ghost use Rattle.scr_check.specs.declared.finding.Finding.{Finding};
 ghost use Rattle.scr_check.specs.Origins.{kept_at};
-ghost use Rattle.scr_check.specs.Seen.{IsOpened};
+ghost use Rattle.scr_check.specs.Seen.{IsOpened, IsOpening};
 ghost use Rattle.scr_check.specs.Traced.{attribute_place, entry_place, place_found, attribute_found, end_position, ended_on, end_from, traced_by, traced_of};
 
 use crate::checker::open;
@@ -134,6 +134,22 @@ fn trace_each(
     Ok(traced)
 }
 
+/// The same of each finding on the screen that the records open.
+fn trace_opened(
+    alloc: Global,
+    records: &[&[u8]],
+    opening: &Opening,
+    layout: &Layout,
+    findings: &[Finding],
+) -> Result<Vec<Traced>, AllocError>
+    requires { IsOpening layout.now (map (λ bytes. bytes.now) records.now) opening.now }
+    ensures { IfOk result (λ traced. traced.items
+        ≡ map (traced_of layout.now (map (λ bytes. bytes.now) records.now)) findings.now) }
+{
+    let origins = find_origins(alloc, records, layout)?;
+    trace_each(alloc, &origins, opening, layout, findings)
+}
+
 /// Each of these findings with the order that wrote last where the attribute of its field stands, or is missing, and with
 /// the order that wrote the attribute that ends the field. The records are taken as `check` takes them, three times.
 ///
@@ -153,7 +169,5 @@ pub fn trace_findings(
         return Ok(Vec::new(alloc));
     }
     let opening = open(alloc, records, layout)?;
-    let origins = find_origins(alloc, records, layout)?;
-    let traced = trace_each(alloc, &origins, &opening, layout, findings)?;
-    Ok(traced)
+    trace_opened(alloc, records, &opening, layout, findings)
 }
