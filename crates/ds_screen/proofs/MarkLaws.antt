@@ -1,10 +1,10 @@
 -- What a list of attributes becomes, beside the cells that it stands for.
-use Rattle.std.proofs.Common.{◌≡◌, ℕ, zero, suc, ◌+◌, ◌-◌, ◌%◌, ◌<◌, ◌≤◌, ◌⊎◌, ◌&&◌, ◌||◌, Bool, true, false, not, cond, eqb, ltb, leb, min, List, [], ◌∷◌, length, replicate, map, Option, Some, None, refl, sym, ◌∙◌, ap, arith, inl, inr}
+use Rattle.std.proofs.Common.{◌≡◌, ℕ, zero, suc, ◌+◌, ◌-◌, ◌%◌, ◌<◌, ◌≤◌, ◌⊎◌, ◌&&◌, ◌||◌, Bool, true, false, not, cond, eqb, ltb, leb, min, List, [], ◌∷◌, length, map, Some, None, refl, sym, ◌∙◌, ap, arith, inl, inr}
 use Rattle.std.specs.Option.{option_map, unwrap_or}
 use Rattle.std.proofs.Math.Nat.{mod-eq_of_lt, mod-add-mod, add-mod_left}
 use Rattle.std.proofs.lemmas.Nat.{mod_below}
 use Rattle.std.proofs.lemmas.Bool.{cond-true, cond-false, cases_Bool, cases_lt, cases_eq, eq-eqb, ne_eqb, eqb-true, lt-ltb, le-ltb, le-leb, lt-leb, false≢true}
-use Rattle.std.proofs.lemmas.List.{get_or-replicate, length-replicate, get_or_past}
+use Rattle.std.proofs.lemmas.List.{get_or_past}
 use Rattle.ds_codec.specs.declared.cell.Cell.{Cell}
 use Rattle.ds_codec.specs.declared.cell.Cell.TheVariants.{Field, Char}
 use Rattle.ds_codec.specs.Attribute.{is_protected}
@@ -16,14 +16,13 @@ use Rattle.ds_screen.specs.declared.records.Reset.{Reset}
 use Rattle.ds_screen.specs.declared.records.Reset.TheVariants.{Every, Unprotected}
 use Rattle.ds_screen.specs.Ring.{ring_on, ring_back, ring_distance, greatest}
 use Rattle.ds_screen.specs.Picture.{blank, cell_at, ruled}
-use Rattle.ds_screen.specs.Fields.{is_attribute, is_character, bits_at, attribute_of, ruling_bits, ruling_after, is_open, first_open}
+use Rattle.ds_screen.specs.Fields.{is_attribute, is_character, ruling_bits, ruling_after, is_open, first_open}
 use Rattle.ds_screen.specs.Orders.{single_cell, text_cell, byte_cell, repeated_cell, erased_cell, nulled_cell, is_reached, first_from, is_unprotected_attribute}
 use Rattle.ds_screen.specs.Reset.{after_reset}
 use Rattle.ds_screen.specs.Marks.{place_of, mark_of, Marked, IsMarked, IsKept, reset_mark}
-use Rattle.ds_screen.proofs.RingLaws.{distance_cases, on_cases, back_lt, least_at, least_none}
+use Rattle.ds_screen.proofs.RingLaws.{distance_cases, on_cases, least_at, least_none}
 use Rattle.ds_screen.proofs.RuledLaws.{length-ruled, cell_at-ruled, distance_on, on_distance, distance_lt, on_from_zero, back_to_last, back_to_here}
-use Rattle.ds_screen.proofs.FieldLaws.{before_none, ruling_more}
-use Rattle.ds_screen.proofs.GovernLaws.{back_inside_ring}
+use Rattle.ds_screen.proofs.FieldLaws.{ruling_more}
 use Rattle.ds_screen.proofs.EraseLaws.{reaches}
 use Rattle.ds_screen.proofs.TabLaws.{IsFirst, first_hit, first_miss}
 

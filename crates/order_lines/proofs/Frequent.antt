@@ -3,8 +3,8 @@ use Rattle.std.proofs.Common.{◌≡◌, ℕ, List, ◌++◌, refl}
 use Rattle.std.specs.Prelude.{codes, Option, Some, None}
 use Rattle.std.specs.Option.{option_map}
 use Rattle.hex.specs.Hex.{decode_of}
-use Rattle.ds_codec.specs.Order.{Item, start_field_extended, modify_field, set_buffer_address, erase_unprotected_to_address}
-use Rattle.order_lines.specs.Words.{byte_told, number_told, pairs_told}
+use Rattle.ds_codec.specs.Order.{Item, set_buffer_address, erase_unprotected_to_address}
+use Rattle.order_lines.specs.Words.{byte_told, number_told}
 use Rattle.order_lines.specs.Told.{order, first_told, attribute_from, text_from, repeat_told, command_told, order_told, short_told, address_told, told_of}
 
 order_first : (told : Option Item) → first_told None told ≡ option_map order told
@@ -30,15 +30,3 @@ erase_first rest = refl
 pub repeat_first : (rest : List ℕ) → address_told (codes "RA " ++ rest) ≡ repeat_told rest
 unfolding address_told
 repeat_first rest = refl
-
-pub text_told_first : (rest : List ℕ) → order_told (codes "TEXT " ++ rest) ≡ text_from (decode_of rest)
-unfolding order_told
-text_told_first rest = refl
-
-pub extended_first : (rest : List ℕ) → order_told (codes "SFE" ++ rest) ≡ option_map start_field_extended (pairs_told rest)
-unfolding order_told
-extended_first rest = refl
-
-pub modify_first : (rest : List ℕ) → order_told (codes "MF" ++ rest) ≡ option_map modify_field (pairs_told rest)
-unfolding order_told
-modify_first rest = refl
