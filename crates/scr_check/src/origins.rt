@@ -163,7 +163,8 @@ fn note_new(
 ) -> Result<Origins, AllocError>
     requires { (v : Picture) × IsOutlineOf outline.old v × (most_positions v.geometry ≤ most) }
     ensures { IfOk result (λ origins. (v : Picture) → IsOutlineOf outline.old v
-        → (p : ℕ) → kept_at origins p ≡ last_at p (notes_from 0 v (map (λ bytes. bytes.now) records.now))) }
+        → (p : ℕ) → kept_at origins p
+        ≡ last_at p (notes_from 0 v (map (λ bytes. bytes.now) records.now))) }
 {
     let mut slots = vec![in alloc; None; most]?;
     note_all(alloc, outline, records, &mut slots)?;

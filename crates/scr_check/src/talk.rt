@@ -97,8 +97,9 @@ fn check_opened(
     layout: &Layout,
     others: &[Turn<'_, '_>],
 ) -> Result<TalkVerdict, AllocError>
-    ensures { IfOk result (λ verdict. (v : Picture) → IsOutlineOf outline.old v → v.size ≡ layout.now.size
-        → stop_in verdict ≡ stops_or 0 (findings_of layout.now v) (walk_from 1 v (rounds_of others.now))) }
+    ensures { IfOk result (λ verdict. (v : Picture) → IsOutlineOf outline.old v
+        → v.size ≡ layout.now.size → stop_in verdict ≡ stops_or 0 (findings_of layout.now v)
+        (walk_from 1 v (rounds_of others.now))) }
 {
     let findings = findings_of(alloc, outline, layout)?;
     if !findings.is_empty() {
