@@ -1,27 +1,18 @@
 //! Places that are searched on a screen, and buffers by themselves.
 
+use crate::words::push_name;
 use ds_codec::{Cell, Char};
 use ds_screen::{Cells, Screen};
 use test_words::Row;
-
-fn push_found(row: &mut Row, place: Option<u32>) {
-    match place {
-        Some(place) => {
-            row.word_number("Some(", place);
-            row.word(")");
-        }
-        None => row.word("None"),
-    }
-}
 
 /// The attribute that governs a place, and the next one from there on.
 fn push_around<C: Cells>(row: &mut Row, screen: &Screen<C>, place: u32) {
     if place >= screen.size().cells() {
         return row.spoil();
     }
-    push_found(row, screen.attr_before(place));
+    push_name(row, &screen.attr_before(place));
     row.word(" ");
-    push_found(row, screen.attr_from(place));
+    push_name(row, &screen.attr_from(place));
 }
 
 /// Whether a place is open, and the first open one from there on.

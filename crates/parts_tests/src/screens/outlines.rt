@@ -1,9 +1,9 @@
 //! What records leave of an outline.
 
 use crate::Setup;
-use crate::generated::count_alike;
-use crate::screens::{geometry_of, opened, push_field, push_state};
-use ds_codec::{Record, last_attr};
+use crate::screens::generated::count_alike;
+use crate::screens::records::{geometry_of, opened, push_field, push_state};
+use ds_codec::Record;
 use ds_screen::{Outline, PlainCells};
 use test_words::Row;
 
@@ -65,15 +65,6 @@ fn push_alike(row: &mut Row, setup: &Setup, outline: &mut Outline, words: &str) 
     }
 }
 
-/// The bits of the last attribute among pairs.
-fn push_last(row: &mut Row, words: &str) {
-    let pairs = row.read_bytes(words);
-    match last_attr(pairs.as_slice()) {
-        Some(attribute) => row.hex(attribute.bits()),
-        None => row.word("none"),
-    }
-}
-
 /// Adds what a verb answers that begins with an outline.
 fn push_outlined(row: &mut Row, setup: &Setup, verb: &str, words: &str) {
     let Some(mut outline) = blank(row, setup) else {
@@ -90,7 +81,6 @@ fn push_outlined(row: &mut Row, setup: &Setup, verb: &str, words: &str) {
 pub(crate) fn push_answer(row: &mut Row, setup: &Setup, verb: &str, words: &str) -> bool {
     match verb {
         "outline" | "alike" => push_outlined(row, setup, verb, words),
-        "last" => push_last(row, words),
         _ => return false,
     }
     true

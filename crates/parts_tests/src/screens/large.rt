@@ -1,33 +1,16 @@
 //! Answers that are too long to print: whether they are what is wanted.
 
-use ds_codec::{Aid, Mode};
-use ds_inbound::{Inbound, chars, write_buffer, write_inbound};
-use ds_screen::{Cells, Screen};
+use crate::codec::push_same;
+use ds_codec::Mode;
+use ds_inbound::{Inbound, chars};
+use std::alloc::AllocError;
 use test_words::Row;
 
 /// Whether these are the wanted bytes, and how many they are.
-fn push_same(row: &mut Row, bytes: &[u8], wanted: &str) {
+pub(crate) fn push_wanted(row: &mut Row, sent: Result<Vec<u8>, AllocError>, wanted: &str) {
     let wanted = row.read_bytes(wanted);
-    let is_same = bytes == wanted.as_slice();
-    row.word(if is_same { "the same " } else { "other " });
-    row.length(bytes.len());
-    row.word(" bytes");
-}
-
-/// Whether a screen answers these bytes to Read Modified after Enter.
-pub(crate) fn push_sends<C: Cells>(row: &mut Row, screen: &mut Screen<C>, wanted: &str) {
-    screen.set_aid(Aid::enter());
-    match write_inbound(row.alloc(), screen, false) {
-        Ok(bytes) => push_same(row, bytes.as_slice(), wanted),
-        Err(_) => row.spoil(),
-    }
-}
-
-/// The same of Read Buffer.
-pub(crate) fn push_buffers<C: Cells>(row: &mut Row, screen: &mut Screen<C>, wanted: &str) {
-    screen.set_aid(Aid::enter());
-    match write_buffer(row.alloc(), screen) {
-        Ok(bytes) => push_same(row, bytes.as_slice(), wanted),
+    match sent {
+        Ok(bytes) => push_same(row, wanted.as_slice(), bytes.as_slice()),
         Err(_) => row.spoil(),
     }
 }

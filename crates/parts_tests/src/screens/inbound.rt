@@ -3,6 +3,7 @@
 use ds_codec::{Aid, Char, Mode};
 use ds_inbound::{Inbound, chars, write_buffer, write_inbound};
 use ds_screen::{Cells, Screen};
+use std::alloc::AllocError;
 use test_words::Row;
 
 /// Bytes, and how many characters they are.
@@ -56,11 +57,16 @@ pub(crate) fn push_codes(row: &mut Row, words: &str) {
     }
 }
 
-pub(crate) fn push_modified<C: Cells>(row: &mut Row, screen: &Screen<C>, all: bool) {
-    match write_inbound(row.alloc(), screen, all) {
+fn push_written(row: &mut Row, written: Result<Vec<u8>, AllocError>) {
+    match written {
         Ok(bytes) => row.bytes(bytes.as_slice()),
         Err(_) => row.spoil(),
     }
+}
+
+pub(crate) fn push_modified<C: Cells>(row: &mut Row, screen: &Screen<C>, all: bool) {
+    let written = write_inbound(row.alloc(), screen, all);
+    push_written(row, written);
 }
 
 /// What a screen answers to Read Modified and to Read Modified All, after a key.
@@ -76,8 +82,6 @@ pub(crate) fn push_sent<C: Cells>(row: &mut Row, screen: &mut Screen<C>, aid: &s
 
 /// What a screen answers to Read Buffer.
 pub(crate) fn push_buffer<C: Cells>(row: &mut Row, screen: &Screen<C>) {
-    match write_buffer(row.alloc(), screen) {
-        Ok(bytes) => row.bytes(bytes.as_slice()),
-        Err(_) => row.spoil(),
-    }
+    let written = write_buffer(row.alloc(), screen);
+    push_written(row, written);
 }
