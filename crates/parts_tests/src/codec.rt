@@ -58,10 +58,15 @@ fn push_set(row: &mut Row, kind: u8, value: u8) {
     row.word_hex("=", value);
 }
 
-fn push_repeat(row: &mut Row, address: u32, character: Char) {
-    row.word_number("RA ", address);
+/// A character, with the order before it that says that it is one of the alternate set.
+pub(crate) fn push_character(row: &mut Row, character: Char) {
     row.word(if character.alt() { " GE " } else { " " });
     row.hex(character.code());
+}
+
+fn push_repeat(row: &mut Row, address: u32, character: Char) {
+    row.word_number("RA ", address);
+    push_character(row, character);
 }
 
 fn push_order(row: &mut Row, order: &Order<'_>) {
@@ -188,26 +193,30 @@ fn add_order(row: &mut Row, orders: &mut Vec<OwnedOrder>, line: &str) {
     }
 }
 
-/// The orders of lines that are parted by commas.
-fn orders_of_lines(row: &mut Row, lines: &str) -> Vec<OwnedOrder> {
-    let mut orders = Vec::new(row.alloc());
+/// Adds the orders of lines that are parted by commas.
+fn add_orders(row: &mut Row, orders: &mut Vec<OwnedOrder>, lines: &str) {
     for line in lines.split(", ") {
-        if !line.is_empty() {
-            add_order(row, &mut orders, line);
-        }
+        add_order(row, orders, line);
     }
-    orders
+}
+
+/// A record of these orders, for so many cells.
+fn push_lent(row: &mut Row, mode: Mode, cells: u32, command: Command, orders: &[Order<'_>]) {
+    if cells > most_cells(mode) {
+        return row.spoil();
+    }
+    let written = write_record(row.alloc(), command, orders, mode, cells);
+    push_written(row, written);
 }
 
 /// A record of order lines that are parted by commas, for so many cells.
 fn push_orders(row: &mut Row, mode: Mode, cells: u32, command: Command, lines: &str) {
-    if cells > most_cells(mode) {
-        return row.spoil();
+    let mut orders = Vec::new(row.alloc());
+    if !lines.is_empty() {
+        add_orders(row, &mut orders, lines);
     }
-    let orders = orders_of_lines(row, lines);
     let lent = lent(row, orders.as_slice());
-    let written = write_record(row.alloc(), command, lent.as_slice(), mode, cells);
-    push_written(row, written);
+    push_lent(row, mode, cells, command, lent.as_slice());
 }
 
 /// The same with the command as the first line.

@@ -155,12 +155,11 @@ fn push_pushed(row: &mut Row, word: &str) {
     }
 }
 
-/// The null.
-fn push_null(row: &mut Row) {
-    let null = Char::null();
-    row.hex(null.code());
+/// A character's code, and whether it is one of the alternate set.
+pub(crate) fn push_char(row: &mut Row, character: Char) {
+    row.hex(character.code());
     row.word(" ");
-    row.truth(null.alt());
+    row.truth(character.alt());
 }
 
 /// The attribute of pairs of types and values.
@@ -193,7 +192,7 @@ pub(crate) fn push_answer(row: &mut Row, verb: &str, words: &str) -> bool {
         "key" => push_key(row, words),
         "digits" => push_digits(row, words),
         "spelled" => push_spelled(row, words),
-        "null" => push_null(row),
+        "null" => push_char(row, Char::null()),
         "pairs" => push_pairs(row, words),
         _ => return push_byte_answer(row, verb, words),
     }

@@ -98,22 +98,12 @@ fn take_alike(outline: &mut Outline, screen: &mut Screen<PlainCells>, record: &R
     outline.apply(record) == screen.apply(record)
 }
 
-fn have_same_fields(outline: &Outline, screen: &Screen<PlainCells>) -> bool {
-    let mut fields = outline.fields();
-    for field in screen.fields() {
-        if fields.next() != Some(field) {
-            return false;
-        }
-    }
-    fields.next().is_none()
-}
-
 fn are_alike(outline: &Outline, screen: &Screen<PlainCells>) -> bool {
     outline.size() == screen.size()
         && outline.cursor() == screen.cursor()
         && outline.lock() == screen.lock()
         && outline.geometry() == screen.geometry()
-        && have_same_fields(outline, screen)
+        && outline.fields().eq(screen.fields())
 }
 
 /// Whether one generated record leaves both alike.

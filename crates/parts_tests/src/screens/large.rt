@@ -1,7 +1,6 @@
 //! Answers that are too long to print: whether they are what is wanted.
 
 use crate::codec::push_same;
-use ds_codec::Mode;
 use ds_inbound::{Inbound, chars};
 use std::alloc::AllocError;
 use test_words::Row;
@@ -16,7 +15,7 @@ pub(crate) fn push_wanted(row: &mut Row, sent: Result<Vec<u8>, AllocError>, want
 }
 
 /// How many characters come before the fields of an answer, how many fields there are, and the last one's place.
-fn push_fields(row: &mut Row, answer: &Inbound<'_>) {
+pub(crate) fn push_counts(row: &mut Row, answer: &Inbound<'_>) {
     let mut fields = 0u32;
     let mut last = 0u32;
     for field in answer.fields() {
@@ -26,15 +25,4 @@ fn push_fields(row: &mut Row, answer: &Inbound<'_>) {
     row.length(chars(answer.lead()).count());
     row.word_number(" characters, ", fields);
     row.word_number(" fields, the last at ", last);
-}
-
-/// The same of the bytes of an answer of so many cells.
-pub(crate) fn push_counted(row: &mut Row, words: &str) {
-    let (cells, bytes) = row.cut(words, " ");
-    let cells = row.read_number(cells);
-    let bytes = row.read_bytes(bytes);
-    match Inbound::read(Mode::Bits14, cells, bytes.as_slice()) {
-        Ok(answer) => push_fields(row, &answer),
-        Err(_) => row.spoil(),
-    }
 }

@@ -78,9 +78,8 @@ fn push_either_answer(row: &mut Row, setup: &Setup, verb: &str, words: &str) -> 
 fn push_plain_answer(row: &mut Row, setup: &Setup, verb: &str, words: &str) -> bool {
     match verb {
         "word" => keys::push_word(row, words),
-        "answer" => inbound::push_read(row, setup.mode, words),
+        "answer" | "counted" => inbound::push_read(row, setup.mode, verb, words),
         "characters" => inbound::push_codes(row, words),
-        "counted" => large::push_counted(row, words),
         _ => return false,
     }
     true

@@ -3,8 +3,8 @@
 use crate::Setup;
 use crate::screens::generated::count_alike;
 use crate::screens::records::{geometry_of, opened, push_field, push_state};
-use ds_codec::Record;
 use ds_screen::{Outline, PlainCells};
+use ds_terminal::{Refused, take_record};
 use test_words::Row;
 
 /// A new outline of the setup's sizes.
@@ -13,17 +13,14 @@ fn blank(row: &Row, setup: &Setup) -> Option<Outline> {
 }
 
 /// Applies a record; tells why it is refused.
-fn apply(row: &mut Row, outline: &mut Outline, record: &Record<'_>) {
-    if let Err(refused) = outline.apply(record) {
-        row.show(&refused);
-        row.word("; ");
-    }
-}
-
 fn take(row: &mut Row, outline: &mut Outline, text: &str) {
     let bytes = row.read_bytes(text);
-    match Record::read(outline.geometry().mode(), bytes.as_slice()) {
-        Ok(record) => apply(row, outline, &record),
+    match take_record(outline, bytes.as_slice()) {
+        Ok(_) => {}
+        Err(Refused::Apply(refused)) => {
+            row.show(&refused);
+            row.word("; ");
+        }
         Err(_) => row.spoil(),
     }
 }
@@ -65,15 +62,20 @@ fn push_alike(row: &mut Row, setup: &Setup, outline: &mut Outline, words: &str) 
     }
 }
 
+/// Adds what a verb answers of an outline.
+fn push_told(row: &mut Row, setup: &Setup, outline: &mut Outline, verb: &str, words: &str) {
+    if verb == "outline" {
+        push_after(row, setup, outline, words);
+    } else {
+        push_alike(row, setup, outline, words);
+    }
+}
+
 /// Adds what a verb answers that begins with an outline.
 fn push_outlined(row: &mut Row, setup: &Setup, verb: &str, words: &str) {
-    let Some(mut outline) = blank(row, setup) else {
-        return row.spoil();
-    };
-    if verb == "outline" {
-        push_after(row, setup, &mut outline, words);
-    } else {
-        push_alike(row, setup, &mut outline, words);
+    match blank(row, setup) {
+        Some(mut outline) => push_told(row, setup, &mut outline, verb, words),
+        None => row.spoil(),
     }
 }
 

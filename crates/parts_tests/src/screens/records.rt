@@ -114,12 +114,17 @@ pub(crate) fn push_state(row: &mut Row, size: Size, cursor: u32, lock: Lock) {
     push_name(row, &lock);
 }
 
-/// What a record does besides, with the size, the cursor and the keyboard after it.
-fn push_effect<C: Cells>(row: &mut Row, effect: Effect, screen: &Screen<C>) {
+/// What a record does besides.
+pub(crate) fn push_told(row: &mut Row, effect: Effect) {
     row.word("alarm ");
     row.truth(effect.alarm);
     row.word(" restored ");
     row.truth(effect.restored);
+}
+
+/// The same, with the size, the cursor and the keyboard after it.
+fn push_effect<C: Cells>(row: &mut Row, effect: Effect, screen: &Screen<C>) {
+    push_told(row, effect);
     row.word(" ");
     push_state(row, screen.size(), screen.cursor(), screen.lock());
     row.word("; ");

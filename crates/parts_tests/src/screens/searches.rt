@@ -1,9 +1,13 @@
 //! Places that are searched on a screen, and buffers by themselves.
 
+use crate::codes::push_char;
 use crate::words::push_name;
-use ds_codec::{Cell, Char};
+use ds_codec::Cell;
 use ds_screen::{Cells, Screen};
 use test_words::Row;
+
+/// The verbs of a place.
+const OF_A_PLACE: &[&str] = &["around", "open", "cell"];
 
 /// The attribute that governs a place, and the next one from there on.
 fn push_around<C: Cells>(row: &mut Row, screen: &Screen<C>, place: u32) {
@@ -24,16 +28,10 @@ fn push_open<C: Cells>(row: &mut Row, screen: &Screen<C>, place: u32) {
     row.word_number(" ", screen.first_open(place));
 }
 
-fn push_character(row: &mut Row, character: Char) {
-    row.hex(character.code());
-    row.word(" ");
-    row.truth(character.alt());
-}
-
 fn push_cell(row: &mut Row, cell: Cell) {
     match cell {
         Cell::Field(attribute) => row.word_hex("attribute ", attribute.bits()),
-        Cell::Char(character) => push_character(row, character),
+        Cell::Char(character) => push_char(row, character),
     }
 }
 
@@ -77,7 +75,7 @@ pub(crate) fn push_answer<C: Cells>(
     verb: &str,
     words: &str,
 ) -> bool {
-    if verb != "around" && verb != "open" && verb != "cell" {
+    if !OF_A_PLACE.contains(&verb) {
         return false;
     }
     let place = row.read_number(words);

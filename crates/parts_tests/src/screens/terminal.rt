@@ -1,7 +1,7 @@
 //! Terminals: records and keys with their replies.
 
 use crate::Setup;
-use crate::screens::records::geometry_of;
+use crate::screens::records::{geometry_of, push_told};
 use ds_keys::key_of_line;
 use ds_screen::{Cells, Effect, Screen};
 use ds_terminal::{
@@ -32,10 +32,8 @@ fn opened<C: Cells>(row: &mut Row, setup: &Setup) -> Option<Terminal<C>> {
 }
 
 fn push_shown(row: &mut Row, effect: Effect) {
-    row.word("shown alarm ");
-    row.truth(effect.alarm);
-    row.word(" restored ");
-    row.truth(effect.restored);
+    row.word("shown ");
+    push_told(row, effect);
 }
 
 fn push_sent(row: &mut Row, bytes: &[u8]) {
@@ -167,8 +165,10 @@ fn push_restored(row: &mut Row, effect: Effect, cursor: u32) {
 
 /// Reads a record, and then applies it.
 fn take_in_two<C: Cells>(screen: &mut Screen<C>, bytes: &[u8]) -> Result<Effect, Refused> {
-    let record = read_record(screen, bytes)?;
-    apply_record(screen, &record)
+    match read_record(screen, bytes) {
+        Ok(record) => apply_record(screen, &record),
+        Err(refused) => Err(refused),
+    }
 }
 
 /// A record that a screen reads and then applies.
