@@ -2,6 +2,7 @@
 //!
 //! It takes about a megabyte N times, and prints the time of N plain copies and of N times through the deframer.
 
+use crate::print_row;
 use anyhow::Result;
 use std::rt::Clock;
 use std::time::Instant;
@@ -44,34 +45,22 @@ fn count_bytes(deframer: &mut Deframer, stream: &[u8]) -> Result<u64, WireFault>
     }
 }
 
-/// Adds the microseconds of N copies.
-fn push_copy_time(rt: &impl Clock, row: &mut Row, stream: &[u8], times: u32) -> Result<()> {
+/// Copies a stream so many times.
+fn copy_often(row: &mut Row, stream: &[u8], times: u32) {
     let mut copy = Vec::new(row.alloc());
-    let start = Instant::now(rt)?;
     for _ in 0..times {
         copy.clear();
         row.note(copy.extend_from_slice(stream));
     }
-    row.show(&start.elapsed(rt)?.as_micros());
-    Ok(())
 }
 
-/// Adds the microseconds of N times through a deframer.
-fn push_deframer_time(
-    rt: &impl Clock,
-    row: &mut Row,
-    deframer: &mut Deframer,
-    stream: &[u8],
-    times: u32,
-) -> Result<()> {
-    let start = Instant::now(rt)?;
+/// Takes a stream so many times.
+fn take_often(row: &mut Row, deframer: &mut Deframer, stream: &[u8], times: u32) {
     for _ in 0..times {
         if count_bytes(deframer, stream).is_err() {
             row.spoil();
         }
     }
-    row.show(&start.elapsed(rt)?.as_micros());
-    Ok(())
 }
 
 /// Adds how many bytes the records of about a megabyte have.
@@ -90,25 +79,39 @@ pub(crate) fn push_megabyte(row: &mut Row) {
     row.word(" bytes in records");
 }
 
-/// Adds the time of so many copies and of so many times through a deframer.
-fn push_times(rt: &impl Clock, row: &mut Row, stream: &[u8], times: u32) -> Result<()> {
-    row.number(times);
-    row.word_length(" times ", stream.len());
-    row.word(" bytes: copy ");
-    push_copy_time(rt, row, stream, times)?;
-    let mut deframer = Deframer::new(row.alloc())?;
+/// Adds the microseconds of so many copies and of so many times through a deframer.
+fn push_times(
+    rt: &impl Clock,
+    row: &mut Row,
+    deframer: &mut Deframer,
+    stream: &[u8],
+    times: u32,
+) -> Result<()> {
+    let start = Instant::now(rt)?;
+    copy_often(row, stream, times);
+    row.show(&start.elapsed(rt)?.as_micros());
     row.word(" us, deframer ");
-    push_deframer_time(rt, row, &mut deframer, stream, times)?;
+    let start = Instant::now(rt)?;
+    take_often(row, deframer, stream, times);
+    row.show(&start.elapsed(rt)?.as_micros());
     row.word(" us");
     Ok(())
 }
 
-/// Prints the same of about a megabyte.
-pub(crate) fn measure(rt: &(impl Clock + Print + AllocGlobal), times: u32) -> Result<()> {
+/// The same of about a megabyte, with its length.
+fn push_measured(rt: &impl Clock, row: &mut Row, times: u32) -> Result<()> {
+    let stream = make_stream(row);
+    row.number(times);
+    row.word_length(" times ", stream.len());
+    row.word(" bytes: copy ");
+    let mut deframer = Deframer::new(row.alloc())?;
+    push_times(rt, row, &mut deframer, stream.as_slice(), times)
+}
+
+/// Prints it.
+pub(crate) fn measure(rt: &(impl Clock + Print + AllocGlobal), times: &str) -> Result<()> {
     let mut row = Row::new(rt.alloc());
-    let stream = make_stream(&mut row);
-    push_times(rt, &mut row, stream.as_slice(), times)?;
-    let text = row.finish()?;
-    println!(rt; "{text}")?;
-    Ok(())
+    let times = row.read_number(times);
+    push_measured(rt, &mut row, times)?;
+    print_row(rt, row)
 }

@@ -3,9 +3,11 @@
 ghost use Rattle.std.specs.Prelude.{◌≡◌};
 ghost use Rattle.ds_codec.specs.Geometry.{limit_of};
 
+use crate::words::push_name;
+use crate::{parted, read_size};
 use ds_codec::{
-    Char, Command, CommandCode, Geometry, Mode, Order, Placed, Record, Size, Unwritable,
-    decode_address, encode_address, write_record,
+    Char, Command, CommandCode, Geometry, Mode, Order, Placed, Record, Unwritable, decode_address,
+    encode_address, write_record,
 };
 use order_lines::{OwnedOrder, Told, read_line};
 use test_words::Row;
@@ -56,10 +58,15 @@ fn push_set(row: &mut Row, kind: u8, value: u8) {
     row.word_hex("=", value);
 }
 
-fn push_repeat(row: &mut Row, address: u32, character: Char) {
-    row.word_number("RA ", address);
+/// A character, with the order before it that says that it is one of the alternate set.
+pub(crate) fn push_character(row: &mut Row, character: Char) {
     row.word(if character.alt() { " GE " } else { " " });
     row.hex(character.code());
+}
+
+fn push_repeat(row: &mut Row, address: u32, character: Char) {
+    row.word_number("RA ", address);
+    push_character(row, character);
 }
 
 fn push_order(row: &mut Row, order: &Order<'_>) {
@@ -129,7 +136,7 @@ fn command_of(row: &mut Row, line: &str) -> Option<Command> {
 
 /// An order that need not be one that can be written: `text`, `sfe` or `mf` and all its bytes.
 fn order_of_bytes(row: &mut Row, words: &str) -> Option<OwnedOrder> {
-    let (name, digits) = words.split_once(' ').unwrap_or((words, ""));
+    let (name, digits) = parted(words, " ");
     let bytes = row.read_bytes(digits);
     match name {
         "text" => Some(OwnedOrder::Text(bytes)),
@@ -186,33 +193,37 @@ fn add_order(row: &mut Row, orders: &mut Vec<OwnedOrder>, line: &str) {
     }
 }
 
-/// The orders of lines that are parted by commas.
-fn orders_of_lines(row: &mut Row, lines: &str) -> Vec<OwnedOrder> {
-    let mut orders = Vec::new(row.alloc());
+/// Adds the orders of lines that are parted by commas.
+fn add_orders(row: &mut Row, orders: &mut Vec<OwnedOrder>, lines: &str) {
     for line in lines.split(", ") {
-        if !line.is_empty() {
-            add_order(row, &mut orders, line);
-        }
+        add_order(row, orders, line);
     }
-    orders
+}
+
+/// A record of these orders, for so many cells.
+fn push_lent(row: &mut Row, mode: Mode, cells: u32, command: Command, orders: &[Order<'_>]) {
+    if cells > most_cells(mode) {
+        return row.spoil();
+    }
+    let written = write_record(row.alloc(), command, orders, mode, cells);
+    push_written(row, written);
 }
 
 /// A record of order lines that are parted by commas, for so many cells.
 fn push_orders(row: &mut Row, mode: Mode, cells: u32, command: Command, lines: &str) {
-    if cells > most_cells(mode) {
-        return row.spoil();
+    let mut orders = Vec::new(row.alloc());
+    if !lines.is_empty() {
+        add_orders(row, &mut orders, lines);
     }
-    let orders = orders_of_lines(row, lines);
     let lent = lent(row, orders.as_slice());
-    let written = write_record(row.alloc(), command, lent.as_slice(), mode, cells);
-    push_written(row, written);
+    push_lent(row, mode, cells, command, lent.as_slice());
 }
 
 /// The same with the command as the first line.
 fn push_write(row: &mut Row, mode: Mode, words: &str) {
     let (cells, lines) = row.cut(words, " ");
     let cells = row.read_number(cells);
-    let (command, rest) = lines.split_once(", ").unwrap_or((lines, ""));
+    let (command, rest) = parted(lines, ", ");
     match command_of(row, command) {
         Some(command) => push_orders(row, mode, cells, command, rest),
         None => row.spoil(),
@@ -230,7 +241,7 @@ fn orders_of<'a>(row: &mut Row, record: &Record<'a>) -> Vec<Order<'a>> {
 }
 
 /// Whether these are the same bytes, and how many they are.
-fn push_same(row: &mut Row, bytes: &[u8], written: &[u8]) {
+pub(crate) fn push_same(row: &mut Row, bytes: &[u8], written: &[u8]) {
     let is_same = written == bytes;
     row.word(if is_same { "the same " } else { "other " });
     row.length(written.len());
@@ -287,25 +298,15 @@ fn push_encoded(row: &mut Row, mode: Mode, words: &str) {
 fn push_geometry(row: &mut Row, geometry: Geometry) {
     row.number(geometry.default_size().cells());
     row.word_number(" ", geometry.alternate_size().cells());
-    row.word(match geometry.mode() {
-        Mode::Bits14 => " Bits14",
-        Mode::Bits16 => " Bits16",
-    });
-}
-
-/// The size of a text such as `24x80`, whether a terminal can have it or not.
-fn size_of(row: &mut Row, text: &str) -> Size {
-    let (rows, cols) = row.cut(text, "x");
-    let rows = row.read_short(rows);
-    let cols = row.read_short(cols);
-    Size { rows, cols }
+    row.word(" ");
+    push_name(row, &geometry.mode());
 }
 
 /// Whether a terminal can have these sizes.
 fn push_sizes(row: &mut Row, mode: Mode, words: &str) {
     let (default, alternate) = row.cut(words, " ");
-    let default = size_of(row, default);
-    let alternate = size_of(row, alternate);
+    let default = read_size(row, default);
+    let alternate = read_size(row, alternate);
     match Geometry::new(default, alternate, mode) {
         Ok(geometry) => push_geometry(row, geometry),
         Err(fault) => row.show(&fault),

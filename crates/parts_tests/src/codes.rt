@@ -1,50 +1,23 @@
 //! Codes as values, and their bytes.
 
+use crate::words::push_name;
 use ds_codec::{
     Aid, Attr, Char, CommandCode, OrderCode, byte_of_digits, bytes_of_digits, is_graphic_code,
     last_attr, push_character, to_six_bit_code,
 };
+use std::fmt::Debug;
 use test_words::Row;
 
-fn name_of_command(code: CommandCode) -> &'static str {
-    match code {
-        CommandCode::Write => "Write",
-        CommandCode::EraseWrite => "EraseWrite",
-        CommandCode::EraseWriteAlternate => "EraseWriteAlternate",
-        CommandCode::EraseAllUnprotected => "EraseAllUnprotected",
-        CommandCode::ReadBuffer => "ReadBuffer",
-        CommandCode::ReadModified => "ReadModified",
-        CommandCode::ReadModifiedAll => "ReadModifiedAll",
-        CommandCode::WriteStructuredField => "WriteStructuredField",
-        CommandCode::NoOperation => "NoOperation",
-    }
-}
-
-fn name_of_order(code: OrderCode) -> &'static str {
-    match code {
-        OrderCode::Sf => "Sf",
-        OrderCode::Sfe => "Sfe",
-        OrderCode::Sba => "Sba",
-        OrderCode::Sa => "Sa",
-        OrderCode::Mf => "Mf",
-        OrderCode::Ic => "Ic",
-        OrderCode::Pt => "Pt",
-        OrderCode::Ra => "Ra",
-        OrderCode::Eua => "Eua",
-        OrderCode::Ge => "Ge",
-    }
-}
-
-/// A name, and the byte that it is written as.
-fn push_named(row: &mut Row, name: &str, byte: u8) {
-    row.word(name);
+/// A code, and the byte that it is written as.
+fn push_coded<T: Debug>(row: &mut Row, code: &T, byte: u8) {
+    push_name(row, code);
     row.word_hex(" ", byte);
 }
 
 /// The command of a byte.
 fn push_command(row: &mut Row, word: &str) {
     match CommandCode::from_byte(row.read_byte(word)) {
-        Some(code) => push_named(row, name_of_command(code), code.byte()),
+        Some(code) => push_coded(row, &code, code.byte()),
         None => row.word("none"),
     }
 }
@@ -52,7 +25,7 @@ fn push_command(row: &mut Row, word: &str) {
 /// The order of a byte.
 fn push_order(row: &mut Row, word: &str) {
     match OrderCode::from_byte(row.read_byte(word)) {
-        Some(code) => push_named(row, name_of_order(code), code.byte()),
+        Some(code) => push_coded(row, &code, code.byte()),
         None => row.word("none"),
     }
 }
@@ -182,12 +155,11 @@ fn push_pushed(row: &mut Row, word: &str) {
     }
 }
 
-/// The null.
-fn push_null(row: &mut Row) {
-    let null = Char::null();
-    row.hex(null.code());
+/// A character's code, and whether it is one of the alternate set.
+pub(crate) fn push_char(row: &mut Row, character: Char) {
+    row.hex(character.code());
     row.word(" ");
-    row.truth(null.alt());
+    row.truth(character.alt());
 }
 
 /// The attribute of pairs of types and values.
@@ -220,7 +192,7 @@ pub(crate) fn push_answer(row: &mut Row, verb: &str, words: &str) -> bool {
         "key" => push_key(row, words),
         "digits" => push_digits(row, words),
         "spelled" => push_spelled(row, words),
-        "null" => push_null(row),
+        "null" => push_char(row, Char::null()),
         "pairs" => push_pairs(row, words),
         _ => return push_byte_answer(row, verb, words),
     }

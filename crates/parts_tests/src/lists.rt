@@ -2,7 +2,6 @@
 
 use crate::marked::{Marked, entry_of, push_entry};
 use ds_places::{add, held};
-use std::alloc::AllocError;
 use test_words::Row;
 
 fn push_entries(row: &mut Row, entries: &[Marked]) {
@@ -12,21 +11,15 @@ fn push_entries(row: &mut Row, entries: &[Marked]) {
 }
 
 /// The list that three entries make, and what it holds at the place of each.
-fn push_list_of(
-    row: &mut Row,
-    first: Marked,
-    second: Marked,
-    third: Marked,
-) -> Result<(), AllocError> {
+fn push_list_of(row: &mut Row, first: Marked, second: Marked, third: Marked) {
     let mut entries = Vec::new(row.alloc());
-    add(&mut entries, first)?;
-    add(&mut entries, second)?;
-    add(&mut entries, third)?;
+    row.note(add(&mut entries, first));
+    row.note(add(&mut entries, second));
+    row.note(add(&mut entries, third));
     push_entries(row, &entries);
     push_entry(row, held(&entries, first.at));
     push_entry(row, held(&entries, second.at));
     push_entry(row, held(&entries, third.at));
-    Ok(())
 }
 
 /// Adds three entries, and prints the list that they make, and what it holds at the place of each.
@@ -36,6 +29,5 @@ pub(crate) fn push_added(row: &mut Row, words: &str) {
     let first = entry_of(row, first);
     let second = entry_of(row, second);
     let third = entry_of(row, third);
-    let pushed = push_list_of(row, first, second, third);
-    row.note(pushed);
+    push_list_of(row, first, second, third);
 }

@@ -1,13 +1,15 @@
-//! Runs the codec, the wire and lists in the order of places over lines of a script, and prints each line with what they answer.
+//! Runs the codec, the wire, lists in the order of places, and the screen with its keys and answers over lines of a script, and
+//! prints each line with what they answer.
 //!
 //! The script is `stdin`, and what must come out `stdout`, whose answers were worked out by hand from the rules of
 //! docs/PROFILE.md. Data in place of test functions: neither is proved.
 //!
-//! `addresses 16` or `addresses 14` says how addresses are spelled in the lines below. `places 800 store 7 1; list` makes a
-//! list with room for the places below 800 and takes these steps, and `added 5 1; 2 7; 5 2` adds three entries to a plain list;
+//! `addresses 16` or `addresses 14` says how addresses are spelled in the lines below, `screen 2x10 3x10` gives the sizes and
+//! `after RECORD; RECORD` the records of the screens that they begin with, each on a new one. `places 800 store 7 1; list` makes
+//! a list with room for the places below 800 and takes these steps, and `added 5 1; 2 7; 5 2` adds three entries to a plain list;
 //! an entry is printed as its place and its mark, `7:1`. Every other line is a verb and its words. Bytes are words of
-//! hexadecimal: `C1C2*100` are these two a hundred times, and `[C1*100]` is printed for a hundred equal ones. Lines of `#` say
-//! what comes.
+//! hexadecimal: `C1C2*100` are these two a hundred times, `110001^100` the same where the number of the last two goes on by one
+//! each time, and `[C1*100]` is printed for a hundred equal ones. Lines of `#` say what comes.
 //!
 //! With a number as its argument the program takes no script, and measures the wire.
 #![tactic(auto)]
@@ -17,28 +19,72 @@ mod codec;
 mod codes;
 mod lists;
 mod marked;
+mod screens;
 mod steps;
 mod streams;
 mod wire_codes;
 mod words;
 
 use anyhow::Result;
-use ds_codec::Mode;
+use ds_codec::{Mode, Size};
 use std::env;
 use test_words::{Row, is_row};
 
-/// The verbs that take bytes and nothing else.
-const OF_BYTES: &[&str] = &["stream", "pieces", "thrice", "frame", "framed"];
+/// What the lines of a script begin with.
+#[derive(Drop)]
+pub(crate) struct Setup {
+    default: Size,
+    alternate: Size,
+    mode: Mode,
+    after: String,
+}
 
-fn read_mode(row: &mut Row, bits: &str) -> Mode {
-    match bits {
-        "14" => Mode::Bits14,
-        "16" => Mode::Bits16,
-        _ => {
-            row.spoil();
-            Mode::Bits14
-        }
+/// What stands before and after a mark, or all and nothing where there is none.
+pub(crate) fn parted<'a>(words: &'a str, mark: &str) -> (&'a str, &'a str) {
+    match words.split_once(mark) {
+        Some(parts) => parts,
+        None => (words, ""),
     }
+}
+
+/// The size of a text such as `24x80`, whether a terminal can have it or not.
+fn read_size(row: &mut Row, text: &str) -> Size {
+    let (rows, cols) = row.cut(text, "x");
+    let rows = row.read_short(rows);
+    let cols = row.read_short(cols);
+    Size { rows, cols }
+}
+
+fn set_sizes(row: &mut Row, setup: &mut Setup, sizes: &str) {
+    let (default, alternate) = sizes.split_once(' ').unwrap_or((sizes, sizes));
+    setup.default = read_size(row, default);
+    setup.alternate = read_size(row, alternate);
+}
+
+fn set_mode(row: &mut Row, setup: &mut Setup, bits: &str) {
+    match bits {
+        "14" => setup.mode = Mode::Bits14,
+        "16" => setup.mode = Mode::Bits16,
+        _ => row.spoil(),
+    }
+}
+
+fn set_after(row: &mut Row, setup: &mut Setup, records: &str) {
+    match String::from_str(row.alloc(), records) {
+        Ok(after) => setup.after = after,
+        Err(_) => row.spoil(),
+    }
+}
+
+/// Takes a line that says what the lines below begin with; whether it is one.
+fn take_line(row: &mut Row, setup: &mut Setup, verb: &str, words: &str) -> bool {
+    match verb {
+        "screen" => set_sizes(row, setup, words),
+        "addresses" => set_mode(row, setup, words),
+        "after" => set_after(row, setup, words),
+        _ => return false,
+    }
+    true
 }
 
 /// Adds what a verb of lists answers, or how many bytes are taken of about a megabyte; whether it is one of these.
@@ -52,62 +98,72 @@ fn push_listed(row: &mut Row, verb: &str, words: &str) -> bool {
     true
 }
 
-/// Adds what a verb of a stream answers; whether it is one of these.
-fn push_streamed(row: &mut Row, verb: &str, words: &str) -> bool {
-    if !OF_BYTES.contains(&verb) {
-        return false;
-    }
-    let bytes = row.read_bytes(words);
-    streams::push_answer(row, verb, bytes.as_slice())
-}
-
-/// Adds what a verb of the codec or of the wire answers; whether it is one of these.
-fn push_answer(row: &mut Row, mode: Mode, verb: &str, words: &str) -> bool {
-    codec::push_answer(row, mode, verb, words)
+/// Adds what any other verb answers; whether there is one.
+fn push_answer(row: &mut Row, setup: &Setup, verb: &str, words: &str) -> bool {
+    codec::push_answer(row, setup.mode, verb, words)
         || codes::push_answer(row, verb, words)
         || words::push_answer(row, verb)
-        || push_streamed(row, verb, words)
+        || streams::push_answer(row, verb, words)
         || wire_codes::push_answer(row, verb, words)
+        || screens::push_answer(row, setup, verb, words)
 }
 
 /// Adds the answer of a row.
-fn push_row(row: &mut Row, mode: Mode, verb: &str, words: &str) {
+fn push_row(row: &mut Row, setup: &Setup, verb: &str, words: &str) {
     row.word(" >");
     if push_listed(row, verb, words) {
         return;
     }
     row.word(" ");
-    if !push_answer(row, mode, verb, words) {
-        row.word("no such verb");
-    }
+    let is_verb = push_answer(row, setup, verb, words);
+    row.word_if(!is_verb, "no such verb");
 }
 
 /// Adds a line as it is printed: of a row with its answer.
-fn push_line(row: &mut Row, mode: &mut Mode, line: &str) {
+fn push_line(row: &mut Row, setup: &mut Setup, line: &str) {
     row.word(line);
-    let (verb, words) = line.split_once(' ').unwrap_or((line, ""));
-    if verb == "addresses" {
-        *mode = read_mode(row, words);
-    } else if is_row(line) {
-        push_row(row, *mode, verb, words);
+    let (verb, words) = parted(line, " ");
+    if is_row(line) && !take_line(row, setup, verb, words) {
+        push_row(row, setup, verb, words);
     }
 }
 
+/// Prints a row's text.
+pub(crate) fn print_row(rt: &impl Print, row: Row) -> Result<()> {
+    let text = row.finish()?;
+    println!(rt; "{text}")?;
+    Ok(())
+}
+
+/// Prints a line of the script with its answer.
+fn print_line(rt: &HostRuntime, setup: &mut Setup, line: &str) -> Result<()> {
+    let mut row = Row::new(rt.alloc());
+    push_line(&mut row, setup, line);
+    print_row(rt, row)
+}
+
 /// Prints each line of the script with its answer.
-fn print_script(rt: &HostRuntime) -> Result<()> {
-    let mut mode = Mode::Bits14;
+fn print_lines(rt: &HostRuntime, setup: &mut Setup) -> Result<()> {
     for line in rt.lines(rt.alloc()) {
-        let mut row = Row::new(rt.alloc());
-        push_line(&mut row, &mut mode, line?.as_str());
-        let text = row.finish()?;
-        println!(rt; "{text}")?;
+        print_line(rt, setup, line?.as_str())?;
     }
     Ok(())
 }
 
+fn print_script(rt: &HostRuntime) -> Result<()> {
+    let small = Size { rows: 2, cols: 10 };
+    let mut setup = Setup {
+        default: small,
+        alternate: small,
+        mode: Mode::Bits14,
+        after: String::new(rt.alloc()),
+    };
+    print_lines(rt, &mut setup)
+}
+
 fn main(rt: HostRuntime) -> Result<()> {
     match env::args(&rt)?.nth(1) {
-        Some(times) => bench::measure(&rt, times.parse::<u32>()?),
+        Some(times) => bench::measure(&rt, times.as_str()),
         None => print_script(&rt),
     }
 }

@@ -1,6 +1,7 @@
 //! Steps of a list in blocks.
 
 use crate::marked::{Add, Marked, entry_of, push_entry};
+use crate::parted;
 use ds_places::Pages;
 use test_words::Row;
 
@@ -82,10 +83,16 @@ fn push_found(row: &mut Row, pages: &Pages<Marked>, verb: &str, word: u32) {
 
 /// Takes a step, and adds what it answers.
 fn push_step(row: &mut Row, pages: &mut Pages<Marked>, step: &str) {
-    let (verb, words) = step.split_once(' ').unwrap_or((step, ""));
+    let (verb, words) = parted(step, " ");
     if !take_edit(row, pages, verb, words) {
         let word = row.read_number(words);
         push_found(row, pages, verb, word);
+    }
+}
+
+fn push_each_step(row: &mut Row, pages: &mut Pages<Marked>, steps: &str) {
+    for step in steps.split("; ") {
+        push_step(row, pages, step);
     }
 }
 
@@ -93,10 +100,8 @@ fn push_step(row: &mut Row, pages: &mut Pages<Marked>, step: &str) {
 pub(crate) fn push_steps(row: &mut Row, words: &str) {
     let (room, steps) = row.cut(words, " ");
     let room = row.read_number(room);
-    let Ok(mut pages) = Pages::reserved(row.alloc(), room) else {
-        return row.spoil();
-    };
-    for step in steps.split("; ") {
-        push_step(row, &mut pages, step);
+    match Pages::reserved(row.alloc(), room) {
+        Ok(mut pages) => push_each_step(row, &mut pages, steps),
+        Err(_) => row.spoil(),
     }
 }

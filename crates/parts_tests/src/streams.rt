@@ -3,6 +3,9 @@
 use test_words::Row;
 use tn_wire::{Deframer, Event, Step, Verb, WireFault, frame};
 
+/// The verbs, which take bytes.
+const VERBS: &[&str] = &["stream", "pieces", "thrice", "frame", "framed"];
+
 fn push_record(row: &mut Row, bytes: &[u8]) {
     row.word("record ");
     row.bytes(bytes);
@@ -49,15 +52,7 @@ fn push_told(row: &mut Row, deframer: &mut Deframer, piece: &[u8]) {
     }
 }
 
-/// What a stream tells.
-fn push_whole(row: &mut Row, stream: &[u8]) {
-    match Deframer::new(row.alloc()) {
-        Ok(mut deframer) => push_told(row, &mut deframer, stream),
-        Err(_) => row.spoil(),
-    }
-}
-
-/// What it tells that comes in two pieces.
+/// What a stream tells that comes in two pieces.
 fn push_in_two(row: &mut Row, front: &[u8], back: &[u8]) {
     match Deframer::new(row.alloc()) {
         Ok(mut deframer) => {
@@ -69,12 +64,9 @@ fn push_in_two(row: &mut Row, front: &[u8], back: &[u8]) {
 }
 
 /// What it tells byte by byte.
-fn push_bytewise(row: &mut Row, stream: &[u8]) {
-    let Ok(mut deframer) = Deframer::new(row.alloc()) else {
-        return row.spoil();
-    };
+fn push_bytewise(row: &mut Row, deframer: &mut Deframer, stream: &[u8]) {
     for piece in stream.chunks(1) {
-        push_told(row, &mut deframer, piece);
+        push_told(row, deframer, piece);
     }
 }
 
@@ -93,9 +85,9 @@ fn count_same(row: &Row, stream: &[u8], text: &str) -> u32 {
 }
 
 /// What a stream tells byte by byte, and after how many of its cuts into two pieces it tells the same.
-fn push_pieces(row: &mut Row, stream: &[u8]) {
+fn push_pieces(row: &mut Row, deframer: &mut Deframer, stream: &[u8]) {
     let mut told = Row::new(row.alloc());
-    push_bytewise(&mut told, stream);
+    push_bytewise(&mut told, deframer, stream);
     row.join(&told);
     let same = count_same(row, stream, told.text.as_str());
     row.word_number(" ", same);
@@ -103,25 +95,26 @@ fn push_pieces(row: &mut Row, stream: &[u8]) {
     row.word(" cuts");
 }
 
-/// A stream of which a deframer is asked three times, whatever it answers.
-fn ask_thrice(row: &mut Row, deframer: &mut Deframer, stream: &[u8]) {
+/// Whether a deframer takes what is next, and what is left of it.
+fn ask<'a>(row: &mut Row, deframer: &mut Deframer, stream: &'a [u8]) -> &'a [u8] {
     let mut rest = stream;
-    for _ in 0..3 {
-        match deframer.next(&mut rest) {
-            Ok(_) => row.word("taken"),
-            Err(fault) => row.show(&fault),
+    match deframer.next(&mut rest) {
+        Ok(_) => row.word("taken;"),
+        Err(fault) => {
+            row.show(&fault);
+            row.word(";");
         }
-        row.word(";");
     }
-    row.word_length(" ", rest.len());
-    row.word(" left");
+    rest
 }
 
-fn push_thrice(row: &mut Row, stream: &[u8]) {
-    match Deframer::new(row.alloc()) {
-        Ok(mut deframer) => ask_thrice(row, &mut deframer, stream),
-        Err(_) => row.spoil(),
-    }
+/// A stream of which a deframer is asked three times, whatever it answers.
+fn push_thrice(row: &mut Row, deframer: &mut Deframer, stream: &[u8]) {
+    let rest = ask(row, deframer, stream);
+    let rest = ask(row, deframer, rest);
+    let rest = ask(row, deframer, rest);
+    row.word_length(" ", rest.len());
+    row.word(" left");
 }
 
 /// A record framed.
@@ -133,22 +126,37 @@ fn push_frame(row: &mut Row, record: &[u8]) {
 }
 
 /// What a framed record tells.
-fn push_framed(row: &mut Row, record: &[u8]) {
+fn push_framed(row: &mut Row, deframer: &mut Deframer, record: &[u8]) {
     match frame(row.alloc(), record) {
-        Ok(framed) => push_whole(row, framed.as_slice()),
+        Ok(framed) => push_told(row, deframer, framed.as_slice()),
         Err(_) => row.spoil(),
     }
 }
 
-/// Adds what a verb answers that takes bytes; whether it is one of these.
-pub(crate) fn push_answer(row: &mut Row, verb: &str, bytes: &[u8]) -> bool {
+/// Adds what a verb answers of bytes, with a new deframer.
+fn push_taken(row: &mut Row, deframer: &mut Deframer, verb: &str, bytes: &[u8]) {
     match verb {
-        "stream" => push_whole(row, bytes),
-        "pieces" => push_pieces(row, bytes),
-        "thrice" => push_thrice(row, bytes),
-        "frame" => push_frame(row, bytes),
-        "framed" => push_framed(row, bytes),
-        _ => return false,
+        "stream" => push_told(row, deframer, bytes),
+        "pieces" => push_pieces(row, deframer, bytes),
+        "thrice" => push_thrice(row, deframer, bytes),
+        "framed" => push_framed(row, deframer, bytes),
+        _ => push_frame(row, bytes),
     }
+}
+
+fn push_answer_of(row: &mut Row, verb: &str, bytes: &[u8]) {
+    match Deframer::new(row.alloc()) {
+        Ok(mut deframer) => push_taken(row, &mut deframer, verb, bytes),
+        Err(_) => row.spoil(),
+    }
+}
+
+/// Adds what a verb answers; whether it is one of these.
+pub(crate) fn push_answer(row: &mut Row, verb: &str, words: &str) -> bool {
+    if !VERBS.contains(&verb) {
+        return false;
+    }
+    let bytes = row.read_bytes(words);
+    push_answer_of(row, verb, bytes.as_slice());
     true
 }

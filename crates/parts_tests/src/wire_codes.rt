@@ -1,5 +1,7 @@
 //! Headers and codes, and the words of refusals.
 
+use crate::words::push_name;
+use std::fmt::Display;
 use test_words::Row;
 use tn_wire::{DataType, Header, HeaderFault, Verb, WireFault};
 
@@ -13,23 +15,9 @@ const WIRE_FAULTS: &[WireFault] = &[
 /// Why a header is not read.
 const HEADER_FAULTS: &[HeaderFault] = &[HeaderFault::ShortHeader, HeaderFault::UnknownType];
 
-fn name_of(data_type: DataType) -> &'static str {
-    match data_type {
-        DataType::Data3270 => "Data3270",
-        DataType::ScsData => "ScsData",
-        DataType::Response => "Response",
-        DataType::BindImage => "BindImage",
-        DataType::Unbind => "Unbind",
-        DataType::NvtData => "NvtData",
-        DataType::Request => "Request",
-        DataType::SscpLuData => "SscpLuData",
-        DataType::PrintEoj => "PrintEoj",
-    }
-}
-
 /// A header, the record after it, and the header's bytes again.
 fn push_header(row: &mut Row, header: Header, rest: &[u8]) {
-    row.word(name_of(header.data_type));
+    push_name(row, &header.data_type);
     row.word_number(" ", u32::from(header.request));
     row.word_number(" ", u32::from(header.response));
     row.word_number(" ", u32::from(header.seq));
@@ -64,23 +52,25 @@ fn push_types(row: &mut Row) {
         if let Some(data_type) = DataType::from_byte(byte) {
             row.hex(byte);
             row.word(" ");
-            row.word(name_of(data_type));
+            push_name(row, &data_type);
             row.word_hex(" as ", data_type.byte());
             row.word(";");
         }
     }
 }
 
+/// Faults in their own words.
+fn push_faults<T: Display>(row: &mut Row, faults: &[T]) {
+    for fault in faults {
+        row.show(fault);
+        row.word(";");
+    }
+}
+
 /// Every refusal's words.
 fn push_words(row: &mut Row) {
-    for fault in WIRE_FAULTS {
-        row.show(fault);
-        row.word(";");
-    }
-    for fault in HEADER_FAULTS {
-        row.show(fault);
-        row.word(";");
-    }
+    push_faults(row, WIRE_FAULTS);
+    push_faults(row, HEADER_FAULTS);
 }
 
 /// Each law does nothing.

@@ -1,6 +1,7 @@
 //! The words of every refusal, and the law.
 
 use ds_codec::{BadSize, Refused, Unwritable, Why, one_reading};
+use std::fmt::Debug;
 use test_words::Row;
 
 /// Why a record is not read.
@@ -27,8 +28,14 @@ const FLAWS: &[Unwritable] = &[
     Unwritable::OutOfMemory,
 ];
 
+/// A value as the code has it.
+pub(crate) fn push_name<T: Debug>(row: &mut Row, value: &T) {
+    let pushed = write!(row.text, "{value:?}");
+    row.note(pushed);
+}
+
 /// A comma, words and a semicolon.
-fn push_last(row: &mut Row, words: &str) {
+pub(crate) fn push_last(row: &mut Row, words: &str) {
     row.word(", ");
     row.word(words);
     row.word("; ");

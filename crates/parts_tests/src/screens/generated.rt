@@ -1,7 +1,7 @@
 //! Generated records, applied to an outline and to a screen side by side.
 
 use ds_codec::{Mode, Record};
-use ds_screen::{FieldAt, Outline, PlainCells, Screen};
+use ds_screen::{Outline, PlainCells, Screen};
 use test_words::Row;
 
 /// The next number, below `bound`, of a sequence that its seed determines.
@@ -16,7 +16,7 @@ fn draw_byte(seed: &mut u32, bound: u32) -> u8 {
 
 /// One of some bytes.
 pub(crate) fn draw_from(seed: &mut u32, bytes: &[u8]) -> u8 {
-    let index = usize::try_from(draw(seed, 16)).unwrap_or(0);
+    let index = draw(seed, 16) as usize;
     bytes.get(index).copied().unwrap_or(0xC2)
 }
 
@@ -95,28 +95,7 @@ pub(crate) fn record_of(row: &mut Row, seed: &mut u32) -> Vec<u8> {
 
 /// Whether both take a record with the same effect, or refuse it alike.
 fn take_alike(outline: &mut Outline, screen: &mut Screen<PlainCells>, record: &Record<'_>) -> bool {
-    match (outline.apply(record), screen.apply(record)) {
-        (Ok(told), Ok(shown)) => told == shown,
-        (Err(told), Err(shown)) => told == shown,
-        _ => false,
-    }
-}
-
-fn is_field(field: Option<FieldAt>, other: FieldAt) -> bool {
-    match field {
-        Some(field) => field == other,
-        None => false,
-    }
-}
-
-fn have_same_fields(outline: &Outline, screen: &Screen<PlainCells>) -> bool {
-    let mut fields = outline.fields();
-    for field in screen.fields() {
-        if !is_field(fields.next(), field) {
-            return false;
-        }
-    }
-    fields.next().is_none()
+    outline.apply(record) == screen.apply(record)
 }
 
 fn are_alike(outline: &Outline, screen: &Screen<PlainCells>) -> bool {
@@ -124,7 +103,7 @@ fn are_alike(outline: &Outline, screen: &Screen<PlainCells>) -> bool {
         && outline.cursor() == screen.cursor()
         && outline.lock() == screen.lock()
         && outline.geometry() == screen.geometry()
-        && have_same_fields(outline, screen)
+        && outline.fields().eq(screen.fields())
 }
 
 /// Whether one generated record leaves both alike.

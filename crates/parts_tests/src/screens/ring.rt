@@ -4,7 +4,8 @@ use ds_screen::ring::{backward, distance, forward, next, previous};
 use test_words::Row;
 
 /// The positions after and before one of so many.
-fn push_beside(row: &mut Row, n: u32, p: u32) {
+fn push_beside(row: &mut Row, words: &str) {
+    let (n, p) = row.read_numbers(words);
     if p >= n {
         return row.spoil();
     }
@@ -29,20 +30,24 @@ fn push_distance(row: &mut Row, n: u32, from: u32, to: u32) {
     row.number(distance(n, from, to));
 }
 
-/// Adds what a verb answers of three numbers, the last 0 where there are two; whether it is one of these.
-pub(crate) fn push_answer(row: &mut Row, verb: &str, words: &str) -> bool {
-    if verb != "beside" && verb != "far" && verb != "distance" {
-        return false;
-    }
+/// What is asked of a ring, a position in it and a third number.
+fn push_from(row: &mut Row, verb: &str, words: &str) {
     let (n, rest) = row.cut(words, " ");
-    let (first, second) = rest.split_once(' ').unwrap_or((rest, "0"));
     let n = row.read_number(n);
-    let first = row.read_number(first);
-    let second = row.read_number(second);
+    let (first, second) = row.read_numbers(rest);
+    if verb == "far" {
+        push_far(row, n, first, second);
+    } else {
+        push_distance(row, n, first, second);
+    }
+}
+
+/// Adds what a verb answers; whether it is one of these.
+pub(crate) fn push_answer(row: &mut Row, verb: &str, words: &str) -> bool {
     match verb {
-        "beside" => push_beside(row, n, first),
-        "far" => push_far(row, n, first, second),
-        _ => push_distance(row, n, first, second),
+        "beside" => push_beside(row, words),
+        "far" | "distance" => push_from(row, verb, words),
+        _ => return false,
     }
     true
 }

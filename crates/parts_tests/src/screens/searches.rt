@@ -1,27 +1,22 @@
 //! Places that are searched on a screen, and buffers by themselves.
 
-use ds_codec::{Cell, Char};
+use crate::codes::push_char;
+use crate::words::push_name;
+use ds_codec::Cell;
 use ds_screen::{Cells, Screen};
 use test_words::Row;
 
-fn push_found(row: &mut Row, place: Option<u32>) {
-    match place {
-        Some(place) => {
-            row.word_number("Some(", place);
-            row.word(")");
-        }
-        None => row.word("None"),
-    }
-}
+/// The verbs of a place.
+const OF_A_PLACE: &[&str] = &["around", "open", "cell"];
 
 /// The attribute that governs a place, and the next one from there on.
 fn push_around<C: Cells>(row: &mut Row, screen: &Screen<C>, place: u32) {
     if place >= screen.size().cells() {
         return row.spoil();
     }
-    push_found(row, screen.attr_before(place));
+    push_name(row, &screen.attr_before(place));
     row.word(" ");
-    push_found(row, screen.attr_from(place));
+    push_name(row, &screen.attr_from(place));
 }
 
 /// Whether a place is open, and the first open one from there on.
@@ -33,16 +28,10 @@ fn push_open<C: Cells>(row: &mut Row, screen: &Screen<C>, place: u32) {
     row.word_number(" ", screen.first_open(place));
 }
 
-fn push_character(row: &mut Row, character: Char) {
-    row.hex(character.code());
-    row.word(" ");
-    row.truth(character.alt());
-}
-
 fn push_cell(row: &mut Row, cell: Cell) {
     match cell {
         Cell::Field(attribute) => row.word_hex("attribute ", attribute.bits()),
-        Cell::Char(character) => push_character(row, character),
+        Cell::Char(character) => push_char(row, character),
     }
 }
 
@@ -86,7 +75,7 @@ pub(crate) fn push_answer<C: Cells>(
     verb: &str,
     words: &str,
 ) -> bool {
-    if verb != "around" && verb != "open" && verb != "cell" {
+    if !OF_A_PLACE.contains(&verb) {
         return false;
     }
     let place = row.read_number(words);

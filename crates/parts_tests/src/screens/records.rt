@@ -1,10 +1,13 @@
 //! What records do to screens, and what keys change on them.
 
-use crate::Setup;
-use crate::inbound::{push_buffer, push_sent};
-use crate::large::{push_buffers, push_sends};
-use ds_codec::{Aid, Attr, Char, Geometry, Record, Size};
+use crate::screens::inbound::{push_buffer, push_sent};
+use crate::screens::large::push_wanted;
+use crate::words::push_name;
+use crate::{Setup, parted};
+use ds_codec::{Aid, Attr, Char, Geometry, Size};
+use ds_inbound::{write_buffer, write_inbound};
 use ds_screen::{Cells, Effect, FieldAt, Lock, Screen};
+use ds_terminal::{Refused, take_record};
 use test_words::Row;
 
 /// The verbs that say what a screen is after more records.
@@ -28,10 +31,7 @@ pub(crate) fn opened<C: Cells>(row: &mut Row, setup: &Setup) -> Option<Screen<C>
 /// Applies a record.
 fn write<C: Cells>(row: &mut Row, screen: &mut Screen<C>, text: &str) -> Option<Effect> {
     let bytes = row.read_bytes(text);
-    match Record::read(screen.geometry().mode(), bytes.as_slice()) {
-        Ok(record) => screen.apply(&record).ok(),
-        Err(_) => None,
-    }
+    take_record(screen, bytes.as_slice()).ok()
 }
 
 /// Applies records that are parted by semicolons.
@@ -64,14 +64,6 @@ pub(crate) fn push_cells<C: Cells>(row: &mut Row, screen: &Screen<C>) {
     row.word_number(" ", screen.cursor());
 }
 
-fn name_of(lock: Lock) -> &'static str {
-    match lock {
-        Lock::Free => "Free",
-        Lock::Waiting => "Waiting",
-        Lock::Error => "Error",
-    }
-}
-
 fn push_size(row: &mut Row, size: Size) {
     row.number(u32::from(size.rows));
     row.word_number("x", u32::from(size.cols));
@@ -83,7 +75,7 @@ pub(crate) fn push_all<C: Cells>(row: &mut Row, screen: &Screen<C>) {
     row.word(" ");
     push_size(row, screen.size());
     row.word(" ");
-    row.word(name_of(screen.lock()));
+    push_name(row, &screen.lock());
     row.word_hex(" ", screen.aid().byte());
 }
 
@@ -102,19 +94,12 @@ fn push_fields<C: Cells>(row: &mut Row, screen: &Screen<C>) {
     }
 }
 
-/// Applies a record; why it is refused.
-fn push_applied<C: Cells>(row: &mut Row, screen: &mut Screen<C>, record: &Record<'_>) {
-    match screen.apply(record) {
-        Ok(_) => row.word("applied"),
-        Err(refused) => row.show(&refused),
-    }
-}
-
 /// Why a record is refused, and the cells after it.
 fn push_refused<C: Cells>(row: &mut Row, screen: &mut Screen<C>, text: &str) {
     let bytes = row.read_bytes(text);
-    match Record::read(screen.geometry().mode(), bytes.as_slice()) {
-        Ok(record) => push_applied(row, screen, &record),
+    match take_record(screen, bytes.as_slice()) {
+        Ok(_) => row.word("applied"),
+        Err(Refused::Apply(refused)) => row.show(&refused),
         Err(_) => row.spoil(),
     }
     row.word(": ");
@@ -126,15 +111,20 @@ pub(crate) fn push_state(row: &mut Row, size: Size, cursor: u32, lock: Lock) {
     push_size(row, size);
     row.word_number(" ", cursor);
     row.word(" ");
-    row.word(name_of(lock));
+    push_name(row, &lock);
 }
 
-/// What a record does besides, with the size, the cursor and the keyboard after it.
-fn push_effect<C: Cells>(row: &mut Row, effect: Effect, screen: &Screen<C>) {
+/// What a record does besides.
+pub(crate) fn push_told(row: &mut Row, effect: Effect) {
     row.word("alarm ");
     row.truth(effect.alarm);
     row.word(" restored ");
     row.truth(effect.restored);
+}
+
+/// The same, with the size, the cursor and the keyboard after it.
+fn push_effect<C: Cells>(row: &mut Row, effect: Effect, screen: &Screen<C>) {
+    push_told(row, effect);
     row.word(" ");
     push_state(row, screen.size(), screen.cursor(), screen.lock());
     row.word("; ");
@@ -237,7 +227,12 @@ fn push_cleared<C: Cells>(row: &mut Row, screen: &mut Screen<C>) {
 }
 
 /// Adds what a verb answers after more records; whether it is one of these.
-fn push_after<C: Cells>(row: &mut Row, screen: &mut Screen<C>, verb: &str, records: &str) -> bool {
+pub(crate) fn push_after<C: Cells>(
+    row: &mut Row,
+    screen: &mut Screen<C>,
+    verb: &str,
+    records: &str,
+) -> bool {
     if !AFTER.contains(&verb) {
         return false;
     }
@@ -253,7 +248,7 @@ fn push_after<C: Cells>(row: &mut Row, screen: &mut Screen<C>, verb: &str, recor
 }
 
 /// Adds what a verb answers after records that end at a mark; whether it is one of these.
-fn push_before_mark<C: Cells>(
+pub(crate) fn push_before_mark<C: Cells>(
     row: &mut Row,
     screen: &mut Screen<C>,
     verb: &str,
@@ -264,22 +259,29 @@ fn push_before_mark<C: Cells>(
     }
     let (records, wanted) = row.cut(words, " = ");
     write_all(row, screen, records);
-    match verb {
-        "sends" => push_sends(row, screen, wanted),
-        _ => push_buffers(row, screen, wanted),
-    }
+    screen.set_aid(Aid::enter());
+    let sent = match verb {
+        "sends" => write_inbound(row.alloc(), screen, false),
+        _ => write_buffer(row.alloc(), screen),
+    };
+    push_wanted(row, sent, wanted);
     true
 }
 
 /// What a screen answers after a key and more records.
 fn push_sent_after<C: Cells>(row: &mut Row, screen: &mut Screen<C>, words: &str) {
-    let (aid, records) = words.split_once(' ').unwrap_or((words, ""));
+    let (aid, records) = parted(words, " ");
     write_all(row, screen, records);
     push_sent(row, screen, aid);
 }
 
 /// Adds what a verb answers that changes its screen; whether it is one of these.
-fn push_changed<C: Cells>(row: &mut Row, screen: &mut Screen<C>, verb: &str, words: &str) -> bool {
+pub(crate) fn push_changed<C: Cells>(
+    row: &mut Row,
+    screen: &mut Screen<C>,
+    verb: &str,
+    words: &str,
+) -> bool {
     match verb {
         "put" => push_put(row, screen, words),
         "repeat" => push_repeated(row, screen, words),
@@ -292,16 +294,4 @@ fn push_changed<C: Cells>(row: &mut Row, screen: &mut Screen<C>, verb: &str, wor
         _ => return false,
     }
     true
-}
-
-/// Adds what a verb answers; whether it is one of these.
-pub(crate) fn push_answer<C: Cells>(
-    row: &mut Row,
-    screen: &mut Screen<C>,
-    verb: &str,
-    words: &str,
-) -> bool {
-    push_after(row, screen, verb, words)
-        || push_before_mark(row, screen, verb, words)
-        || push_changed(row, screen, verb, words)
 }

@@ -1,8 +1,11 @@
 //! Answers written and read.
 
-use ds_codec::{Aid, Char, Mode};
+use crate::codec::push_character;
+use crate::screens::large::push_counts;
+use ds_codec::{Aid, Mode};
 use ds_inbound::{Inbound, chars, write_buffer, write_inbound};
 use ds_screen::{Cells, Screen};
+use std::alloc::AllocError;
 use test_words::Row;
 
 /// Bytes, and how many characters they are.
@@ -31,20 +34,24 @@ fn push_inbound(row: &mut Row, answer: &Inbound<'_>) {
     }
 }
 
+/// An answer, or how many characters and fields it has.
+fn push_told(row: &mut Row, answer: &Inbound<'_>, verb: &str) {
+    if verb == "counted" {
+        push_counts(row, answer);
+    } else {
+        push_inbound(row, answer);
+    }
+}
+
 /// What bytes say of a buffer of so many cells.
-pub(crate) fn push_read(row: &mut Row, mode: Mode, words: &str) {
+pub(crate) fn push_read(row: &mut Row, mode: Mode, verb: &str, words: &str) {
     let (cells, bytes) = row.cut(words, " ");
     let cells = row.read_number(cells);
     let bytes = row.read_bytes(bytes);
     match Inbound::read(mode, cells, bytes.as_slice()) {
-        Ok(answer) => push_inbound(row, &answer),
+        Ok(answer) => push_told(row, &answer, verb),
         Err(refused) => row.show(&refused),
     }
-}
-
-fn push_character(row: &mut Row, character: Char) {
-    row.word(if character.alt() { " GE " } else { " " });
-    row.hex(character.code());
 }
 
 /// The characters of bytes.
@@ -56,11 +63,16 @@ pub(crate) fn push_codes(row: &mut Row, words: &str) {
     }
 }
 
-pub(crate) fn push_modified<C: Cells>(row: &mut Row, screen: &Screen<C>, all: bool) {
-    match write_inbound(row.alloc(), screen, all) {
+fn push_written(row: &mut Row, written: Result<Vec<u8>, AllocError>) {
+    match written {
         Ok(bytes) => row.bytes(bytes.as_slice()),
         Err(_) => row.spoil(),
     }
+}
+
+pub(crate) fn push_modified<C: Cells>(row: &mut Row, screen: &Screen<C>, all: bool) {
+    let written = write_inbound(row.alloc(), screen, all);
+    push_written(row, written);
 }
 
 /// What a screen answers to Read Modified and to Read Modified All, after a key.
@@ -76,8 +88,6 @@ pub(crate) fn push_sent<C: Cells>(row: &mut Row, screen: &mut Screen<C>, aid: &s
 
 /// What a screen answers to Read Buffer.
 pub(crate) fn push_buffer<C: Cells>(row: &mut Row, screen: &Screen<C>) {
-    match write_buffer(row.alloc(), screen) {
-        Ok(bytes) => row.bytes(bytes.as_slice()),
-        Err(_) => row.spoil(),
-    }
+    let written = write_buffer(row.alloc(), screen);
+    push_written(row, written);
 }

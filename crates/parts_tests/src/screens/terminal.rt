@@ -1,7 +1,7 @@
 //! Terminals: records and keys with their replies.
 
 use crate::Setup;
-use crate::screens::geometry_of;
+use crate::screens::records::{geometry_of, push_told};
 use ds_keys::key_of_line;
 use ds_screen::{Cells, Effect, Screen};
 use ds_terminal::{
@@ -32,10 +32,8 @@ fn opened<C: Cells>(row: &mut Row, setup: &Setup) -> Option<Terminal<C>> {
 }
 
 fn push_shown(row: &mut Row, effect: Effect) {
-    row.word("shown alarm ");
-    row.truth(effect.alarm);
-    row.word(" restored ");
-    row.truth(effect.restored);
+    row.word("shown ");
+    push_told(row, effect);
 }
 
 fn push_sent(row: &mut Row, bytes: &[u8]) {
@@ -165,41 +163,34 @@ fn push_restored(row: &mut Row, effect: Effect, cursor: u32) {
     row.word_number(" ", cursor);
 }
 
-/// A record that a screen takes at once; whether it does.
-fn push_taken<C: Cells>(row: &mut Row, screen: &mut Screen<C>, bytes: &[u8]) -> bool {
-    match take_record(screen, bytes) {
-        Ok(effect) => {
-            push_restored(row, effect, screen.cursor());
-            true
-        }
-        Err(refused) => {
-            row.word("not taken, ");
-            row.show(&refused);
-            false
-        }
+/// Reads a record, and then applies it.
+fn take_in_two<C: Cells>(screen: &mut Screen<C>, bytes: &[u8]) -> Result<Effect, Refused> {
+    match read_record(screen, bytes) {
+        Ok(record) => apply_record(screen, &record),
+        Err(refused) => Err(refused),
     }
 }
 
 /// A record that a screen reads and then applies.
 fn push_read_applied<C: Cells>(row: &mut Row, screen: &mut Screen<C>, bytes: &[u8]) {
-    let record = match read_record(screen, bytes) {
-        Ok(record) => record,
-        Err(refused) => return push_stage(row, refused),
-    };
-    match apply_record(screen, &record) {
+    match take_in_two(screen, bytes) {
         Ok(effect) => push_restored(row, effect, screen.cursor()),
         Err(refused) => push_stage(row, refused),
     }
 }
 
 /// A record that a screen takes at once, and one that it reads and then applies.
-fn push_both<C: Cells>(row: &mut Row, screen: &mut Screen<C>, records: &str) {
-    let (first, second) = row.cut(records, ";");
-    let first = row.read_bytes(first);
-    let second = row.read_bytes(second);
-    if push_taken(row, screen, first.as_slice()) {
-        row.word(", ");
-        push_read_applied(row, screen, second.as_slice());
+fn push_both<C: Cells>(row: &mut Row, screen: &mut Screen<C>, first: &[u8], second: &[u8]) {
+    match take_record(screen, first) {
+        Ok(effect) => {
+            push_restored(row, effect, screen.cursor());
+            row.word(", ");
+            push_read_applied(row, screen, second);
+        }
+        Err(refused) => {
+            row.word("not taken, ");
+            row.show(&refused);
+        }
     }
 }
 
@@ -208,11 +199,19 @@ fn blank<C: Cells>(row: &Row, setup: &Setup) -> Option<Screen<C>> {
 }
 
 /// The same of a new screen.
-pub(crate) fn push_two<C: Cells>(row: &mut Row, setup: &Setup, records: &str) {
+fn push_new<C: Cells>(row: &mut Row, setup: &Setup, first: &[u8], second: &[u8]) {
     match blank::<C>(row, setup) {
-        Some(mut screen) => push_both(row, &mut screen, records),
+        Some(mut screen) => push_both(row, &mut screen, first, second),
         None => row.spoil(),
     }
+}
+
+/// The same of two words.
+pub(crate) fn push_two<C: Cells>(row: &mut Row, setup: &Setup, records: &str) {
+    let (first, second) = row.cut(records, ";");
+    let first = row.read_bytes(first);
+    let second = row.read_bytes(second);
+    push_new::<C>(row, setup, first.as_slice(), second.as_slice());
 }
 
 /// Adds what a verb of a terminal answers.

@@ -1,5 +1,6 @@
 //! The words of every refusal, and the laws.
 
+use crate::words::push_last;
 use test_words::Row;
 
 /// Why a record is not applied.
@@ -30,13 +31,6 @@ const UNSHOWN: &[ds_terminal::Refused] = &[
         why: ds_screen::Why::NoFieldHere,
     }),
 ];
-
-/// A comma, words and a semicolon.
-fn push_last(row: &mut Row, words: &str) {
-    row.word(", ");
-    row.word(words);
-    row.word("; ");
-}
 
 fn push_applying(row: &mut Row) {
     for why in REFUSALS {
@@ -90,7 +84,7 @@ pub(crate) fn push_answer(row: &mut Row, verb: &str) -> bool {
         "applying" => push_applying(row),
         "answers" => push_answers(row),
         "terminals" => push_terminals(row),
-        "laws" => push_laws(row),
+        "screen-laws" => push_laws(row),
         _ => return false,
     }
     true

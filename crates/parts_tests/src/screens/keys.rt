@@ -1,7 +1,7 @@
 //! Keys pressed, one after the other or each by itself.
 
 use crate::Setup;
-use crate::screens::{opened, push_all, push_cells};
+use crate::screens::records::{opened, push_all, push_cells};
 use ds_keys::{Pressed, key_of_line, press};
 use ds_screen::{Cells, Screen};
 use test_words::Row;
@@ -36,22 +36,11 @@ pub(crate) fn push_keys<C: Cells>(row: &mut Row, screen: &mut Screen<C>, lines: 
     }
 }
 
-fn press_line<C: Cells>(row: &mut Row, screen: &mut Screen<C>, line: &str) {
-    match key_of_line(line) {
-        Some(key) => {
-            let _told = press(screen, key);
-        }
-        None => row.spoil(),
-    }
-}
-
 /// Presses keys.
 fn press_all<C: Cells>(row: &mut Row, screen: &mut Screen<C>, lines: &str) {
-    for line in lines.split(", ") {
-        if !line.is_empty() {
-            press_line(row, screen, line);
-        }
-    }
+    let mut told = Row::new(row.alloc());
+    push_keys(&mut told, screen, lines);
+    let _text = row.take(told.finish());
 }
 
 /// The answer to a key on a screen of its own that took some keys before.
@@ -67,7 +56,7 @@ fn push_after<C: Cells>(row: &mut Row, setup: &Setup, before: &str, line: &str) 
 
 /// The answers to keys, each on a screen of its own that took some keys before, which a bar ends.
 pub(crate) fn push_each<C: Cells>(row: &mut Row, setup: &Setup, words: &str) {
-    let (before, lines) = words.split_once("|").unwrap_or(("", words));
+    let (before, lines) = row.cut(words, "|");
     for line in lines.split(", ") {
         push_after::<C>(row, setup, before, line);
     }

@@ -1,10 +1,10 @@
 //! What records leave of an outline.
 
 use crate::Setup;
-use crate::generated::count_alike;
-use crate::screens::{geometry_of, opened, push_field, push_state};
-use ds_codec::{Record, last_attr};
+use crate::screens::generated::count_alike;
+use crate::screens::records::{geometry_of, opened, push_field, push_state};
 use ds_screen::{Outline, PlainCells};
+use ds_terminal::{Refused, take_record};
 use test_words::Row;
 
 /// A new outline of the setup's sizes.
@@ -13,17 +13,14 @@ fn blank(row: &Row, setup: &Setup) -> Option<Outline> {
 }
 
 /// Applies a record; tells why it is refused.
-fn apply(row: &mut Row, outline: &mut Outline, record: &Record<'_>) {
-    if let Err(refused) = outline.apply(record) {
-        row.show(&refused);
-        row.word("; ");
-    }
-}
-
 fn take(row: &mut Row, outline: &mut Outline, text: &str) {
     let bytes = row.read_bytes(text);
-    match Record::read(outline.geometry().mode(), bytes.as_slice()) {
-        Ok(record) => apply(row, outline, &record),
+    match take_record(outline, bytes.as_slice()) {
+        Ok(_) => {}
+        Err(Refused::Apply(refused)) => {
+            row.show(&refused);
+            row.word("; ");
+        }
         Err(_) => row.spoil(),
     }
 }
@@ -65,24 +62,20 @@ fn push_alike(row: &mut Row, setup: &Setup, outline: &mut Outline, words: &str) 
     }
 }
 
-/// The bits of the last attribute among pairs.
-fn push_last(row: &mut Row, words: &str) {
-    let pairs = row.read_bytes(words);
-    match last_attr(pairs.as_slice()) {
-        Some(attribute) => row.hex(attribute.bits()),
-        None => row.word("none"),
+/// Adds what a verb answers of an outline.
+fn push_told(row: &mut Row, setup: &Setup, outline: &mut Outline, verb: &str, words: &str) {
+    if verb == "outline" {
+        push_after(row, setup, outline, words);
+    } else {
+        push_alike(row, setup, outline, words);
     }
 }
 
 /// Adds what a verb answers that begins with an outline.
 fn push_outlined(row: &mut Row, setup: &Setup, verb: &str, words: &str) {
-    let Some(mut outline) = blank(row, setup) else {
-        return row.spoil();
-    };
-    if verb == "outline" {
-        push_after(row, setup, &mut outline, words);
-    } else {
-        push_alike(row, setup, &mut outline, words);
+    match blank(row, setup) {
+        Some(mut outline) => push_told(row, setup, &mut outline, verb, words),
+        None => row.spoil(),
     }
 }
 
@@ -90,7 +83,6 @@ fn push_outlined(row: &mut Row, setup: &Setup, verb: &str, words: &str) {
 pub(crate) fn push_answer(row: &mut Row, setup: &Setup, verb: &str, words: &str) -> bool {
     match verb {
         "outline" | "alike" => push_outlined(row, setup, verb, words),
-        "last" => push_last(row, words),
         _ => return false,
     }
     true

@@ -1,9 +1,9 @@
 //! The two ways of keeping a buffer, side by side, and the search that counts its looks.
 
 use crate::Setup;
-use crate::generated::{draw, draw_from, record_of};
-use crate::inbound::{push_buffer, push_modified};
-use crate::screens::opened;
+use crate::screens::generated::{draw, draw_from, record_of};
+use crate::screens::inbound::{push_buffer, push_modified};
+use crate::screens::records::opened;
 use ds_codec::{Aid, Attr, Cell, Mode, Record};
 use ds_keys::{Key, press};
 use ds_screen::{Cells, PlainCells, PlaneCells, Screen, attr_before_counted};
@@ -38,11 +38,7 @@ fn key_of(seed: &mut u32) -> Key {
 
 /// Whether both take a record with the same effect, or refuse it alike.
 fn take_alike(pair: &mut Pair, record: &Record<'_>) -> bool {
-    match (pair.plain.apply(record), pair.planes.apply(record)) {
-        (Ok(plain), Ok(planes)) => plain == planes,
-        (Err(plain), Err(planes)) => plain == planes,
-        _ => false,
-    }
+    pair.plain.apply(record) == pair.planes.apply(record)
 }
 
 /// Whether all cells, and what is found from each of them, are the same.
@@ -60,15 +56,12 @@ fn have_same_cells(pair: &Pair) -> bool {
 }
 
 /// Whether they answer the same to Read Modified All and to Read Buffer.
-fn have_same_answers(row: &mut Row, pair: &Pair) -> bool {
+fn have_same_answers(row: &Row, pair: &Pair) -> bool {
     let mut plain = Row::new(row.alloc());
     push_sent(&mut plain, &pair.plain);
     let mut planes = Row::new(row.alloc());
     push_sent(&mut planes, &pair.planes);
-    match (row.take(plain.finish()), row.take(planes.finish())) {
-        (Some(plain), Some(planes)) => plain.as_str() == planes.as_str(),
-        _ => false,
-    }
+    plain.says(planes.text.as_str()) && planes.says(plain.text.as_str())
 }
 
 /// What a screen answers to Read Modified All and to Read Buffer.
@@ -79,7 +72,7 @@ fn push_sent<C: Cells>(row: &mut Row, screen: &Screen<C>) {
 }
 
 /// Whether cells, size, cursor, keyboard, attention identifier and answers are the same.
-fn are_alike(row: &mut Row, pair: &Pair) -> bool {
+fn are_alike(row: &Row, pair: &Pair) -> bool {
     pair.plain.size() == pair.planes.size()
         && pair.plain.cursor() == pair.planes.cursor()
         && pair.plain.lock() == pair.planes.lock()
