@@ -5,6 +5,10 @@ use std::alloc::{AllocError, Global};
 
 const VERSION: &str = "0.1.0";
 
+const LAYOUT_HELP: &str = "The file of the layout, in TOML";
+
+const KEYS_HELP: &str = "The file of the keys, one a line";
+
 const STATUSES: &str = "Statuses:
   0  done, or yes
   1  check or talk has findings
@@ -180,210 +184,279 @@ Statuses:
   0 done, 2 bad input, 3 the keys can't be read, the host can't be reached, or the session, a read or a write
   failed, 4 out of memory";
 
-/// In which of some forms it is printed.
-fn format<'a>(alloc: Global, forms: &'a [&'a str], help: &'a str) -> Arg<'a> {
-    Arg::new(alloc, "format")
-        .long("format")
-        .value_name("FORM")
-        .value_parser(forms)
-        .default_value("text")
-        .help(help)
+/// What an argument of a command takes.
+#[derive(Clone, Copy)]
+enum Takes<'a> {
+    /// An operand, which must be given.
+    Operand,
+    /// One operand or more.
+    Operands,
+    /// Nothing: the option is there or not.
+    Nothing,
+    /// The path of a file.
+    File,
+    /// The path of a file, where the option of this name isn't given.
+    FileWithout(&'a str),
+    /// A value of this name: one of these words, the one named last where none is given.
+    OneOf(&'a str, &'a [&'a str], &'a str),
+    /// A value of this name: a text, this one where none is given.
+    Text(&'a str, &'a str),
+    /// A value of this name: a number from 1 to this one, which must be given.
+    Number(&'a str, i64),
 }
 
-/// When text has the looks of its cells.
-fn color<'a>(alloc: Global) -> Arg<'a> {
-    Arg::new(alloc, "color")
-        .long("color")
-        .value_name("WHEN")
-        .value_parser(WHEN)
-        .default_value("auto")
-        .help("When the text has the looks of its cells")
+/// An argument of a command.
+struct Argument<'a> {
+    name: &'a str,
+    takes: Takes<'a>,
+    help: &'a str,
 }
 
-/// The layout that a picture shows too.
-fn drawn_layout<'a>(alloc: Global) -> Result<Arg<'a>, AllocError> {
-    let layout = Arg::new(alloc, "layout")
-        .long("layout")
-        .value_name("FILE")
-        .conflicts_with("color")?;
-    Ok(layout.help("With svg and html: name the fields of this layout, and mark what check finds"))
+/// A command, with its help.
+struct Described<'a> {
+    name: &'a str,
+    about: &'a str,
+    after_help: &'a str,
+    arguments: &'a [Argument<'a>],
 }
 
-/// The file of the layout, which must be given.
-fn layout<'a>(alloc: Global) -> Arg<'a> {
-    Arg::new(alloc, "LAYOUT")
+/// The commands, in the order in which help lists them.
+const COMMANDS: &[Described<'_>] = &[
+    Described {
+        name: "show",
+        about: "Print the screen that the records leave (the default command)",
+        after_help: SHOW,
+        arguments: &[
+            Argument {
+                name: "format",
+                takes: Takes::OneOf("FORM", SCREEN_FORMS, "text"),
+                help: "How the screen is printed",
+            },
+            Argument {
+                name: "color",
+                takes: Takes::OneOf("WHEN", WHEN, "auto"),
+                help: "When the text has the looks of its cells",
+            },
+            Argument {
+                name: "layout",
+                takes: Takes::FileWithout("color"),
+                help: "With svg and html: name the fields of this layout, and mark what check finds",
+            },
+        ],
+    },
+    Described {
+        name: "check",
+        about: "Print yes, or the findings of records and a layout",
+        after_help: CHECK,
+        arguments: &[
+            Argument {
+                name: "LAYOUT",
+                takes: Takes::Operand,
+                help: LAYOUT_HELP,
+            },
+            Argument {
+                name: "demo",
+                takes: Takes::Nothing,
+                help: "Press the keys of each finding that has some, and print what is sent",
+            },
+            Argument {
+                name: "records",
+                takes: Takes::File,
+                help: "The file of the records, in place of standard input",
+            },
+            Argument {
+                name: "format",
+                takes: Takes::OneOf("FORM", FINDING_FORMS, "text"),
+                help: "How the findings are printed",
+            },
+        ],
+    },
+    Described {
+        name: "talk",
+        about: "Print yes, or the findings of a dialogue: several screens, and an operator between them",
+        after_help: TALK,
+        arguments: &[Argument {
+            name: "LAYOUT",
+            takes: Takes::Operands,
+            help: "The files of the layouts, one for each turn, in TOML",
+        }],
+    },
+    Described {
+        name: "press",
+        about: "Press keys on the screen that the records leave, and print what is sent",
+        after_help: PRESS,
+        arguments: &[Argument {
+            name: "KEYS",
+            takes: Takes::Operand,
+            help: KEYS_HELP,
+        }],
+    },
+    Described {
+        name: "convert",
+        about: "Print each record as lines: its command and its orders",
+        after_help: CONVERT,
+        arguments: &[Argument {
+            name: "back",
+            takes: Takes::Nothing,
+            help: "Read such lines, and print the records",
+        }],
+    },
+    Described {
+        name: "draft",
+        about: "Print a layout for the screen that the records leave",
+        after_help: DRAFT,
+        arguments: &[],
+    },
+    Described {
+        name: "bind",
+        about: "Print the fields of each answer, by the names of a layout",
+        after_help: BIND,
+        arguments: &[
+            Argument {
+                name: "LAYOUT",
+                takes: Takes::Operand,
+                help: LAYOUT_HELP,
+            },
+            Argument {
+                name: "text",
+                takes: Takes::Nothing,
+                help: "Print fields as text, and not in hexadecimal",
+            },
+        ],
+    },
+    Described {
+        name: "records",
+        about: "Print the records of a traced or captured session",
+        after_help: RECORDS,
+        arguments: &[
+            Argument {
+                name: "from",
+                takes: Takes::OneOf("SOURCE", SOURCES, "trace"),
+                help: "Where the lines come from: a trace, or a captured stream",
+            },
+            Argument {
+                name: "answers",
+                takes: Takes::Nothing,
+                help: "Print what the terminal sent, and not the host",
+            },
+        ],
+    },
+    Described {
+        name: "serve",
+        about: "Serve the screen to terminals over TCP, and print what they send",
+        after_help: SERVE,
+        arguments: &[
+            Argument {
+                name: "LAYOUT",
+                takes: Takes::Operand,
+                help: LAYOUT_HELP,
+            },
+            Argument {
+                name: "port",
+                takes: Takes::Number("P", 65535),
+                help: "The port that is listened at: 1 to 65535",
+            },
+            Argument {
+                name: "count",
+                takes: Takes::Number("N", 1000),
+                help: "How many terminals are served, one after the other: 1 to 1000",
+            },
+            Argument {
+                name: "listen",
+                takes: Takes::Text("ADDRESS", "127.0.0.1"),
+                help: "The address that is listened at",
+            },
+        ],
+    },
+    Described {
+        name: "attach",
+        about: "Attach a terminal to a host over TCP, press keys, and print a report",
+        after_help: ATTACH,
+        arguments: &[
+            Argument {
+                name: "HOST",
+                takes: Takes::Operand,
+                help: "The host's name or address",
+            },
+            Argument {
+                name: "KEYS",
+                takes: Takes::Operand,
+                help: KEYS_HELP,
+            },
+            Argument {
+                name: "port",
+                takes: Takes::Number("P", 65535),
+                help: "The host's port: 1 to 65535",
+            },
+            Argument {
+                name: "device",
+                takes: Takes::Text("NAME", "IBM-3278-2"),
+                help: "The terminal: IBM-3278-M or IBM-3279-M, M from 2 to 5, and -E where it is extended",
+            },
+        ],
+    },
+];
+
+/// An operand, which must be given.
+fn operand<'a>(alloc: Global, name: &'a str) -> Arg<'a> {
+    Arg::new(alloc, name).required(true)
+}
+
+/// An option that is there or not.
+fn flag<'a>(alloc: Global, name: &'a str) -> Arg<'a> {
+    Arg::new(alloc, name).long(name).action(ArgAction::SetTrue)
+}
+
+/// An option with a value of this name.
+fn option<'a>(alloc: Global, name: &'a str, value: &'a str) -> Arg<'a> {
+    Arg::new(alloc, name).long(name).value_name(value)
+}
+
+/// An option that has a value where none is given.
+fn with_default<'a>(alloc: Global, name: &'a str, value: &'a str, text: &'a str) -> Arg<'a> {
+    option(alloc, name, value).default_value(text)
+}
+
+/// An option with a number from 1 to this one, which must be given.
+fn number<'a>(alloc: Global, name: &'a str, value: &'a str, most: i64) -> Arg<'a> {
+    option(alloc, name, value)
         .required(true)
-        .help("The file of the layout, in TOML")
+        .value_parser(clap::value_parser!(u16).range(1..=most))
 }
 
-/// The file of the keys, which must be given.
-fn keys<'a>(alloc: Global) -> Arg<'a> {
-    Arg::new(alloc, "KEYS")
-        .required(true)
-        .help("The file of the keys, one a line")
+/// An argument, without its help.
+fn bare<'a>(alloc: Global, name: &'a str, takes: Takes<'a>) -> Result<Arg<'a>, AllocError> {
+    match takes {
+        Takes::Operand => Ok(operand(alloc, name)),
+        Takes::Operands => Ok(operand(alloc, name).num_args(1..)),
+        Takes::Nothing => Ok(flag(alloc, name)),
+        Takes::File => Ok(option(alloc, name, "FILE")),
+        Takes::FileWithout(other) => option(alloc, name, "FILE").conflicts_with(other),
+        Takes::OneOf(value, words, text) => {
+            Ok(with_default(alloc, name, value, text).value_parser(words))
+        }
+        Takes::Text(value, text) => Ok(with_default(alloc, name, value, text)),
+        Takes::Number(value, most) => Ok(number(alloc, name, value, most)),
+    }
 }
 
-/// What is asked for by its name alone.
-fn flag<'a>(alloc: Global, name: &'a str, help: &'a str) -> Arg<'a> {
-    Arg::new(alloc, name)
-        .long(name)
-        .action(ArgAction::SetTrue)
-        .help(help)
+fn with_help<'a>(alloc: Global, argument: &Argument<'a>) -> Result<Arg<'a>, AllocError> {
+    Ok(bare(alloc, argument.name, argument.takes)?.help(argument.help))
 }
 
-fn show<'a>(alloc: Global) -> Result<Command<'a>, AllocError> {
-    Command::new(alloc, "show")
-        .about("Print the screen that the records leave (the default command)")
-        .after_help(SHOW)
-        .arg(format(alloc, SCREEN_FORMS, "How the screen is printed"))?
-        .arg(color(alloc))?
-        .arg(drawn_layout(alloc)?)
+/// A command without its arguments.
+fn named<'a>(alloc: Global, described: &Described<'a>) -> Command<'a> {
+    Command::new(alloc, described.name)
+        .about(described.about)
+        .after_help(described.after_help)
 }
 
-/// The file of the records, where they aren't on standard input.
-fn records_file<'a>(alloc: Global) -> Arg<'a> {
-    Arg::new(alloc, "records")
-        .long("records")
-        .value_name("FILE")
-        .help("The file of the records, in place of standard input")
-}
-
-fn check<'a>(alloc: Global) -> Result<Command<'a>, AllocError> {
-    let demo = "Press the keys of each finding that has some, and print what is sent";
-    Command::new(alloc, "check")
-        .about("Print yes, or the findings of records and a layout")
-        .after_help(CHECK)
-        .arg(layout(alloc))?
-        .arg(flag(alloc, "demo", demo))?
-        .arg(records_file(alloc))?
-        .arg(format(alloc, FINDING_FORMS, "How the findings are printed"))
-}
-
-fn talk<'a>(alloc: Global) -> Result<Command<'a>, AllocError> {
-    let layouts = Arg::new(alloc, "LAYOUT")
-        .required(true)
-        .num_args(1..)
-        .help("The files of the layouts, one for each turn, in TOML");
-    Command::new(alloc, "talk")
-        .about(
-            "Print yes, or the findings of a dialogue: several screens, and an operator between them",
-        )
-        .after_help(TALK)
-        .arg(layouts)
-}
-
-fn press<'a>(alloc: Global) -> Result<Command<'a>, AllocError> {
-    Command::new(alloc, "press")
-        .about("Press keys on the screen that the records leave, and print what is sent")
-        .after_help(PRESS)
-        .arg(keys(alloc))
-}
-
-fn convert<'a>(alloc: Global) -> Result<Command<'a>, AllocError> {
-    let back = flag(alloc, "back", "Read such lines, and print the records");
-    Command::new(alloc, "convert")
-        .about("Print each record as lines: its command and its orders")
-        .after_help(CONVERT)
-        .arg(back)
-}
-
-fn draft<'a>(alloc: Global) -> Command<'a> {
-    Command::new(alloc, "draft")
-        .about("Print a layout for the screen that the records leave")
-        .after_help(DRAFT)
-}
-
-fn bind<'a>(alloc: Global) -> Result<Command<'a>, AllocError> {
-    let text = "Print fields as text, and not in hexadecimal";
-    Command::new(alloc, "bind")
-        .about("Print the fields of each answer, by the names of a layout")
-        .after_help(BIND)
-        .arg(layout(alloc))?
-        .arg(flag(alloc, "text", text))
-}
-
-/// What the lines are of.
-fn source<'a>(alloc: Global) -> Arg<'a> {
-    Arg::new(alloc, "from")
-        .long("from")
-        .value_name("SOURCE")
-        .value_parser(SOURCES)
-        .default_value("trace")
-        .help("Where the lines come from: a trace, or a captured stream")
-}
-
-fn records<'a>(alloc: Global) -> Result<Command<'a>, AllocError> {
-    let answers = "Print what the terminal sent, and not the host";
-    Command::new(alloc, "records")
-        .about("Print the records of a traced or captured session")
-        .after_help(RECORDS)
-        .arg(source(alloc))?
-        .arg(flag(alloc, "answers", answers))
-}
-
-/// A port of TCP, which must be given.
-fn port<'a>(alloc: Global, help: &'a str) -> Arg<'a> {
-    Arg::new(alloc, "port")
-        .long("port")
-        .required(true)
-        .value_name("P")
-        .value_parser(clap::value_parser!(u16).range(1..))
-        .help(help)
-}
-
-/// The count of terminals, which must be given.
-fn count<'a>(alloc: Global) -> Arg<'a> {
-    Arg::new(alloc, "count")
-        .long("count")
-        .required(true)
-        .value_name("N")
-        .value_parser(clap::value_parser!(u16).range(1..=1000))
-        .help("How many terminals are served, one after the other: 1 to 1000")
-}
-
-/// The address of the machine itself.
-fn listen<'a>(alloc: Global) -> Arg<'a> {
-    Arg::new(alloc, "listen")
-        .long("listen")
-        .value_name("ADDRESS")
-        .default_value("127.0.0.1")
-        .help("The address that is listened at")
-}
-
-fn serve<'a>(alloc: Global) -> Result<Command<'a>, AllocError> {
-    Command::new(alloc, "serve")
-        .about("Serve the screen to terminals over TCP, and print what they send")
-        .after_help(SERVE)
-        .arg(layout(alloc))?
-        .arg(port(alloc, "The port that is listened at: 1 to 65535"))?
-        .arg(count(alloc))?
-        .arg(listen(alloc))
-}
-
-/// The host, which must be given.
-fn host<'a>(alloc: Global) -> Arg<'a> {
-    Arg::new(alloc, "HOST")
-        .required(true)
-        .help("The host's name or address")
-}
-
-/// What the terminal calls itself.
-fn device<'a>(alloc: Global) -> Arg<'a> {
-    Arg::new(alloc, "device")
-        .long("device")
-        .value_name("NAME")
-        .default_value("IBM-3278-2")
-        .help("The terminal: IBM-3278-M or IBM-3279-M, M from 2 to 5, and -E where it is extended")
-}
-
-fn attach<'a>(alloc: Global) -> Result<Command<'a>, AllocError> {
-    Command::new(alloc, "attach")
-        .about("Attach a terminal to a host over TCP, press keys, and print a report")
-        .after_help(ATTACH)
-        .arg(host(alloc))?
-        .arg(keys(alloc))?
-        .arg(port(alloc, "The host's port: 1 to 65535"))?
-        .arg(device(alloc))
+fn command<'a>(alloc: Global, described: &Described<'a>) -> Result<Command<'a>, AllocError> {
+    let mut command = named(alloc, described);
+    for each in described.arguments {
+        command = command.arg(with_help(alloc, each)?)?;
+    }
+    Ok(command)
 }
 
 /// The program, before its commands.
@@ -396,59 +469,11 @@ fn program<'a>(alloc: Global) -> Command<'a> {
         .after_help(STATUSES)
 }
 
-/// The commands, in the order in which help lists them.
-#[derive(Clone, Copy)]
-enum Named {
-    Show,
-    Check,
-    Talk,
-    Press,
-    Convert,
-    Draft,
-    Bind,
-    Records,
-    Serve,
-    Attach,
-}
-
-const COMMANDS: &[Named] = &[
-    Named::Show,
-    Named::Check,
-    Named::Talk,
-    Named::Press,
-    Named::Convert,
-    Named::Draft,
-    Named::Bind,
-    Named::Records,
-    Named::Serve,
-    Named::Attach,
-];
-
-fn command<'a>(alloc: Global, named: Named) -> Result<Command<'a>, AllocError> {
-    match named {
-        Named::Show => show(alloc),
-        Named::Check => check(alloc),
-        Named::Talk => talk(alloc),
-        Named::Press => press(alloc),
-        Named::Convert => convert(alloc),
-        Named::Draft => Ok(draft(alloc)),
-        Named::Bind => bind(alloc),
-        Named::Records => records(alloc),
-        Named::Serve => serve(alloc),
-        Named::Attach => attach(alloc),
-    }
-}
-
-/// With one more command.
-fn with<'a>(alloc: Global, program: Command<'a>, named: Named) -> Result<Command<'a>, AllocError> {
-    program.subcommand(command(alloc, named)?)
-}
-
 /// The program with all its commands.
 fn with_commands<'a>(alloc: Global) -> Result<Command<'a>, AllocError> {
     let mut program = program(alloc);
-    for named in COMMANDS {
-        program = with(alloc, program, *named)?;
+    for described in COMMANDS {
+        program = program.subcommand(command(alloc, described)?)?;
     }
     Ok(program)
 }
