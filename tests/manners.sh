@@ -57,6 +57,7 @@ compare 'the manual page, options' "$(echo "$all" | sort -u)" "$(tags_of_page OP
 compare 'a write that fails' 'term3270: standard output: No space left on device (os error 28) 3' \
   "$("$program" 2>&1 < "$root/examples/first.hex" > /dev/full; echo " $?")"
 compare 'a read that fails' 'term3270: standard input: Is a directory (os error 21) 3' "$("$program" 2>&1 < /; echo " $?")"
+compare 'a word that is not UTF-8' 'term3270: \xFF a.hex: not UTF-8 3' "$("$program" check "$(printf '\377 a.hex')" 2>&1; echo " $?")"
 compare 'help that is not written' 'term3270: No space left on device (os error 28) 3' \
   "$("$program" --help 2>&1 > /dev/full; echo " $?")"
 # Long texts are written in pieces: of 100 records of 24x80 as lines, and of these lines as records.
@@ -78,6 +79,7 @@ compare 'a long text that is not written' 'term3270: standard output: No space l
 if command -v python3 > /dev/null; then
   compare 'the logs of SARIF' '0 failed' "$(PYTHONDONTWRITEBYTECODE=1 python3 "$root/tests/sarif.py" "$program" | tail -n 1 | sed 's/.*, //')"
   compare 'where findings come from' '300 passed, 0 failed' "$(PYTHONDONTWRITEBYTECODE=1 python3 "$root/tests/origins.py" "$program" | tail -n 1)"
+  compare 'what a help says ends its finding' '300 passed, 0 failed' "$(PYTHONDONTWRITEBYTECODE=1 python3 "$root/tests/helps.py" "$program" | tail -n 1)"
   compare 'what the golden cases have in common' '0 failed' "$(PYTHONDONTWRITEBYTECODE=1 python3 "$root/tests/forms.py" "$program" | tail -n 1 | sed 's/.*, //')"
 fi
 echo "$passed passed, $failed failed"

@@ -82,12 +82,21 @@ fn push_finding(
     push_forms(row, layout, &traced);
 }
 
+/// A finding as it comes from no order.
+fn untraced(finding: Finding) -> Traced {
+    Traced {
+        finding,
+        origin: None,
+        end: None,
+    }
+}
+
 /// A finding by its name, and what to do.
-fn push_named(row: &mut Row, layout: &Layout, finding: &Finding) {
+fn push_named(row: &mut Row, layout: &Layout, traced: &Traced) {
     row.word("\n");
-    row.word(name_of(finding));
+    row.word(name_of(&traced.finding));
     row.word(": ");
-    match row.take(help_text(row.alloc(), layout, finding)) {
+    match row.take(help_text(row.alloc(), layout, traced)) {
         Some(Some(help)) => row.word(help.as_str()),
         _ => row.word("nothing"),
     }
@@ -101,8 +110,9 @@ fn read_code(row: &mut Row) -> Option<Layout> {
 fn push_all(row: &mut Row) {
     if let Some(layout) = read_code(row) {
         for finding in all_findings(&layout) {
-            push_named(row, &layout, &finding);
-            push_finding(row, &layout, finding, (None, None));
+            let traced = untraced(finding);
+            push_named(row, &layout, &traced);
+            push_forms(row, &layout, &traced);
         }
     }
 }

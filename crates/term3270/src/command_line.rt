@@ -3,7 +3,7 @@
 use clap::{Arg, ArgAction, ArgMatches, Command, Error};
 use std::alloc::{AllocError, Global};
 
-const VERSION: &str = "0.1.0";
+const VERSION: &str = "1.0.0";
 
 const LAYOUT_HELP: &str = "The file of the layout, in TOML";
 

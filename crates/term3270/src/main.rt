@@ -2,6 +2,7 @@
 #![tactic(auto)]
 
 mod asked;
+mod bad_word;
 mod command_line;
 mod commands;
 mod file;
@@ -10,6 +11,7 @@ mod stream;
 mod tcp;
 
 use crate::asked::Asked;
+use crate::bad_word::tell_bad_word;
 use crate::command_line::parsed;
 use crate::tcp::Place;
 use clap::ArgMatches;
@@ -77,7 +79,10 @@ fn main(rt: HostRuntime) -> ExitCode {
     match respond(&rt) {
         Ok(status) => ExitCode::from(status),
         Err(error) => {
-            let _ = eprintln!(rt; "term3270: {error}");
+            let _ = match error.kind() {
+                io::ErrorKind::InvalidData => tell_bad_word(&rt),
+                _ => eprintln!(rt; "term3270: {error}"),
+            };
             ExitCode::from(failure(&error))
         }
     }

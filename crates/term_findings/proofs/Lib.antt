@@ -6,3 +6,5 @@ mod Places
 mod Limited
 mod Helped
 mod SameFound
+mod FieldNames
+mod Slashes

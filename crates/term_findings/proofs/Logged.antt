@@ -1,6 +1,6 @@
 -- A log holds no float, and nests no deeper than a parser of the kit reads.
 use Rattle.std.proofs.Common.{◌≡◌, ◌≤◌, ℕ, false, List, [], ◌∷◌, map, Option, Some, None, refl, arith}
-use Rattle.serde_json.specs.Data.{Data, array, Items, depth, items_depth}
+use Rattle.serde_json.specs.Data.{Data, depth, items_depth}
 use Rattle.serde_json.specs.Read.{max_depth}
 use Rattle.serde_json.specs.View.{items_of}
 use Rattle.serde_json.specs.Written.{has_float, items_have_float}
@@ -85,11 +85,11 @@ ended_nests rule path region text standing (Some origin) = related_nests rule pa
 
 finding_is_plain : (path : List ℕ) (layout : Declaration) (standing : Standing) (traced : Traced) → has_float (finding_result path layout standing traced) ≡ false
 finding_is_plain path layout standing traced =
-    ended_plain (rule_of traced.finding) path (finding_region standing traced) (message_of layout traced.finding) standing traced.end
+    ended_plain (rule_of traced.finding) path (finding_region standing traced) (message_of layout traced) standing traced.end
 
 finding_is_flat : (path : List ℕ) (layout : Declaration) (standing : Standing) (traced : Traced) → depth (finding_result path layout standing traced) ≤ 6
 finding_is_flat path layout standing traced =
-    ended_nests (rule_of traced.finding) path (finding_region standing traced) (message_of layout traced.finding) standing traced.end
+    ended_nests (rule_of traced.finding) path (finding_region standing traced) (message_of layout traced) standing traced.end
 
 pub findings_plain : (path : List ℕ) (layout : Declaration) (standing : Standing) (findings : List Traced)
     → has_float (findings_data path layout standing findings) ≡ false

@@ -3,14 +3,13 @@ use Rattle.std.proofs.Common.{◌≡◌, ◌≤◌, ℕ, Bool, true, false, ◌|
 use Rattle.std.specs.Prelude.{codes, slice_get, if◌then◌else◌}
 use Rattle.std.specs.Ordering.{match_ordering}
 use Rattle.hex.specs.Hex.{encode_upper}
-use Rattle.serde_json.specs.Data.{Data, number, unsigned, string, array, object, Items, no_items, item, Members, no_members, member, put, depth, items_depth, members_depth}
+use Rattle.serde_json.specs.Data.{Data, number, unsigned, string, Members, no_members, member, put, depth, items_depth, members_depth}
 use Rattle.serde_json.specs.View.{items_of}
 use Rattle.serde_json.specs.Read.{max_depth}
 use Rattle.serde_json.specs.Written.{has_float, items_have_float, members_have_float}
 use Rattle.ds_screen.specs.Picture.{Picture}
 use Rattle.scr_layout.specs.Layout.{Declaration}
 use Rattle.scr_check.specs.declared.finding.Demo.{Demo}
-use Rattle.scr_check.specs.declared.finding.Finding.{Finding}
 use Rattle.scr_check.specs.declared.origins.Origin.{Origin}
 use Rattle.scr_check.specs.declared.traced.Traced.{Traced}
 use Rattle.scr_check.specs.FindingText.{demo_of, finding_number, finding_text}
@@ -113,7 +112,7 @@ keys_plain (Some demo) ms old =
 
 abbrev members_of : Declaration → List ℕ → Option Picture → Traced → Members
 members_of layout numbers opened traced =
-    with_help layout traced.finding (with_keys opened (demo_of traced.finding)
+    with_help layout traced (with_keys opened (demo_of traced.finding)
     (with_sizes (sizes_of traced.finding)
     (with_entry layout.entries traced.finding (with_place layout.size (place_of layout.entries traced.finding)
     (with_end numbers traced.end (with_spot numbers (record_of traced) (byte_of traced) (with_words layout.entries traced.finding no_members)))))))
@@ -136,7 +135,7 @@ plain_finding layout numbers opened traced =
     let with_layout = text_plain 2 (codes "layout") (option_map (λ both. size_text both.1) (sizes_of finding)) _ sized in
     let keyed = keys_plain (demo_of finding) _ with_layout in
     let sent = text_plain 2 (codes "sends") (option_map encode_upper (sent_from opened (demo_of finding))) _ keyed in
-    text_plain 2 (codes "help") (help_of layout finding) _ sent
+    text_plain 2 (codes "help") (help_of layout traced) _ sent
 
 pub finding_plain : (layout : Declaration) (numbers : List ℕ) (opened : Option Picture) (traced : Traced) → has_float (finding_data layout numbers opened traced) ≡ false
 finding_plain layout numbers opened traced = (plain_finding layout numbers opened traced).none

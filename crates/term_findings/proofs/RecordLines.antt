@@ -1,13 +1,11 @@
 -- What passes a test, one after the other, with its number.
-use Rattle.std.proofs.Common.{◌≡◌, ◌≢◌, ◌≤◌, ℕ, zero, suc, ◌+◌, ◌-◌, ◌*◌, ◌==◌, Bool, true, false, not, List, [], ◌∷◌, length, map, drop, Option, Some, None, refl, arith}
+use Rattle.std.proofs.Common.{◌≡◌, ◌≢◌, ◌≤◌, ℕ, zero, suc, ◌+◌, ◌-◌, ◌*◌, ◌==◌, Bool, true, false, not, List, [], ◌∷◌, length, map, drop, Some, None, refl, arith}
 use Rattle.std.specs.Prelude.{slice_get}
 use Rattle.std.proofs.lemmas.Bool.Decides.{nat_tests}
 use Rattle.std.proofs.lemmas.Option.{slice_get_past}
-use Rattle.term_commands.specs.Records.{without_spaces}
 use Rattle.term_commands.specs.Says.{is_silent, telling}
-use Rattle.term_findings.specs.declared.region.Columns.{Columns}
 use Rattle.term_findings.specs.RecordLine.{numbers_of, telling_from}
-use Rattle.term_findings.specs.Region.{begins, is_table, digit_ends, byte_columns}
+use Rattle.term_findings.specs.Region.{begins, without_blanks, is_table, digit_ends, byte_columns}
 
 -- what fails the test is no number's
 over : {A : Type 0} (test : A → Bool) (number : ℕ) (item : A) (items : List A) (index : ℕ) → test item ≡ false
@@ -114,5 +112,5 @@ drop_past zero (c ∷ cs) few = absurd (omega (arith, few))
 drop_past (suc n) (c ∷ cs) few = drop_past n cs (omega (arith, few))
 
 -- at the end of a line
-pub ended : (n : ℕ) (line bytes : List ℕ) → length line ≤ n → (length bytes == 0) ≡ begins (without_spaces (drop n line)) bytes
+pub ended : (n : ℕ) (line bytes : List ℕ) → length line ≤ n → (length bytes == 0) ≡ begins (without_blanks (drop n line)) bytes
 ended n line bytes few = rw (drop_past n line few) (nothing_begins bytes)

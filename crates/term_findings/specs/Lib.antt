@@ -1,6 +1,7 @@
 pub mod Rule
 pub mod Name
 pub mod Facts
+pub mod FieldName
 pub mod Help
 pub mod RecordLine
 pub mod Region

@@ -1,7 +1,5 @@
 -- What `check` reports as a log of SARIF, as a function of its two inputs and of their paths, and its status.
-use Rattle.std.specs.Prelude.{ℕ, List, ◌++◌, codes, Result, Ok, Err}
-use Rattle.serde_json.specs.Data.{Data}
-use Rattle.serde_json.specs.Written.{compact_text}
+use Rattle.std.specs.Prelude.{ℕ, List, Result, Ok, Err}
 use Rattle.ds_codec.specs.Reading.{◌>>=◌}
 use Rattle.scr_layout.specs.Layout.{Declaration}
 use Rattle.scr_check.specs.declared.traced.Traced.{Traced}

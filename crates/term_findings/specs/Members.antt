@@ -84,15 +84,15 @@ with_keys opened demo members =
     with_text (codes "sends") (option_map encode_upper (sent_from opened demo)) (with_some (codes "keys") (option_map keys_data demo) members)
 
 -- what to do
-abbrev pub with_help : Declaration → Finding → Members → Members
-with_help layout finding members = with_text (codes "help") (help_of layout finding) members
+abbrev pub with_help : Declaration → Traced → Members → Members
+with_help layout traced members = with_text (codes "help") (help_of layout traced) members
 
 -- ---- the object
 
 -- a finding of records on these lines that leave this picture
 abbrev pub finding_data : Declaration → List ℕ → Option Picture → Traced → Data
 finding_data layout numbers opened traced =
-    object (with_help layout traced.finding (with_keys opened (demo_of traced.finding)
+    object (with_help layout traced (with_keys opened (demo_of traced.finding)
     (with_sizes (sizes_of traced.finding)
     (with_entry layout.entries traced.finding (with_place layout.size (place_of layout.entries traced.finding)
     (with_end numbers traced.end (with_spot numbers (record_of traced) (byte_of traced) (with_words layout.entries traced.finding no_members))))))))

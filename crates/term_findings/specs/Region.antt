@@ -1,11 +1,11 @@
 -- Where a finding or a refusal stands in the text of an input: its line, and the columns of a byte where one is known.
-use Rattle.std.specs.Prelude.{ℕ, ◌+◌, ◌-◌, ◌*◌, Bool, true, false, not, ◌&&◌, ◌==◌, List, [], ◌∷◌, map, codes, slice_get, Option, Some, None, option_map, option_and_then, unwrap_or, Result, Ok, Err}
+use Rattle.std.specs.Prelude.{ℕ, ◌+◌, ◌-◌, ◌*◌, Bool, true, false, not, ◌&&◌, ◌||◌, ◌==◌, List, [], ◌∷◌, map, codes, slice_get, Option, Some, None, option_map, option_and_then, unwrap_or, Result, Ok, Err}
+use Rattle.std.specs.List.{filter}
 use Rattle.scr_check.specs.declared.origins.Origin.{Origin}
 use Rattle.scr_check.specs.declared.traced.Traced.{Traced}
 use Rattle.term_commands.specs.declared.fault.Fault.{Fault}
 use Rattle.term_commands.specs.declared.fault.Fault.TheVariants.{BadLine, LayoutRefused}
 use Rattle.term_commands.specs.Lines.{lines_in}
-use Rattle.term_commands.specs.Records.{without_spaces}
 use Rattle.term_commands.specs.Says.{telling}
 use Rattle.term_findings.specs.declared.region.Columns.{Columns}
 use Rattle.term_findings.specs.declared.region.Region.{Region}
@@ -62,9 +62,17 @@ begins line [] = true
 begins [] (b ∷ bs) = false
 begins (c ∷ cs) (b ∷ bs) = (c == b) && begins cs bs
 
--- a line of TOML that begins the table of a field; spaces do not count
+-- the white space of TOML within a line
+abbrev pub is_blank : ℕ → Bool
+is_blank c = (c == 0x20) || (c == 0x09)
+
+abbrev pub without_blanks : List ℕ → List ℕ
+without_blanks line = filter (λ c. not (is_blank c)) line
+
+-- a line of TOML that begins the table of a field, whose key may stand in quotes; white space does not count
 abbrev pub is_table : List ℕ → Bool
-is_table line = begins (without_spaces line) (codes "[[field]]")
+is_table line =
+    begins (without_blanks line) (codes "[[field]]") || (begins (without_blanks line) (codes "[[\"field\"]]") || begins (without_blanks line) (codes "[['field']]"))
 
 -- the line on which the table of this index begins
 abbrev pub table_line : List ℕ → ℕ → Option ℕ

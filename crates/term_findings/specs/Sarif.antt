@@ -1,10 +1,9 @@
 -- What is told as a log of SARIF 2.1.0: one run, the rules, and a result for each finding or for an input that is refused.
 -- Members stand in the order of their keys.
-use Rattle.std.specs.Prelude.{ℕ, List, [], ◌∷◌, ◌++◌, codes, map, Option, Some, None, option_map}
+use Rattle.std.specs.Prelude.{ℕ, List, [], ◌++◌, codes, map, Option, Some, None, option_map}
 use Rattle.serde_json.specs.Data.{Data, number, unsigned, string, array, object, item, no_items, Members, member, no_members}
 use Rattle.serde_json.specs.View.{items_of}
 use Rattle.scr_layout.specs.Layout.{Declaration}
-use Rattle.scr_check.specs.declared.finding.Finding.{Finding}
 use Rattle.scr_check.specs.declared.origins.Origin.{Origin}
 use Rattle.scr_check.specs.declared.traced.Traced.{Traced}
 use Rattle.scr_check.specs.FindingText.{finding_text}
@@ -39,7 +38,7 @@ rule_data rule =
 abbrev pub driver_data : Data
 driver_data =
     object (member (codes "name") (string (codes "term3270")) (member (codes "rules") (array (items_of (map rule_data all_rules)))
-    (member (codes "version") (string (codes "0.1.0")) no_members)))
+    (member (codes "version") (string (codes "1.0.0")) no_members)))
 
 unfoldable pub tool_data : Data
 tool_data = object (member (codes "driver") driver_data no_members)
@@ -97,8 +96,8 @@ help_end None = []
 help_end (Some help) = codes ": " ++ help
 
 -- the words of a finding, and what to do
-abbrev pub message_of : Declaration → Finding → List ℕ
-message_of layout finding = finding_text layout.entries finding ++ help_end (help_of layout finding)
+abbrev pub message_of : Declaration → Traced → List ℕ
+message_of layout traced = finding_text layout.entries traced.finding ++ help_end (help_of layout traced)
 
 abbrev pub end_of : List ℕ → Standing → Option Origin → Option Data
 end_of path standing end = option_map (λ origin. end_data path (order_region standing origin)) end
@@ -106,7 +105,7 @@ end_of path standing end = option_map (λ origin. end_data path (order_region st
 -- a finding of records that stand so, of the file of this path
 abbrev pub finding_result : List ℕ → Declaration → Standing → Traced → Data
 finding_result path layout standing traced =
-    result_data (rule_of traced.finding) path (finding_region standing traced) (message_of layout traced.finding) (end_of path standing traced.end)
+    result_data (rule_of traced.finding) path (finding_region standing traced) (message_of layout traced) (end_of path standing traced.end)
 
 abbrev pub findings_data : List ℕ → Declaration → Standing → List Traced → Data
 findings_data path layout standing findings = array (items_of (map (finding_result path layout standing) findings))

@@ -4,13 +4,14 @@ ghost use Rattle.std.specs.Prelude.{◌≡◌, ◌++◌, ◌<◌, ◌≤◌, opt
 ghost use Rattle.std.specs.String.{string_bytes};
 ghost use Rattle.ds_codec.specs.Geometry.{cells_of, IsGood};
 ghost use Rattle.scr_check.specs.FindingText.{name_at};
-ghost use Rattle.term_findings.specs.Help.{attribute_place, entry_keys, undeclared_help, modified_help, undeclared_fixed_help, address_digits, missing_text, missing_help, too_long_help, kind_words, other_kind_help, leave_out_help, begin_help, entry_help, field_help, help_of};
+ghost use Rattle.term_findings.specs.Help.{attribute_place, entry_keys, undeclared_help, modified_help, undeclared_fixed_help, address_digits, missing_text, missing_help, no_cell_text, absent_help, too_long_help, kind_words, other_kind_help, leave_out_help, begin_help, entry_help, field_help, help_for, help_of};
 
 use crate::facts::{column_at, row_at};
+use crate::field_name::field_name;
 use ds_codec::{Geometry, Size, encode_address};
 use ds_screen::ring::previous;
 use order_lines::push_bytes;
-use scr_check::{Finding, Overlong, name_at};
+use scr_check::{Finding, Origin, Overlong, Traced, name_at};
 use scr_layout::{Entry, Kind, Layout};
 use std::alloc::{AllocError, Global};
 
@@ -27,21 +28,34 @@ fn attribute_place(size: Size, place: u32) -> u32
 }
 
 /// The keys of an entry for a field at a place, but for its length.
-fn push_entry(out: &mut String, size: Size, place: u32) -> Result<(), AllocError>
+fn push_entry(
+    alloc: Global,
+    out: &mut String,
+    entries: &[Entry],
+    size: Size,
+    place: u32,
+) -> Result<(), AllocError>
     requires { 1 ≤ size.cols }
-    ensures { OnOk result (string_bytes out.new ≡ string_bytes out.old ++ entry_keys size place) }
+    ensures { OnOk result (string_bytes out.new
+        ≡ string_bytes out.old ++ entry_keys entries.now size place) }
 {
+    let name = field_name(alloc, entries, place)?;
     let row = row_at(size, place);
     let column = column_at(size, place);
-    write!(out, "name = \"field-{place}\", row = {row}, col = {column}")
+    write!(out, "name = \"{name}\", row = {row}, col = {column}")
 }
 
-fn undeclared_help(alloc: Global, size: Size, place: u32) -> Result<String, AllocError>
+fn undeclared_help(
+    alloc: Global,
+    entries: &[Entry],
+    size: Size,
+    place: u32,
+) -> Result<String, AllocError>
     requires { 1 ≤ size.cols }
-    ensures { IfOk result (λ text. string_bytes text ≡ undeclared_help size place) }
+    ensures { IfOk result (λ text. string_bytes text ≡ undeclared_help entries.now size place) }
 {
     let mut text = String::from_str(alloc, "declare it by [[field]], ")?;
-    push_entry(&mut text, size, place)?;
+    push_entry(alloc, &mut text, entries, size, place)?;
     text.push_str(" and its length, or protect it")?;
     Ok(text)
 }
@@ -53,13 +67,19 @@ fn modified_help(alloc: Global, size: Size, place: u32) -> Result<String, AllocE
     format!(in alloc; "reset bit 01, the modified data tag, of the attribute at {attribute}")
 }
 
-fn undeclared_fixed_help(alloc: Global, size: Size, place: u32) -> Result<String, AllocError>
+fn undeclared_fixed_help(
+    alloc: Global,
+    entries: &[Entry],
+    size: Size,
+    place: u32,
+) -> Result<String, AllocError>
     requires { 1 ≤ size.cols }
-    ensures { IfOk result (λ text. string_bytes text ≡ undeclared_fixed_help size place) }
+    ensures { IfOk result (λ text. string_bytes text
+        ≡ undeclared_fixed_help entries.now size place) }
 {
     let mut text = modified_help(alloc, size, place)?;
     text.push_str(", or declare it by [[field]], ")?;
-    push_entry(&mut text, size, place)?;
+    push_entry(alloc, &mut text, entries, size, place)?;
     text.push_str(", kind = \"fixed\" and its length")?;
     Ok(text)
 }
@@ -93,7 +113,7 @@ fn missing_text(
         ≡ missing_text attribute digits.now name.now) }
 {
     format!(in alloc;
-        "write an attribute at {attribute}, by Set Buffer Address 11{digits}, or correct row and col of {name}"
+        "write an attribute at {attribute}, by Set Buffer Address 11{digits}, and a character after it, or correct row and col of {name}"
     )
 }
 
@@ -111,6 +131,34 @@ fn missing_help(
     let attribute = previous(size.cells(), entry.place);
     let address = address_text(alloc, geometry, size, attribute)?;
     missing_text(alloc, attribute, address.as_str(), entry.name.as_str())
+}
+
+#[tactic(auto, unfolding(crate::specs::Help::no_cell_text))]
+fn no_cell_text(alloc: Global, place: u32, name: &str) -> Result<String, AllocError>
+    ensures { IfOk result (λ text. string_bytes text ≡ no_cell_text place name.now) }
+{
+    format!(in alloc;
+        "write a character in place of the attribute at {place}, or correct row and col of {name}"
+    )
+}
+
+/// An entry where no field has a cell: no attribute stands before its place, or one whose field ends at once.
+fn absent_help(
+    alloc: Global,
+    geometry: Geometry,
+    size: Size,
+    end: Option<Origin>,
+    entry: &Entry,
+) -> Result<String, AllocError>
+    requires good { IsGood geometry.mode size }
+    requires inside { entry.now.place < cells_of size }
+    ensures { IfOk result (λ text. string_bytes text
+        ≡ absent_help geometry.mode size end entry.now) }
+{
+    match end {
+        Some(_end) => no_cell_text(alloc, entry.place, entry.name.as_str()),
+        None => missing_help(alloc, geometry, size, entry),
+    }
 }
 
 fn too_long_help(alloc: Global, name: &str, found: Overlong) -> Result<String, AllocError>
@@ -159,19 +207,21 @@ fn fixed_help(alloc: Global, text: &str) -> Result<Option<String>, AllocError>
     Ok(Some(String::from_str(alloc, text)?))
 }
 
-fn missing_entry_help(
+fn absent_entry_help(
     alloc: Global,
     layout: &Layout,
+    end: Option<Origin>,
     index: usize,
 ) -> Result<Option<String>, AllocError>
     ensures { IfOk result (λ help. option_map string_bytes help ≡ option_map
-        (missing_help layout.now.geometry.mode layout.now.size)
+        (absent_help layout.now.geometry.mode layout.now.size end)
         (slice_get layout.now.entries index)) }
 {
-    match layout.entries().get(index) {
-        Some(entry) => Ok(Some(missing_help(alloc, layout.geometry(), layout.size(), entry)?)),
-        None => Ok(None),
-    }
+    let Some(entry) = layout.entries().get(index) else {
+        return Ok(None);
+    };
+    let text = absent_help(alloc, layout.geometry(), layout.size(), end, entry)?;
+    Ok(Some(text))
 }
 
 fn other_kind_entry_help(
@@ -192,13 +242,14 @@ fn other_kind_entry_help(
 fn entry_help(
     alloc: Global,
     layout: &Layout,
+    end: Option<Origin>,
     finding: &Finding,
 ) -> Result<Option<String>, AllocError>
     ensures { IfOk result (λ help. option_map string_bytes help
-        ≡ entry_help layout.now finding.now) }
+        ≡ entry_help layout.now end finding.now) }
 {
     match finding {
-        Finding::Missing(index) => missing_entry_help(alloc, layout, *index),
+        Finding::Missing(index) => absent_entry_help(alloc, layout, end, *index),
         Finding::OtherKind(index) => other_kind_entry_help(alloc, layout, *index),
         Finding::TooLong(found) => {
             let name = name_at(layout.entries(), found.entry);
@@ -212,32 +263,35 @@ fn entry_help(
 fn field_help(
     alloc: Global,
     layout: &Layout,
+    end: Option<Origin>,
     finding: &Finding,
 ) -> Result<Option<String>, AllocError>
     ensures { IfOk result (λ help. option_map string_bytes help
-        ≡ field_help layout.now finding.now) }
+        ≡ field_help layout.now end finding.now) }
 {
+    let entries = layout.entries();
     let size = layout.size();
     match finding {
-        Finding::Undeclared(place, _) => Ok(Some(undeclared_help(alloc, size, *place)?)),
-        Finding::UndeclaredFixed(place, _) => Ok(Some(undeclared_fixed_help(alloc, size, *place)?)),
+        Finding::Undeclared(place, _) => {
+            Ok(Some(undeclared_help(alloc, entries, size, *place)?))
+        }
+        Finding::UndeclaredFixed(place, _) => {
+            Ok(Some(undeclared_fixed_help(alloc, entries, size, *place)?))
+        }
         Finding::EmptyModified(place) => Ok(Some(modified_help(alloc, size, *place)?)),
-        _ => entry_help(alloc, layout, finding),
+        _ => entry_help(alloc, layout, end, finding),
     }
 }
 
-/// The change that ends a finding, where one is known: all have one but a record that is refused.
-///
-/// # Errors
-///
-/// Where a request for memory was refused.
-pub fn help_text(
+/// The change that ends a finding of a field that ends there, where one is known.
+fn help_for(
     alloc: Global,
     layout: &Layout,
+    end: Option<Origin>,
     finding: &Finding,
 ) -> Result<Option<String>, AllocError>
     ensures { IfOk result (λ help. option_map string_bytes help
-        ≡ help_of layout.now finding.now) }
+        ≡ help_for layout.now end finding.now) }
 {
     match finding {
         Finding::RecordRefused(_, _) => Ok(None),
@@ -257,6 +311,22 @@ pub fn help_text(
         ),
         Finding::Unformatted => fixed_help(alloc, "write attributes, each by Start Field, 1D"),
         Finding::CursorDependent(index) => Ok(Some(begin_help(alloc, *index)?)),
-        _ => field_help(alloc, layout, finding),
+        _ => field_help(alloc, layout, end, finding),
     }
+}
+
+/// The change that ends a finding, where one is known: all have one but a record that is refused. An entry without a field is
+/// helped by what stands at its place: whether an attribute before it leaves its field no cell.
+///
+/// # Errors
+///
+/// Where a request for memory was refused.
+pub fn help_text(
+    alloc: Global,
+    layout: &Layout,
+    traced: &Traced,
+) -> Result<Option<String>, AllocError>
+    ensures { IfOk result (λ help. option_map string_bytes help ≡ help_of layout.now traced.now) }
+{
+    help_for(alloc, layout, traced.end, &traced.finding)
 }

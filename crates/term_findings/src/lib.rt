@@ -2,6 +2,7 @@
 #![tactic(auto)]
 
 mod facts;
+mod field_name;
 mod found;
 mod help;
 mod json;

@@ -255,12 +255,12 @@ fn put_help(
     alloc: Global,
     members: &mut Members,
     layout: &Layout,
-    finding: &Finding,
+    traced: &Traced,
 ) -> Result<(), AllocError>
     ensures { OnOk result (members_view members.new.entries
-        ≡ with_help layout.now finding.now (members_view members.old.entries)) }
+        ≡ with_help layout.now traced.now (members_view members.old.entries)) }
 {
-    match help_text(alloc, layout, finding)? {
+    match help_text(alloc, layout, traced)? {
         Some(help) => put_text(alloc, members, "help", help),
         None => Ok(()),
     }
@@ -296,6 +296,6 @@ pub(crate) fn finding_value(
     put_entry(alloc, &mut members, entries, finding)?;
     put_sizes(alloc, &mut members, sizes_of(finding))?;
     put_keys(alloc, &mut members, terminal, finding.demo())?;
-    put_help(alloc, &mut members, layout, finding)?;
+    put_help(alloc, &mut members, layout, traced)?;
     Ok(Value::Object(members))
 }

@@ -2,8 +2,7 @@
 
 ghost use Rattle.std.specs.Prelude.{◌≡◌, ◌≤◌, codes, map, option_and_then, slice_get, unwrap_or, IfOk, length};
 ghost use Rattle.term_commands.specs.Lines.{within_limit};
-ghost use Rattle.term_findings.specs.Region.{digit_ends, record_ends, standing_in, byte_columns, begins, is_table, table_line, spot_columns, spot_region, finding_region, order_region, fault_table, line_in, line_of_fault};
-ghost use Rattle.term_commands.specs.Records.{without_spaces};
+ghost use Rattle.term_findings.specs.Region.{digit_ends, record_ends, standing_in, byte_columns, begins, is_blank, without_blanks, is_table, table_line, spot_columns, spot_region, finding_region, order_region, fault_table, line_in, line_of_fault};
 
 use crate::facts::{byte_of, record_of};
 use crate::record_line::{is_silent, record_numbers};
@@ -150,13 +149,20 @@ pub(crate) fn order_region(standing: &Standing, origin: Origin) -> Region
     spot_region(standing, Some(origin.index), Some(origin.at))
 }
 
-/// Whether a line begins with these bytes, where spaces don't count.
+/// Whether a byte is white space of TOML within a line.
+fn is_blank(byte: u8) -> bool
+    ensures { result ≡ is_blank byte }
+{
+    byte == b' ' || byte == b'\t'
+}
+
+/// Whether a line begins with these bytes, where white space doesn't count.
 fn begins(line: &[u8], bytes: &[u8]) -> bool
-    ensures { result ≡ begins (without_spaces line.now) bytes.now }
+    ensures { result ≡ begins (without_blanks line.now) bytes.now }
 {
     let mut rest = bytes;
     for byte in line {
-        if *byte != b' ' {
+        if !is_blank(*byte) {
             let Some((first, others)) = rest.split_first() else {
                 return true;
             };
@@ -169,11 +175,11 @@ fn begins(line: &[u8], bytes: &[u8]) -> bool
     rest.is_empty()
 }
 
-/// Whether a line of TOML begins the table of a field.
+/// Whether a line of TOML begins the table of a field, whose key may stand in quotes.
 fn is_table(line: &[u8]) -> bool
     ensures { result ≡ is_table line.now }
 {
-    begins(line, b"[[field]]")
+    begins(line, b"[[field]]") || begins(line, b"[[\"field\"]]") || begins(line, b"[['field']]")
 }
 
 /// The line on which the table of an index begins, counted from 1; tables are counted from 0.

@@ -23,7 +23,7 @@ use std::alloc::{AllocError, Global};
 use term_commands::Fault;
 
 /// The version that the program prints too.
-const VERSION: &str = "0.1.0";
+const VERSION: &str = "1.0.0";
 
 const SCHEMA: &str = "https://json.schemastore.org/sarif-2.1.0.json";
 
@@ -260,12 +260,12 @@ fn push_help(out: &mut String, help: Option<String>) -> Result<(), AllocError>
 }
 
 /// The words of a finding, and what to do.
-fn message_of(alloc: Global, layout: &Layout, finding: &Finding) -> Result<String, AllocError>
-    ensures { IfOk result (λ text. string_bytes text ≡ message_of layout.now finding.now) }
+fn message_of(alloc: Global, layout: &Layout, traced: &Traced) -> Result<String, AllocError>
+    ensures { IfOk result (λ text. string_bytes text ≡ message_of layout.now traced.now) }
 {
     let mut text = String::new(alloc);
-    finding.push_text(&mut text, layout.entries())?;
-    push_help(&mut text, help_text(alloc, layout, finding)?)?;
+    traced.finding.push_text(&mut text, layout.entries())?;
+    push_help(&mut text, help_text(alloc, layout, traced)?)?;
     Ok(text)
 }
 
@@ -295,7 +295,7 @@ fn finding_result(
         ≡ finding_result path.now layout.now standing.now traced.now) }
 {
     let finding = &traced.finding;
-    let text = message_of(alloc, layout, finding)?;
+    let text = message_of(alloc, layout, traced)?;
     let end = end_of(alloc, path, standing, traced.end)?;
     let region = finding_region(standing, traced);
     result_value(alloc, rule_of(finding), path, region, text.as_str(), end)
