@@ -1,7 +1,6 @@
-# make run    shows examples/first.hex through the program, which is built where it is missing, with a line for
-#             each crate as it is proved
-# make build  leaves the program at bin/term3270
-# make test   proves everything from nothing, then runs the golden cases of the built program
+# make run    shows examples/first.hex: by bin/term3270 or, where that isn't built, by a trial of the program without its proofs
+# make build  proves the program's crates, side by side, and leaves it at bin/term3270, with a line for each crate
+# make test   proves all crates, and then runs the golden cases of the built program and all other tests
 # make cases  runs the golden cases, the sessions, the manners and the drafts of the program alone
 # make peers  runs other makers' terminals and hosts against the program, those that are installed
 # make edits  tries every edit that the prover must refuse, of all crates or, with CRATE=ds_codec, of one
@@ -9,18 +8,21 @@
 # make c      builds the C library: out/libtakvorn.a, out/libtakvorn.so and out/takvorn.pc (docs/LIBRARY.md)
 # make install PREFIX=/usr/local   puts the program, the C library with its header, the manual page and the completions
 #             below PREFIX; with DESTDIR=FOLDER below that folder, for a package
+# make dist   packs what make install puts, with the documents and examples: dist/takvorn-VERSION-linux-x86_64.tar.gz and,
+#             where dpkg-deb is installed, dist/takvorn_VERSION_amd64.deb
 RT := $(shell command -v rt 2>/dev/null)
 BUILT := crates/term3270/out/term3270
 WIRE := crates/parts_tests/out/parts_tests
 SOURCES := $(shell find crates -path '*/out' -prune -o -name '*.rt' -print -o -name '*.antt' -print)
 PREFIX ?= /usr/local
-LIBRARY := out/libtakvorn.so
+LIBRARY := out/libtakvorn.so.1
 need_toolchain = $(if $(RT),,$(error missing: the Rattle toolchain's command 'rt' on the PATH))
 
-.PHONY: run build test cases peers edits bench c install clean
+.PHONY: run build test cases peers edits bench c install dist clean
 
-run: bin/term3270
-	@bin/term3270 < examples/first.hex
+run:
+	$(if $(wildcard bin/term3270),,$(need_toolchain))
+	@sh scripts/run
 
 build: bin/term3270
 
@@ -30,7 +32,6 @@ bin/term3270: $(BUILT)
 $(BUILT): $(SOURCES)
 	$(need_toolchain)
 	@sh scripts/build
-	@touch $@
 
 test:
 	$(need_toolchain)
@@ -58,10 +59,13 @@ $(LIBRARY): $(SOURCES) scripts/library include/takvorn.h include/takvorn.map inc
 install: bin/term3270 $(LIBRARY)
 	@PREFIX=$(PREFIX) DESTDIR=$(DESTDIR) sh scripts/install bin/term3270
 
+dist: bin/term3270 $(LIBRARY)
+	@sh scripts/dist bin/term3270
+
 $(WIRE):
 	$(need_toolchain)
 	@echo "building the wire's benchmark: its proofs take some minutes" >&2
 	@cd crates/parts_tests && rt run > /dev/null 2>&1
 
 clean:
-	rm -rf bin out crates/*/out
+	rm -rf bin out dist crates/*/out

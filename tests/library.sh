@@ -6,7 +6,7 @@
 root=$(cd "$(dirname "$0")/.." && pwd)
 program=$(cd "$(dirname "$1")" && pwd)/$(basename "$1")
 CC=${CC:-cc}
-command -v "$CC" > /dev/null || { echo "the C library: left out, since there is no C compiler"; echo "0 passed, 0 failed"; exit 0; }
+command -v "$CC" > /dev/null || { echo "the C library: left out, since there is no C compiler"; echo "0 passed, 0 failed, 1 skipped"; exit 0; }
 work=$(mktemp -d) || exit 1
 trap 'rm -rf "$work"' EXIT
 trap 'exit 1' HUP INT TERM
@@ -87,7 +87,7 @@ done
 # ---- as a system has it
 if [ ! -x "$program" ]; then echo "the program isn't built: what is installed left out"
 elif DESTDIR=$work/system PREFIX=/usr sh "$root/scripts/install" "$program"; then
-  (cd "$work/system/usr" && find . -type f | sort) > "$work/installed"
+  (cd "$work/system/usr" && find . ! -type d | sort) > "$work/installed"
   if cmp -s "$root/tests/library/installed" "$work/installed"; then good; else
     bad "other files are installed:"
     diff "$root/tests/library/installed" "$work/installed"
