@@ -20,10 +20,12 @@ given false text other fault gives = absurd cc
 
 pub drafted_reads : (v : Picture) (r : Result (String Global) LayoutError) → IsSound v → Gives string_bytes r (drafted v)
     → IfOk r (λ text. layout_of (string_bytes text) ≡ Ok (declared_by v))
+unfolding drafted
 drafted_reads v (Err e) sound gives = tt
 drafted_reads v (Ok text) sound gives =
     let both = given (nat_le (length (drafted_fields v.cells)) 1000) (draft_text v (drafts_of v)) (string_bytes text) _ gives in
     subst (λ t. layout_of t ≡ Ok (declared_by v)) both.1 (text_reads v sound (leb-true (length (drafted_fields v.cells)) 1000 both.0))
 
 pub drafted_printed : (v : Picture) → length (drafted_fields v.cells) ≤ 1000 → drafted v ≡ Ok (draft_text v (drafts_of v))
+unfolding drafted
 drafted_printed v few = cond-true (nat_le (length (drafted_fields v.cells)) 1000) _ _ (le-leb (length (drafted_fields v.cells)) 1000 few)

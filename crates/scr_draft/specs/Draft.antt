@@ -9,6 +9,6 @@ use Rattle.scr_draft.specs.Drafted.{drafted_fields, drafts_of}
 use Rattle.scr_draft.specs.Text.{draft_text}
 
 -- the text of the draft, where there are at most 1,000 fields
-abbrev pub drafted : Picture → Result (List ℕ) LayoutFault
+unfoldable pub drafted : Picture → Result (List ℕ) LayoutFault
 drafted v =
     if nat_le (length (drafted_fields v.cells)) 1000 then Ok (draft_text v (drafts_of v)) else Err (at_key Field TooManyFields)

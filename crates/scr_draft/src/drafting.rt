@@ -36,6 +36,7 @@ pub fn draft(alloc: Global, screen: &Screen<PlaneCells>) -> Result<String, Layou
     drafted(alloc, screen)
 }
 
+#[tactic(auto, unfolding(crate::specs::Draft::drafted))]
 fn drafted(alloc: Global, screen: &Screen<PlaneCells>) -> Result<String, LayoutError>
     ensures { Gives string_bytes result (drafted screen.now) }
 {
