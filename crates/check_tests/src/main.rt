@@ -21,6 +21,7 @@ mod origins;
 mod promise;
 mod script;
 mod shapes;
+mod taken;
 mod talks;
 mod words;
 
@@ -43,7 +44,7 @@ pub(crate) struct Setup {
 /// The verbs of the setup's layout.
 const OF_LAYOUT: &[&str] = &[
     "check", "count", "often", "bind", "conforms", "bound", "pressed", "origins", "traced",
-    "shape", "entries", "at",
+    "shape", "entries", "at", "taken",
 ];
 
 fn take_list(row: &mut Row, setup: &mut Setup, words: &str) {
@@ -82,6 +83,7 @@ fn push_declared(row: &mut Row, setup: &Setup, layout: &Layout, verb: &str, word
         "pressed" => promise::push_pressed(row, setup, layout, words),
         "origins" => origins::push_origins(row, layout, words),
         "traced" => origins::push_found(row, layout, words),
+        "taken" => taken::push_taken(row, layout, words),
         "shape" => promise::push_after(row, setup, layout, Told::Shape, words),
         "entries" => layouts::push_all(row, layout),
         _ => layouts::push_places(row, layout, words),

@@ -18,16 +18,18 @@ use Rattle.scr_check.specs.Opening.{applied, unless_found}
 abbrev pub Fault : Type 0
 Fault = ℕ → Command → List Site → Option Finding
 
--- what was read as the record of this number led from one state to the other, or this stands against it: that it can't
--- be read, what it is at fault for, that it can't be applied
+-- what was read as the record of this number led from one state to the other, or this stands against it, and the state
+-- is as it was: that it can't be read, what it is at fault for, that it can't be applied
 abbrev pub TakesBy : {T : Type 0} → Fault → (T → Message → T → Type 0) → (T → Message → screen.Refused → Type 0) → ℕ → Result Message read.Refused → T → Result (Unit {0}) Finding → T → Type 0
-TakesBy fault leads refuses index (Err refused) old result new = result ≡ Err (RecordRefused index (Read refused))
+TakesBy fault leads refuses index (Err refused) old result new =
+    (result ≡ Err (RecordRefused index (Read refused))) × (new ≡ old)
 TakesBy fault leads refuses index (Ok message) old (Ok done) new =
     (fault index message.command message.orders ≡ None) × leads old message new
 TakesBy fault leads refuses index (Ok message) old (Err finding) new =
-    (fault index message.command message.orders ≡ Some finding)
+    ((fault index message.command message.orders ≡ Some finding)
     ⊎ ((fault index message.command message.orders ≡ None)
-    × ((why : screen.Refused) × refuses old message why × (finding ≡ RecordRefused index (Apply why))))
+    × ((why : screen.Refused) × refuses old message why × (finding ≡ RecordRefused index (Apply why)))))
+    × (new ≡ old)
 
 -- ---- on pictures
 

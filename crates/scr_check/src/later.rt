@@ -1,6 +1,6 @@
 //! A later turn of a dialogue: its records on the worst that the operator can have left.
 
-ghost use Rattle.std.specs.Prelude.{◌≡◌, map, IfOk};
+ghost use Rattle.std.specs.Prelude.{◌≡◌, [], map, IfOk};
 ghost use Rattle.scr_check.specs.Walk.{start_at_cursor, depends_on_cursor, without_keys};
 ghost use Rattle.scr_check.specs.TalkSeen.{OpensLater, Judges};
 
@@ -58,8 +58,9 @@ impl TurnRule for LaterTurn {
 
 /// Takes the records of a later turn, and asks whether the operator can go on.
 fn open_later(outline: &mut Outline, records: &[&[u8]], size: Size) -> Result<(), Finding>
-    ensures { OpensLater outline.old outline.new
+    ensures opens { OpensLater outline.old outline.new
         (map (λ bytes. bytes.now) records.now) size result }
+    ensures unchanged { records.now ≡ [] → outline.new ≡ outline.old }
 {
     if records.is_empty() {
         return Err(Finding::NoRecord);
@@ -111,8 +112,9 @@ pub(crate) fn later_findings(
     records: &[&[u8]],
     layout: &Layout,
 ) -> Result<Vec<Finding>, AllocError>
-    ensures { IfOk result (λ findings. Judges outline.old outline.new
+    ensures judges { IfOk result (λ findings. Judges outline.old outline.new
         (map (λ bytes. bytes.now) records.now) layout.now findings.items) }
+    ensures unchanged { records.now ≡ [] → outline.new ≡ outline.old }
 {
     if let Err(finding) = open_later(outline, records, layout.size()) {
         return Ok(vec![in alloc; finding]?);

@@ -1,6 +1,6 @@
 //! Records in turn, each read, looked at by the rule of its turn, and applied.
 
-ghost use Rattle.std.specs.Prelude.{◌≡◌, map};
+ghost use Rattle.std.specs.Prelude.{◌≡◌, map, OnErr};
 ghost use Rattle.ds_codec.specs.Reading.{read_of};
 ghost use Rattle.scr_check.specs.Taking.{TakesBy, TakesOn, TakesAllOn};
 
@@ -26,7 +26,7 @@ pub trait TurnRule {
 /// # Errors
 ///
 /// What stands against the record: F1 where it can't be read, or else what the rule tells of it, or else F1 where it
-/// can't be applied.
+/// can't be applied. Then the target is as before.
 pub fn take_by<R: TurnRule, T: RecordTarget>(
     target: &mut T,
     index: usize,
@@ -54,7 +54,8 @@ pub(crate) fn take<R: TurnRule>(
     index: usize,
     bytes: &[u8],
 ) -> Result<(), Finding>
-    ensures { TakesOn R.fault_of outline.old outline.new index bytes.now result }
+    ensures takes { TakesOn R.fault_of outline.old outline.new index bytes.now result }
+    ensures unchanged { OnErr result (outline.new ≡ outline.old) }
 {
     take_by::<R, Outline>(outline, index, bytes)
 }

@@ -23,7 +23,7 @@ use Rattle.scr_draft.specs.Drafted.{is_drafted, drafted_fields, kind_of, Named, 
 use Rattle.scr_draft.specs.Best.{left_of, left_over}
 
 -- ---- lists
-each_by : {X : Type 0} (P : X → Type 0) (xs : List X) → ((i : ℕ) (x : X) → slice_get xs i ≡ Some x → P x) → Each P xs
+pub each_by : {X : Type 0} (P : X → Type 0) (xs : List X) → ((i : ℕ) (x : X) → slice_get xs i ≡ Some x → P x) → Each P xs
 each_by P [] holds = tt
 each_by P (x ∷ xs) holds = (holds 0 x refl, each_by P xs (λ i y there. holds (suc i) y there))
 
@@ -88,11 +88,11 @@ none_passes test xs none =
 
 -- ---- fields of a picture
 -- a field begins at an attribute of these cells
-record IsField (cells : List Cell) (field : FieldAt) : Type 0 where
-  q : ℕ
-  inside : q < length cells
-  stands : is_attribute (cell_at cells q) ≡ true
-  is : field ≡ field_at cells q
+pub record IsField (cells : List Cell) (field : FieldAt) : Type 0 where
+  pub q : ℕ
+  pub inside : q < length cells
+  pub stands : is_attribute (cell_at cells q) ≡ true
+  pub is : field ≡ field_at cells q
 
 are_fields : (cells : List Cell) → Each (IsField cells) (fields_of cells)
 are_fields cells =
@@ -100,7 +100,7 @@ are_fields cells =
     (each_kept (λ q. IsField cells (field_at cells q)) (λ q. is_attribute (cell_at cells q)) 0 (length cells - 0)
     (λ q below stands. record { q = q; inside = omega arith; stands = stands; is = refl }))
 
-place_once : (n q r : ℕ) → q < n → r < n → ring_on n q 1 ≡ ring_on n r 1 → q ≡ r
+pub place_once : (n q r : ℕ) → q < n → r < n → ring_on n q 1 ≡ ring_on n r 1 → q ≡ r
 place_once n q r first second same =
     elim (on_cases n q 1) [
       | inl a ↦ elim (on_cases n r 1) [ inl b ↦ omega arith | inr b ↦ omega arith ]
@@ -131,7 +131,7 @@ field_stands cells f one some =
     ap (λ (x : FieldAt). has_field cells x.place) one.is ∙ sym counts ∙ ap (λ (x : FieldAt). nat_lt 0 x.length) (sym one.is) ∙ some
 
 -- ---- what a draft declares
-abbrev IsNamed : List Cell → Named → Type 0
+abbrev pub IsNamed : List Cell → Named → Type 0
 IsNamed cells d = IsField cells d.field × (is_drafted d.field ≡ true)
 
 named_each : (v : Picture) (P : FieldAt → Type 0) (before : List Named) (fields : List FieldAt) → Each (λ d. P d.field) before → Each P fields
@@ -140,7 +140,7 @@ named_each v P before [] first others = first
 named_each v P before (field ∷ fields) first others =
     named_each v P (before ++ named v before field ∷ []) fields (each_append (λ d. P d.field) before (named v before field ∷ []) first (others.0, tt)) others.1
 
-are_named : (v : Picture) → Each (IsNamed v.cells) (drafts_of v)
+pub are_named : (v : Picture) → Each (IsNamed v.cells) (drafts_of v)
 are_named v =
     named_each v (λ f. IsField v.cells f × (is_drafted f ≡ true)) [] (drafted_fields v.cells) tt
     (each_filter (IsField v.cells) is_drafted (fields_of v.cells) (are_fields v.cells))
@@ -150,7 +150,7 @@ map_append : {X Y : Type 0} (f : X → Y) (xs : List X) (y : X) (rest : List Y) 
 map_append f [] y rest = refl
 map_append f (x ∷ xs) y rest = ap (λ l. f x ∷ l) (map_append f xs y rest)
 
-drafted_all : (v : Picture) (before : List Named) (fields : List FieldAt) → map (λ d. d.field) (drafts_from v before fields) ≡ map (λ d. d.field) before ++ fields
+pub drafted_all : (v : Picture) (before : List Named) (fields : List FieldAt) → map (λ d. d.field) (drafts_from v before fields) ≡ map (λ d. d.field) before ++ fields
 drafted_all v before [] = sym (append-nil (map (λ d. d.field) before))
 drafted_all v before (field ∷ fields) =
     drafted_all v (before ++ named v before field ∷ []) fields ∙ map_append (λ d. d.field) before (named v before field) fields

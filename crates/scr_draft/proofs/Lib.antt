@@ -2,3 +2,8 @@ pub mod Steps
 pub mod ReadLaw
 pub mod BestLaw
 pub mod OpenLaw
+pub mod NameLaws
+pub mod DraftLaws
+pub mod LineLaws
+pub mod TextLaw
+pub mod LabelLaw

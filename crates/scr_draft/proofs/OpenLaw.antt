@@ -8,7 +8,7 @@ use Rattle.std.proofs.lemmas.Bool.{eq-eqb, and_from}
 use Rattle.ds_codec.specs.declared.size.Size.{Size}
 use Rattle.ds_codec.specs.Geometry.{Sizes}
 use Rattle.ds_codec.specs.Reading.{◌>>=◌}
-use Rattle.ds_screen.specs.Picture.{Picture}
+use Rattle.ds_screen.specs.Picture.{Picture, IsSound}
 use Rattle.ds_screen.specs.Fields.{fields_of}
 use Rattle.ds_screen.specs.Records.{new_picture}
 use Rattle.scr_layout.specs.Layout.{Declaration}
@@ -115,9 +115,9 @@ pub opening_fits : (geometry : Sizes) (records : List (List ℕ)) (o : Opened) �
 opening_fits geometry records (Leads screen) is = tt
 opening_fits geometry records (Stands finding) is = fits_none geometry records finding is
 
-pub drafted_says : (v : Picture) (r : Result (String Global) LayoutError) → Gives string_bytes r (drafted v) → IfOk r (λ text. SaysBest v (string_bytes text))
-drafted_says v (Err e) gives = tt
-drafted_says v (Ok text) gives = (declared_by v, drafted_reads v (Ok text) gives, drafted_is_best v)
+pub drafted_says : (v : Picture) (r : Result (String Global) LayoutError) → IsSound v → Gives string_bytes r (drafted v) → IfOk r (λ text. SaysBest v (string_bytes text))
+drafted_says v (Err e) sound gives = tt
+drafted_says v (Ok text) sound gives = (declared_by v, drafted_reads v (Ok text) sound gives, drafted_is_best v)
 
 pub opened_fits : (geometry : Sizes) (records : List (List ℕ)) (r : Result Opened AllocError) → IfOk r (IsOpened (opened geometry records)) → IfOk r (FitsNone geometry records)
 opened_fits geometry records (Err e) is = tt

@@ -1,5 +1,5 @@
 -- The text that an operator sees before a field on its row.
-use Rattle.std.specs.Prelude.{ℕ, ◌+◌, ◌-◌, ◌%◌, Bool, true, false, not, ◌&&◌, ◌||◌, ◌==◌, nat_le, nat_lt, List, [], ◌∷◌, map, length, if◌then◌else◌}
+use Rattle.std.specs.Prelude.{◌≡◌, ℕ, ◌+◌, ◌-◌, ◌%◌, ◌<◌, ◌≤◌, ◌⊎◌, Bool, true, false, not, ◌&&◌, ◌||◌, ◌==◌, nat_le, nat_lt, List, [], ◌∷◌, map, length, if◌then◌else◌}
 use Rattle.std.specs.List.{range_with_len}
 use Rattle.ds_codec.specs.declared.cell.Cell.{Cell}
 use Rattle.ds_codec.specs.declared.cell.Cell.TheVariants.{Field, Char}
@@ -67,3 +67,29 @@ label_of cells cols place =
 -- what is seen of a label, from its first word to its last
 abbrev pub label_text : List Cell → Label → List ℕ
 label_text cells label = map (seen_at cells) (range_with_len label.start (label.stop - label.start))
+
+-- ---- the same by positions
+
+-- no letter and no digit of a text stands from one position up to another
+abbrev pub HasNoWord : List Cell → ℕ → ℕ → Type 0
+HasNoWord cells from to = (q : ℕ) → from ≤ q → q < to → mark_at cells q ≡ Word → ⊥
+
+-- a border stands from one position up to another
+abbrev pub HasBorder : List Cell → ℕ → ℕ → Type 0
+HasBorder cells from to = (q : ℕ) × (from ≤ q) × (q < to) × (mark_at cells q ≡ Border)
+
+-- The last text from one position up to another: a word begins it, a word ends it and none comes after it, no border
+-- stands in it, and a border stands between it and each word before it.
+pub record IsLastText (cells : List Cell) (from to : ℕ) (label : Label) : Type 0 where
+  pub begins : from ≤ label.start
+  pub some : label.start < label.stop
+  pub ends : label.stop ≤ to
+  pub first : mark_at cells label.start ≡ Word
+  pub last : mark_at cells (label.stop - 1) ≡ Word
+  pub after : HasNoWord cells label.stop to
+  pub whole : HasBorder cells label.start label.stop → ⊥
+  pub before : (q : ℕ) → from ≤ q → q < label.start → mark_at cells q ≡ Word → HasBorder cells q label.start
+
+-- the label is the last text from one position up to another, or there is no text and the label has no position
+abbrev pub IsLabel : List Cell → ℕ → ℕ → Label → Type 0
+IsLabel cells from to label = (HasNoWord cells from to × (label.start ≡ 0) × (label.stop ≡ 0)) ⊎ IsLastText cells from to label

@@ -5,3 +5,4 @@ pub mod Text
 pub mod Draft
 pub mod Opened
 pub mod Best
+pub mod Laws

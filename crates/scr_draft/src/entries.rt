@@ -1,8 +1,8 @@
 //! The fields that a draft declares, in rising order, each with its name.
 
-ghost use Rattle.std.specs.Prelude.{◌≡◌, IfOk};
+ghost use Rattle.std.specs.Prelude.{◌≡◌, nat_lt, length, IfOk};
 ghost use Rattle.std.specs.String.{string_bytes};
-ghost use Rattle.scr_draft.specs.Drafted.{is_drafted, drafts_of, label_before, named};
+ghost use Rattle.scr_draft.specs.Drafted.{is_drafted, drafted_fields, drafts_of, label_before, named};
 
 use crate::drafted::Drafted;
 use crate::label::{label_of, push_label};
@@ -15,6 +15,25 @@ pub(crate) fn is_drafted(field: &FieldAt) -> bool
     ensures { result ≡ is_drafted field.now }
 {
     field.length > 0 && (!field.attr.protected() || field.attr.modified())
+}
+
+/// The most fields of a layout.
+const MOST_FIELDS: u32 = 1000;
+
+/// Whether a draft would have more fields than a layout may.
+pub(crate) fn has_too_many(screen: &Screen<PlaneCells>) -> bool
+    ensures { result ≡ nat_lt 1000 (length (drafted_fields screen.now.cells)) }
+{
+    let mut left = MOST_FIELDS;
+    'fields: for field in screen.fields() {
+        if is_drafted(&field) {
+            if left == 0 {
+                return true;
+            }
+            left -= 1;
+        }
+    }
+    false
 }
 
 /// The label of a field.

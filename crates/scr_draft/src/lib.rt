@@ -5,11 +5,12 @@ mod drafted;
 mod drafting;
 mod entries;
 mod label;
+mod laws;
 mod mark;
 mod name;
 mod opening;
-mod same;
 mod text;
 
 pub use drafting::draft;
+pub use laws::{draft_law, label_law, names_law};
 pub use opening::{Opened, open};

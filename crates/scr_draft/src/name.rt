@@ -1,9 +1,11 @@
 //! The names of drafted fields.
 
-ghost use Rattle.std.specs.Prelude.{◌≡◌, ◌++◌, ◌<◌, ◌+◌, ◌^◌, true, false, not, take, IfOk, OnOk};
+ghost use Rattle.std.specs.Prelude.{◌≡◌, ◌++◌, ◌<◌, ◌+◌, ◌^◌, ℕ, List, true, not, take, IfOk, OnOk};
 ghost use Rattle.std.specs.String.{string_bytes};
+ghost use Rattle.std.specs.List.{list_all};
+ghost use Rattle.scr_layout.specs.Entry.{is_name_byte};
 ghost use Rattle.scr_draft.specs.Label.{is_word};
-ghost use Rattle.scr_draft.specs.Name.{lower, dashed_byte, dashed, place_name, suffix, form, is_taken, free_name};
+ghost use Rattle.scr_draft.specs.Name.{lower, dashed_byte, dashed_from, dashed, undashed, place_name, suffix, stem, form, is_taken, free_name};
 ghost use Rattle.scr_draft.specs.Drafted.{names_in};
 
 use crate::drafted::Drafted;
@@ -24,30 +26,52 @@ fn lower(byte: u8) -> u8
     }
 }
 
-/// A letter or a digit of a name, or `-` for what stands between two words; whether what is next comes after it.
-fn push_byte(out: &mut String, byte: u8, after_dash: bool) -> Result<bool, AllocError>
-    ensures text { OnOk result
-        (string_bytes out.new ≡ string_bytes out.old ++ dashed_byte after_dash byte) }
+/// A letter or a digit of a name, or `-` for what stands between two words; whether none is to stand next.
+fn push_byte(words: &mut Vec<u8>, byte: u8, none: bool) -> Result<bool, AllocError>
+    ensures text { OnOk result (words.new.items ≡ words.old.items ++ dashed_byte none byte) }
     ensures between { IfOk result (λ next. next ≡ not (is_word byte)) }
 {
     if is_word(byte) {
-        out.push(char::from(lower(byte)))?;
+        words.push(lower(byte))?;
         return Ok(false);
     }
-    if !after_dash {
-        out.push_str("-")?;
+    if !none {
+        words.push(b'-')?;
     }
     Ok(true)
 }
 
 /// The words of a label, in lower case, with `-` between two words.
-fn push_words(out: &mut String, label: &[u8]) -> Result<(), AllocError>
-    ensures { OnOk result
-        (string_bytes out.new ≡ string_bytes out.old ++ dashed false label.now) }
+fn words_of(alloc: Global, label: &[u8]) -> Result<Vec<u8>, AllocError>
+    ensures { IfOk result (λ words. words.items ≡ dashed label.now) }
 {
-    let mut after_dash = false;
+    let mut words = Vec::new(alloc);
+    let mut none = true;
     for byte in label {
-        after_dash = push_byte(out, *byte, after_dash)?;
+        none = push_byte(&mut words, *byte, none)?;
+    }
+    Ok(words)
+}
+
+/// The bytes without a `-` at their end.
+fn undashed(text: &[u8]) -> &[u8]
+    ensures { result.now ≡ undashed text.now }
+{
+    let count = text.len();
+    if count > 0 && text[count - 1] == b'-' {
+        &text[..count - 1]
+    } else {
+        text
+    }
+}
+
+/// Adds bytes of a name.
+fn push_bytes(out: &mut String, bytes: &[u8]) -> Result<(), AllocError>
+    requires { list_all is_name_byte bytes.now ≡ true }
+    ensures { OnOk result (string_bytes out.new ≡ string_bytes out.old ++ bytes.now) }
+{
+    for byte in bytes {
+        out.push(char::from(*byte))?;
     }
     Ok(())
 }
@@ -75,15 +99,34 @@ fn suffix_of(alloc: Global, tries: usize) -> Result<String, AllocError>
     format!(in alloc; "-{number}")
 }
 
-/// So many bytes of a label.
-fn front(label: &[u8], most: usize) -> &[u8]
-    ensures { result.now ≡ take most label.now }
+/// So many bytes of the words of a label.
+fn front(words: &[u8], most: usize) -> &[u8]
+    ensures { result.now ≡ take most words.now }
 {
-    if most < label.len() {
-        &label[..most]
+    if most < words.len() {
+        &words[..most]
     } else {
-        label
+        words
     }
+}
+
+/// The words of a label, of which so many bytes are kept, or else the place.
+fn push_stem(
+    out: &mut String,
+    cols: u32,
+    place: u32,
+    words: &[u8],
+    most: usize,
+) -> Result<(), AllocError>
+    requires some { 0 < cols }
+    requires bytes { list_all is_name_byte words.now ≡ true }
+    ensures { OnOk result (string_bytes out.new
+        ≡ string_bytes out.old ++ stem (place_name cols place) words.now most) }
+{
+    if words.is_empty() {
+        return push_place(out, cols, place);
+    }
+    push_bytes(out, undashed(front(words, most)))
 }
 
 /// The form of a field's name once so many forms are taken.
@@ -91,21 +134,19 @@ fn form(
     alloc: Global,
     cols: u32,
     place: u32,
-    label: &[u8],
+    words: &[u8],
     tries: usize,
 ) -> Result<String, AllocError>
     requires some { 0 < cols }
     requires few { tries + 1 < 2 ^ 64 }
-    ensures { IfOk result (λ name. string_bytes name ≡ form cols place label.now tries) }
+    requires bytes { list_all is_name_byte words.now ≡ true }
+    ensures { (label : List ℕ) → words.now ≡ dashed label
+        → IfOk result (λ name. string_bytes name ≡ form cols place label tries) }
 {
     let suffix = suffix_of(alloc, tries)?;
     let mut name = String::new(alloc);
-    if label.is_empty() {
-        push_place(&mut name, cols, place)?;
-    } else {
-        let room = MOST_NAME.saturating_sub(suffix.len());
-        push_words(&mut name, front(label, room))?;
-    }
+    let room = MOST_NAME.saturating_sub(suffix.len());
+    push_stem(&mut name, cols, place, words, room)?;
     name.push_str(suffix.as_str())?;
     Ok(name)
 }
@@ -123,7 +164,6 @@ fn is_taken(drafts: &[Drafted], name: &str) -> bool
 }
 
 /// The first form of a field's name that no field before it has.
-
 pub(crate) fn free_name(
     alloc: Global,
     drafts: &[Drafted],
@@ -135,11 +175,12 @@ pub(crate) fn free_name(
     ensures { IfOk result (λ name. string_bytes name
         ≡ free_name (names_in drafts.now) (form cols place label.now)) }
 {
-    for tries in 0..drafts.len() {
-        let name = form(alloc, cols, place, label, tries)?;
+    let words = words_of(alloc, label)?;
+    for tries in 0..drafts.len() + 1 {
+        let name = form(alloc, cols, place, words.as_slice(), tries)?;
         if !is_taken(drafts, name.as_str()) {
             return Ok(name);
         }
     }
-    form(alloc, cols, place, label, drafts.len())
+    form(alloc, cols, place, words.as_slice(), drafts.len() + 1)
 }

@@ -11,9 +11,9 @@ returns-in-Some c = λ layout records counts led.
 pub returns-in-Ok : goal.returns-in-Ok
 returns-in-Ok c = λ layout records counts led.
     leads_on layout records c.args.outline.now c.take.new.outline c.args.index c.args.bytes.now counts
-    (subst (LeadsTo layout records c.args.outline.now) c.in_default.is led) c.in-Ok.ensures
+    (subst (LeadsTo layout records c.args.outline.now) c.in_default.is led) c.in-Ok.ensures.takes
 
 pub returns-in-Err : goal.returns-in-Err
 returns-in-Err c = λ layout records counts led.
     stands_next layout records c.args.outline.now c.take.new.outline c.args.index c.args.bytes.now c.in-Err.finding counts
-    (subst (LeadsTo layout records c.args.outline.now) c.in_default.is led) c.in-Err.ensures
+    (subst (LeadsTo layout records c.args.outline.now) c.in_default.is led) c.in-Err.ensures.takes

@@ -15,7 +15,7 @@ pub returns-in-Ok-clause-room : goal.returns-in-Ok-clause-room
 returns-in-Ok-clause-room c = λ taken.
     let v : Picture = c.requires.0 in
     let is : IsOutlineOf c.list_writes.new.outline v = subst (λ (o : Outlined). IsOutlineOf o v) (sym c.list_writes.ensures.unchanged) c.requires.1 in
-    let led = c.in-Ok.ensures v is in
+    let led = c.in-Ok.ensures.takes v is in
     let same : led.0.geometry ≡ v.geometry =
     taken_geometry c.args.index v led.0 (read_of v.geometry.mode c.args.bytes.now) (sym (first_one c.args.index v (read_of v.geometry.mode c.args.bytes.now)) ∙ led.1) in (
       led.0,
@@ -28,7 +28,7 @@ pub returns-in-Ok-clause-notes : goal.returns-in-Ok-clause-notes
 returns-in-Ok-clause-notes c = λ v outlines.
     let is : IsOutlineOf c.list_writes.new.outline v = subst (λ (o : Outlined). IsOutlineOf o v) (sym c.in_ok-list_writes.ensures.unchanged) outlines in
     let same : ◌≡◌ {A = List Write} c.deref.result.now c.list_writes.new.writes.items = search rules in
-    let led = c.in-Ok.ensures v is in (
+    let led = c.in-Ok.ensures.takes v is in (
       led.0,
       sym (first_one c.args.index v (read_of v.geometry.mode c.args.bytes.now)) ∙ led.1,
       led.2,
@@ -38,4 +38,4 @@ returns-in-Ok-clause-notes c = λ v outlines.
 pub returns-in-Err-clause-notes : goal.returns-in-Err-clause-notes
 returns-in-Err-clause-notes c = λ v outlines.
     let is : IsOutlineOf c.list_writes.new.outline v = subst (λ (o : Outlined). IsOutlineOf o v) (sym c.in_ok-list_writes.ensures.unchanged) outlines in
-    ((c.in-Err.field-0, sym (first_one c.args.index v (read_of v.geometry.mode c.args.bytes.now)) ∙ c.in-Err.ensures v is), refl)
+    ((c.in-Err.field-0, sym (first_one c.args.index v (read_of v.geometry.mode c.args.bytes.now)) ∙ c.in-Err.ensures.takes v is), refl)

@@ -6,12 +6,12 @@ pub returns-in-Err : goal.returns-in-Err
 returns-in-Err g c = λ v is.
     let before = c.loop-index.invariant v is in
     sym before.1
-    ∙ one_stops g.R.TurnRule.fault_of (λ bytes. bytes.now) c.args.records.now c.loop-index.index (record { ref_ptr = (0, 0); now = [] }) before.0 c.in-Err.finding c.loop-index-test.true (c.in-Err.ensures before.0 before.2)
+    ∙ one_stops g.R.TurnRule.fault_of (λ bytes. bytes.now) c.args.records.now c.loop-index.index (record { ref_ptr = (0, 0); now = [] }) before.0 c.in-Err.finding c.loop-index-test.true (c.in-Err.ensures.takes before.0 before.2)
 
 pub loop-index-preserved : goal.loop-index-preserved
 loop-index-preserved g c = λ v is.
     let before = c.loop-index.invariant v is in
-    let taken = c.in_default.ensures before.0 before.2 in (
+    let taken = c.in_default.ensures.takes before.0 before.2 in (
       taken.0,
       one_more g.R.TurnRule.fault_of (λ bytes. bytes.now) c.args.records.now c.loop-index.index (record { ref_ptr = (0, 0); now = [] }) before.0 taken.0 c.loop-index-test.true taken.1 ∙ before.1,
       taken.2,
