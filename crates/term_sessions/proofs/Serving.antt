@@ -1,17 +1,20 @@
 -- Terminals one after the other: their sessions are one list, and their lines one text.
-use Rattle.std.proofs.Common.{◌≡◌, ◌∙◌, ◌≤◌, ◌+◌, ◌||◌, ℕ, Bool, true, false, List, [], ◌∷◌, ◌++◌, length, Option, Some, None, option_to_list, Result, Ok, Err, sym, ap, subst, refl, append_assoc, append-nil, arith}
+use Rattle.std.proofs.Common.{◌≡◌, ◌∙◌, ◌+◌, ◌||◌, ℕ, Bool, true, false, List, [], ◌∷◌, ◌++◌, length, Option, Some, None, Result, Ok, Err, sym, ap, subst, refl, inl, inr, append_assoc, append-nil, arith}
 use Rattle.std.proofs.lemmas.List.{length-append}
 use Rattle.std.proofs.lemmas.List.Folds.{list_any-append}
 use Rattle.std.specs.Io.KnownBytes.{Appends}
 use Rattle.scr_layout.specs.Entry.{Declared}
 use Rattle.scr_layout.specs.Layout.{Declaration}
-use Rattle.term_commands.specs.Streams.{AppendsFront}
+use Rattle.term_commands.specs.declared.status.Status.{Status}
+use Rattle.term_commands.specs.declared.status.Status.TheVariants.{Done, Findings, BadInput, Failed, NoMemory}
+use Rattle.term_commands.specs.Streams.{IsWantOrFailure}
 use Rattle.term_commands.proofs.Prefixes.{appends_more}
 use Rattle.tn_session.specs.declared.fault.RunFault.{RunFault}
 use Rattle.tn_session.specs.HostLog.{Outcome}
-use Rattle.tn_session.specs.Wire.{WireState}
-use Rattle.term_sessions.specs.Session.{FreshLine, begun, session_lines, served_text, is_failed, IsHosted}
-use Rattle.term_sessions.specs.Serve.{Hands, HandsNext, AreHosted, some_failed, Serving, ServesAll, ServesSome}
+use Rattle.tn_session.specs.Wire.{FreshLine, WireState, begun}
+use Rattle.term_sessions.specs.Printing.{IsPrinted}
+use Rattle.term_sessions.specs.Session.{session_lines, served_text, is_failed, IsHosted, IsTold}
+use Rattle.term_sessions.specs.Serve.{Hands, HandsNext, AreHosted, some_failed, Visited, Serving, ServesAll, ServesSome, Serves, IsVisited, StopsAt, WritesSession}
 
 pub served_more : (entries : List Declared) (number : ℕ) (first others : List (Result Outcome RunFault))
     → served_text entries number (first ++ others) ≡ served_text entries number first ++ served_text entries (number + length first) others
@@ -41,10 +44,6 @@ pub appends_none : (known : Option (List ℕ)) → Appends known known []
 appends_none None = tt
 appends_none (Some xs) = sym (append-nil xs)
 
-pub front_after : (old mid new : Option (List ℕ)) (first second : List ℕ) → Appends old mid first → AppendsFront mid new second → AppendsFront old new (first ++ second)
-front_after old mid new first second a b =
-    (first ++ b.0, b.1, ap (λ t. first ++ t) b.2 ∙ sym (append_assoc first b.0 b.1), appends_more old mid new first b.0 a b.3)
-
 pub hands_none : (coming : Option (List FreshLine)) → Hands coming [] coming
 hands_none None = tt
 hands_none (Some lines) = refl
@@ -68,15 +67,19 @@ hands_not seen (Some coming) error new a = a
 pub goes_more : (old mid new first second : List WireState) → mid ≡ old ++ first → new ≡ mid ++ second → new ≡ old ++ (first ++ second)
 goes_more old mid new first second a b = b ∙ ap (λ l. l ++ second) a ∙ append_assoc old first second
 
--- a terminal came, and then it went
-pub hands_kept : (old mid new : Option (List FreshLine)) (lines : List FreshLine) → Hands old lines mid → new ≡ mid → Hands old lines new
-hands_kept old mid new lines a same = subst (Hands old lines) (sym same) a
-
-pub gone_kept : (old mid new : List WireState) (wire : WireState) → mid ≡ old → new ≡ mid ++ wire ∷ [] → new ≡ old ++ wire ∷ []
-gone_kept old mid new wire same a = a ∙ ap (λ l. l ++ wire ∷ []) same
-
-pub gone_none : (old new : List WireState) → new ≡ old → new ≡ old ++ []
-gone_none old new same = same ∙ sym (append-nil old)
+-- a terminal came, this came of its session, and then it went
+pub visited : (layout : Declaration) (records : List (List ℕ)) (old mid new : Visited) (line : FreshLine) (start wire : WireState) (session : Result Outcome RunFault)
+    → Hands old.coming (line ∷ []) mid.coming → mid.gone ≡ old.gone → mid.missing ≡ old.missing
+    → new.coming ≡ mid.coming → new.gone ≡ mid.gone ++ wire ∷ [] → new.missing ≡ mid.missing
+    → start ≡ begun line → IsHosted layout records start session wire → IsVisited layout records old new session
+visited layout records old mid new line start wire session came gone missing still went kept is_new hosted = record {
+  line = line;
+  wire = wire;
+  came = subst (Hands old.coming (line ∷ [])) (sym still) came;
+  went = went ∙ ap (λ l. l ++ wire ∷ []) gone;
+  none_missing = kept ∙ missing;
+  hosted = subst (λ (w : WireState). IsHosted layout records w session wire) is_new hosted;
+}
 
 pub serves_none : (layout : Declaration) (records : List (List ℕ)) (number : ℕ) (now : Serving) → ServesAll layout records number 0 now now false
 serves_none layout records number now = record {
@@ -84,27 +87,12 @@ serves_none layout records number now = record {
   wires = [];
   sessions = [];
   all = refl;
-  came = hands_none now.coming;
-  went = gone_none now.gone now.gone refl;
+  came = hands_none now.terminals.coming;
+  went = sym (append-nil now.terminals.gone);
+  none_missing = refl;
   hosted = tt;
   any = refl;
-  written = appends_none now.written;
-}
-
--- nothing was written; a terminal may have come and gone
-pub serves_nothing : (layout : Declaration) (records : List (List ℕ)) (number count : ℕ) (old new : Serving) (line : Option FreshLine) (wire : Option WireState)
-    → Hands old.coming (option_to_list line) new.coming → new.gone ≡ old.gone ++ option_to_list wire → new.written ≡ old.written → ServesSome layout records number count old new
-serves_nothing layout records number count old new line wire came went same = record {
-  lines = [];
-  wires = [];
-  sessions = [];
-  last_line = line;
-  last_wire = wire;
-  few = omega arith;
-  came = came;
-  went = went;
-  hosted = tt;
-  front = subst (λ (w : Option (List ℕ)). AppendsFront old.written w []) (sym same) ([], [], refl, appends_none old.written);
+  written = (appends_none now.output.written, refl);
 }
 
 pub serves_more : (layout : Declaration) (records : List (List ℕ)) (number count more : ℕ) (old mid new : Serving) (failed this : Bool)
@@ -119,67 +107,50 @@ serves_more layout records number count more old mid new failed this a b =
       wires = a.wires ++ b.wires;
       sessions = a.sessions ++ b.sessions;
       all = length-append a.sessions b.sessions ∙ ap (λ (n : ℕ). n + length b.sessions) a.all ∙ ap (λ (n : ℕ). count + n) b.all;
-      came = hands_more old.coming mid.coming new.coming a.lines b.lines a.came b.came;
-      went = goes_more old.gone mid.gone new.gone a.wires b.wires a.went b.went;
+      came = hands_more old.terminals.coming mid.terminals.coming new.terminals.coming a.lines b.lines a.came b.came;
+      went = goes_more old.terminals.gone mid.terminals.gone new.terminals.gone a.wires b.wires a.went b.went;
+      none_missing = b.none_missing ∙ a.none_missing;
       hosted = hosted_more layout records a.lines a.wires a.sessions b.lines b.wires b.sessions a.hosted b.hosted;
       any = list_any-append is_failed a.sessions b.sessions ∙ ap (λ (x : Bool). x || some_failed b.sessions) a.any ∙ ap (λ (x : Bool). failed || x) b.any;
-      written = subst (Appends old.written new.written) (sym text)
-          (appends_more old.written mid.written new.written (served_text layout.entries number a.sessions) (served_text layout.entries (number + count) b.sessions) a.written b.written);
+      written = (
+        subst (Appends old.output.written new.output.written) (sym text)
+            (appends_more old.output.written mid.output.written new.output.written (served_text layout.entries number a.sessions) (served_text layout.entries (number + count) b.sessions) a.written.0 b.written.0),
+        b.written.1 ∙ a.written.1,
+      );
     }
 
-pub serves_some_more : (layout : Declaration) (records : List (List ℕ)) (number count more most : ℕ) (old mid new : Serving) (failed : Bool)
-    → count + more ≤ most
-    → ServesAll layout records number count old mid failed → ServesSome layout records (number + count) more mid new
-    → ServesSome layout records number most old new
-serves_some_more layout records number count more most old mid new failed few a b =
-    let same : number + length a.sessions ≡ number + count = ap (λ (n : ℕ). number + n) a.all in
-    let text : served_text layout.entries number (a.sessions ++ b.sessions) ≡ served_text layout.entries number a.sessions ++ served_text layout.entries (number + count) b.sessions =
-    served_more layout.entries number a.sessions b.sessions ∙ ap (λ (n : ℕ). served_text layout.entries number a.sessions ++ served_text layout.entries n b.sessions) same in
-    record {
-      lines = a.lines ++ b.lines;
-      wires = a.wires ++ b.wires;
-      sessions = a.sessions ++ b.sessions;
-      last_line = b.last_line;
-      last_wire = b.last_wire;
-      few = rw (length-append a.sessions b.sessions) (omega (arith, a.all, b.few, few));
-      came = subst (λ (l : List FreshLine). Hands old.coming l new.coming) (sym (append_assoc a.lines b.lines (option_to_list b.last_line)))
-          (hands_more old.coming mid.coming new.coming a.lines (b.lines ++ option_to_list b.last_line) a.came b.came);
-      went = goes_more old.gone mid.gone new.gone a.wires (b.wires ++ option_to_list b.last_wire) a.went b.went
-          ∙ ap (λ (l : List WireState). old.gone ++ l) (sym (append_assoc a.wires b.wires (option_to_list b.last_wire)));
-      hosted = hosted_more layout records a.lines a.wires a.sessions b.lines b.wires b.sessions a.hosted b.hosted;
-      front = subst (AppendsFront old.written new.written) (sym text)
-          (front_after old.written mid.written new.written (served_text layout.entries number a.sessions) (served_text layout.entries (number + count) b.sessions) a.written b.front);
-    }
-
-pub serves_one : (line : FreshLine) (start wire : WireState) (layout : Declaration) (records : List (List ℕ)) (number : ℕ) (old new : Serving) (session : Result Outcome RunFault)
-    → Hands old.coming (line ∷ []) new.coming → new.gone ≡ old.gone ++ wire ∷ [] → start ≡ begun line → IsHosted layout records start session wire
-    → Appends old.written new.written (session_lines layout.entries number session)
+pub serves_one : (layout : Declaration) (records : List (List ℕ)) (number : ℕ) (old new : Serving) (session : Result Outcome RunFault)
+    → IsVisited layout records old.terminals new.terminals session → IsTold session → IsPrinted old.output new.output (session_lines layout.entries number session) true
     → ServesAll layout records number 1 old new (is_failed session)
-serves_one line start wire layout records number old new session came went new_wire hosted written = record {
-  lines = line ∷ [];
-  wires = wire ∷ [];
+serves_one layout records number old new session visit told printed = record {
+  lines = visit.line ∷ [];
+  wires = visit.wire ∷ [];
   sessions = session ∷ [];
   all = refl;
-  came = came;
-  went = went;
-  hosted = (subst (λ (w : WireState). IsHosted layout records w session wire) new_wire hosted, tt);
+  came = visit.came;
+  went = visit.went;
+  none_missing = visit.none_missing;
+  hosted = ((visit.hosted, told), tt);
   any = or_false (is_failed session);
-  written = subst (Appends old.written new.written) (sym (append-nil (session_lines layout.entries number session))) written;
+  written = (subst (Appends old.output.written new.output.written) (sym (append-nil (session_lines layout.entries number session))) printed.0, printed.1);
 }
 
-pub serves_part : (line : FreshLine) (start wire : WireState) (layout : Declaration) (records : List (List ℕ)) (number : ℕ) (old new : Serving) (session : Result Outcome RunFault)
-    → Hands old.coming (line ∷ []) new.coming → new.gone ≡ old.gone ++ wire ∷ [] → start ≡ begun line → IsHosted layout records start session wire
-    → AppendsFront old.written new.written (session_lines layout.entries number session)
-    → ServesSome layout records number 1 old new
-serves_part line start wire layout records number old new session came went new_wire hosted front = record {
-  lines = line ∷ [];
-  wires = wire ∷ [];
-  sessions = session ∷ [];
-  last_line = None;
-  last_wire = None;
-  few = omega arith;
-  came = came;
-  went = went;
-  hosted = (subst (λ (w : WireState). IsHosted layout records w session wire) new_wire hosted, tt);
-  front = subst (AppendsFront old.written new.written) (sym (append-nil (session_lines layout.entries number session))) front;
-}
+-- its lines were not written
+pub stops_unwritten : (layout : Declaration) (records : List (List ℕ)) (number : ℕ) (old new : Serving) (session : Result Outcome RunFault) (status : Status)
+    → IsVisited layout records old.terminals new.terminals session → IsTold session → WritesSession layout.entries number session old.output new.output (Err status)
+    → IsWantOrFailure status × StopsAt layout records number old new status
+stops_unwritten layout records number old new session Done visit told writes = absurd writes
+stops_unwritten layout records number old new session Findings visit told writes = absurd writes
+stops_unwritten layout records number old new session BadInput visit told writes = absurd writes
+stops_unwritten layout records number old new session Failed visit told writes =
+    (tt, inr (inr (record { session = session; is = refl; visited = visit; told = told; front = writes })))
+stops_unwritten layout records number old new session NoMemory visit told writes =
+    (tt, inr (inl (record { session = session; is = refl; visited = visit; output = writes })))
+
+pub serves_early : (layout : Declaration) (records : List (List ℕ)) (count : ℕ) (old new : Serving) (status : Status)
+    → IsWantOrFailure status → ServesSome layout records count old new status → Serves layout records count old new status
+serves_early layout records count old new Done early some = absurd early
+serves_early layout records count old new Findings early some = absurd early
+serves_early layout records count old new BadInput early some = absurd early
+serves_early layout records count old new Failed early some = inr some
+serves_early layout records count old new NoMemory early some = inr some

@@ -1,5 +1,6 @@
 pub mod FaultNumber
 pub mod Session
+pub mod Printing
 pub mod Serve
 pub mod Attach
 pub mod Prepare

@@ -9,8 +9,9 @@ use Rattle.scr_layout.specs.Layout.{Declaration}
 use Rattle.scr_check.specs.FindingText.{name_at}
 use Rattle.tn_cores.specs.declared.session.SessionFault.TheVariants.{LineFault}
 use Rattle.tn_session.specs.declared.fault.RunFault.{RunFault}
-use Rattle.tn_session.specs.declared.fault.RunFault.TheVariants.{Session}
+use Rattle.tn_session.specs.declared.fault.RunFault.TheVariants.{Session, OutOfMemory}
 use Rattle.tn_session.specs.declared.outcome.HostOutcome.{HostOutcome}
+use Rattle.tn_session.specs.declared.stop.Stop.{Stop}
 use Rattle.tn_session.specs.HostLog.{Outcome}
 use Rattle.tn_session.specs.HostRan.{HostRan}
 use Rattle.tn_session.specs.HostView.{outcome_view}
@@ -46,26 +47,6 @@ served_text entries number (session ∷ sessions) = session_lines entries number
 
 -- ---- what it is
 
--- a line that is handed over: where it tells its bytes, those that it has left to read and those that it holds as written
-pub record FreshLine : Type 0 where
-  pub left : Option (List ℕ)
-  pub held : Option (List ℕ)
-
--- a line by what it has left to read and what it holds
-abbrev pub fresh : Option (List ℕ) → Option (List ℕ) → FreshLine
-fresh left held = record { left = left; held = held }
-
--- a wire over this line, over which nothing has passed
-abbrev pub begun : FreshLine → WireState
-begun line = record {
-  received = [];
-  sent = [];
-  reads = 0;
-  stop = None;
-  left = line.left;
-  held = line.held;
-}
-
 -- a run can begin: the wire goes on, and its reads can be counted
 pub record CanRun (wire : WireState) : Type 0 where
   pub goes : wire.stop ≡ None
@@ -77,18 +58,20 @@ flushed (Some done) ran = ran
 flushed None (Ok found) = Err (Session LineFault)
 flushed None (Err why) = Err why
 
--- after a run that gave this the wire was flushed
-pub record IsEnded {A : Type 0} (ran : Result A RunFault) (old : WireState) (result : Result A RunFault) (new : WireState) : Type 0 where
-  pub sent : Option (Unit {0})
-  pub flush : Flushed old sent new
-  pub rest : IsFlush old new
-  pub gives : result ≡ flushed sent ran
+-- After a run that gave this the line is flushed where it hasn't stopped; where it has, nothing more is done to it.
+abbrev pub IsEndedBy : {A : Type 0} → Option Stop → Result A RunFault → WireState → Result A RunFault → WireState → Type 0
+IsEndedBy None ran old result new = (sent : Option (Unit {0})) × Flushed old sent new × IsFlush old new × (result ≡ flushed sent ran)
+IsEndedBy (Some why) ran old result new = (result ≡ ran) × (new ≡ old)
+
+abbrev pub IsEnded : {A : Type 0} → Result A RunFault → WireState → Result A RunFault → WireState → Type 0
+IsEnded ran old result new = IsEndedBy old.stop ran old result new
 
 abbrev pub session_seen : Result HostOutcome RunFault → Result Outcome RunFault
 session_seen (Ok outcome) = Ok (outcome_view outcome)
 session_seen (Err why) = Err why
 
--- A host's run over this wire, with TN3270E and RESPONSES where the terminal takes them, gave this, and left the wire so.
+-- A host's run over this wire, with TN3270E and RESPONSES where the terminal takes them, gave this, and left the wire so: it
+-- is still that of the line which it was made of.
 pub record IsHosted (layout : Declaration) (records : List (List ℕ)) (old : WireState) (session : Result Outcome RunFault) (new : WireState) : Type 0 where
   pub middle : WireState
   pub ran : Result HostOutcome RunFault
@@ -96,3 +79,12 @@ pub record IsHosted (layout : Declaration) (records : List (List ℕ)) (old : Wi
   pub host : HostRan layout records true true old ran middle
   pub ended : IsEnded ran middle result new
   pub seen : session ≡ session_seen result
+  pub over : new.line ≡ old.line
+
+-- out of memory is told by no line
+abbrev pub is_told : {A : Type 0} → Result A RunFault → Bool
+is_told (Err OutOfMemory) = false
+is_told session = true
+
+abbrev pub IsTold : {A : Type 0} → Result A RunFault → Type 0
+IsTold session = is_told session ≡ true

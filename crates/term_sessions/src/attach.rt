@@ -1,19 +1,19 @@
 //! The command `attach`, once it is connected.
 
-ghost use Rattle.std.specs.Prelude.{◌≡◌, ◌++◌, Ok, OnOk};
+ghost use Rattle.std.specs.Prelude.{◌≡◌, ◌++◌, IfOk, OnOk};
 ghost use Rattle.std.specs.String.{string_bytes};
-ghost use Rattle.term_commands.specs.Fault.{GivesOrFails};
 ghost use Rattle.term_commands.specs.Held.{answer_seen};
-ghost use Rattle.term_commands.specs.Streams.{Prints};
-ghost use Rattle.term_sessions.specs.Session.{CanRun, begun, fresh};
-ghost use Rattle.term_sessions.specs.Attach.{end_word, report_line, fault_line, printed_attach, IsAttached, Attaches};
+ghost use Rattle.tn_session.specs.Wire.{fresh};
+ghost use Rattle.term_sessions.specs.Session.{CanRun};
+ghost use Rattle.term_sessions.specs.Attach.{end_word, report_line, fault_line, printed_attach, IsAttached, Reports, Attaches};
 
 use crate::fault::fault_number;
+use crate::output::Output;
 use crate::session::flushed;
 use ds_keys::Key;
 use std::alloc::{AllocError, Global};
 use std::io::{Read, Write};
-use term_commands::{Answer, CommandError, Status, finish};
+use term_commands::{Answer, Status};
 use tn_session::{Device, Report, RunEnd, RunFault, Wire, terminal_run};
 
 /// A terminal's session over a wire: TN3270E with RESPONSES where the host asks for it, else classic TN3270.
@@ -64,8 +64,8 @@ fn push_fault(out: &mut String, why: RunFault) -> Result<(), AllocError>
 }
 
 /// What is printed of a session.
-fn session_answer(alloc: Global, session: Result<Report, RunFault>) -> Result<Answer, CommandError>
-    ensures { GivesOrFails answer_seen result (Ok (printed_attach session)) }
+fn session_answer(alloc: Global, session: Result<Report, RunFault>) -> Result<Answer, AllocError>
+    ensures { IfOk result (λ answer. answer_seen answer ≡ printed_attach session) }
 {
     let mut text = String::new(alloc);
     match session {
@@ -76,7 +76,6 @@ fn session_answer(alloc: Global, session: Result<Report, RunFault>) -> Result<An
                 status: Status::Done,
             })
         }
-        Err(RunFault::OutOfMemory) => Err(CommandError::OutOfMemory),
         Err(why) => {
             push_fault(&mut text, why)?;
             Ok(Answer {
@@ -90,13 +89,21 @@ fn session_answer(alloc: Global, session: Result<Report, RunFault>) -> Result<An
 fn print_session<W: Write>(
     alloc: Global,
     session: Result<Report, RunFault>,
-    writer: &mut W,
+    output: &mut Output<W>,
 ) -> Status
-    ensures { Prints (W.contents writer.old) (W.contents writer.new) result
-        (printed_attach session) }
+    ensures { Reports session output.old output.new result }
 {
-    let answer = session_answer(alloc, session);
-    finish(alloc, writer, answer)
+    if let Err(RunFault::OutOfMemory) = session {
+        return Status::NoMemory;
+    }
+    let Ok(Answer { text, status }) = session_answer(alloc, session) else {
+        return Status::NoMemory;
+    };
+    if output.print(alloc, text) {
+        status
+    } else {
+        Status::Failed
+    }
 }
 
 /// Runs a terminal of this device over a line to a host, with TN3270E and RESPONSES where the host asks for them, and presses
@@ -108,13 +115,13 @@ pub fn attach_on<L: Read + Write, W: Write>(
     line: L,
     device: Device,
     keys: &[Key],
-    writer: &mut W,
+    output: &mut Output<W>,
 ) -> (Status, Wire<L>)
-    ensures { Attaches device keys.now (begun (fresh (L.remaining line) (L.contents line)))
-        result.1 (W.contents writer.old) (W.contents writer.new) result.0 }
+    ensures { Attaches device keys.now (fresh (L.remaining line) (L.contents line)) result.1
+        output.old output.new result.0 }
 {
     let mut wire = Wire::new(line);
     let session = terminal_session(alloc, &mut wire, device, keys);
-    let status = print_session(alloc, session, writer);
+    let status = print_session(alloc, session, output);
     (status, wire)
 }

@@ -4,6 +4,7 @@
 
 mod attach;
 mod fault;
+mod output;
 mod screen;
 mod serve;
 mod session;
@@ -11,6 +12,7 @@ mod terminals;
 
 pub use attach::attach_on;
 pub use fault::fault_number;
+pub use output::Output;
 pub use screen::{Prepared, Screen, prepare_serve};
 pub use serve::serve_on;
 pub use terminals::{Terminals, Visits};

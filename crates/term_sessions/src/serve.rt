@@ -1,17 +1,18 @@
 //! The command `serve`, once it listens: terminals one after the other.
 
-ghost use Rattle.std.specs.Prelude.{◌≡◌, ◌<◌, map, IfOk};
+ghost use Rattle.std.specs.Prelude.{◌≡◌, map, IfOk};
 ghost use Rattle.term_commands.specs.Held.{records_held};
 ghost use Rattle.term_sessions.specs.Serve.{serving, ServesNext, ServesEach, Serves, WritesSession};
-ghost use Rattle.term_sessions.specs.Session.{is_failed, session_seen};
+ghost use Rattle.term_sessions.specs.Session.{is_failed, is_told, session_seen};
 
+use crate::output::Output;
 use crate::screen::Screen;
 use crate::session::{host_session, session_text};
 use crate::terminals::{Terminals, Visits};
 use scr_layout::Layout;
 use std::alloc::{AllocError, Global};
 use std::io::Write;
-use term_commands::{Answer, Status, failure, finish};
+use term_commands::{Status, failure};
 use tn_session::{HostOutcome, RunFault, Wire};
 
 /// The records as slices.
@@ -28,22 +29,21 @@ fn lent<'a>(alloc: Global, records: &'a [Vec<u8>]) -> Result<Vec<&'a [u8]>, Allo
 /// Writes the lines of the terminal of this number, and flushes. Else the status with which the command ends.
 fn write_session<W: Write>(
     alloc: Global,
-    writer: &mut W,
+    output: &mut Output<W>,
     layout: &Layout,
     number: u16,
     session: &Result<HostOutcome, RunFault>,
 ) -> Result<(), Status>
     ensures { WritesSession layout.now.entries number (session_seen session.now)
-        (W.contents writer.old) (W.contents writer.new) result }
+        output.old output.new result }
 {
-    let text = match session_text(alloc, layout, number, session) {
-        Ok(text) => text,
-        Err(_) => return Err(Status::NoMemory),
+    let Ok(text) = session_text(alloc, layout, number, session) else {
+        return Err(Status::NoMemory);
     };
-    let status = Status::Done;
-    match finish(alloc, writer, Ok(Answer { text, status })) {
-        Status::Done => Ok(()),
-        status => Err(status),
+    if output.print(alloc, text) {
+        Ok(())
+    } else {
+        Err(Status::Failed)
     }
 }
 
@@ -56,6 +56,16 @@ fn is_failed(session: &Result<HostOutcome, RunFault>) -> bool
     }
 }
 
+/// Whether a line tells of the session: none does of one that was out of memory.
+fn is_told(session: &Result<HostOutcome, RunFault>) -> bool
+    ensures { result ≡ is_told (session_seen session.now) }
+{
+    match session {
+        Err(RunFault::OutOfMemory) => false,
+        _ => true,
+    }
+}
+
 /// Serves the next terminal, and writes its lines: whether its session failed. Else the status with which the command ends.
 fn serve_next<T: Terminals, W: Write>(
     alloc: Global,
@@ -63,11 +73,11 @@ fn serve_next<T: Terminals, W: Write>(
     layout: &Layout,
     records: &[&[u8]],
     number: u16,
-    writer: &mut W,
+    output: &mut Output<W>,
 ) -> Result<bool, Status>
     ensures { ServesNext layout.now (map (λ bytes. bytes.now) records.now) number
-        (serving terminals.old (W.contents writer.old))
-        (serving terminals.new (W.contents writer.new)) result }
+        (serving terminals.old output.old)
+        (serving terminals.new output.new) result }
 {
     let line = match terminals.next_line() {
         Ok(line) => line,
@@ -76,10 +86,10 @@ fn serve_next<T: Terminals, W: Write>(
     let mut wire = Wire::new(line);
     let session = host_session(alloc, &mut wire, layout, records);
     terminals.end(wire);
-    if let Err(RunFault::OutOfMemory) = &session {
+    if !is_told(&session) {
         return Err(Status::NoMemory);
     }
-    match write_session(alloc, writer, layout, number, &session) {
+    match write_session(alloc, output, layout, number, &session) {
         Ok(()) => Ok(is_failed(&session)),
         Err(status) => Err(status),
     }
@@ -93,15 +103,15 @@ fn serve_each<T: Terminals, W: Write>(
     layout: &Layout,
     records: &[&[u8]],
     count: u16,
-    writer: &mut W,
+    output: &mut Output<W>,
 ) -> Result<bool, Status>
     ensures { ServesEach layout.now (map (λ bytes. bytes.now) records.now) count
-        (serving terminals.old (W.contents writer.old))
-        (serving terminals.new (W.contents writer.new)) result }
+        (serving terminals.old output.old)
+        (serving terminals.new output.new) result }
 {
     let mut failed = false;
     'terminals: for index in 0..count {
-        match serve_next(alloc, terminals, layout, records, index + 1, writer) {
+        match serve_next(alloc, terminals, layout, records, index + 1, output) {
             Ok(this_failed) => failed |= this_failed,
             Err(status) => return Err(status),
         }
@@ -114,16 +124,17 @@ fn serve_each<T: Terminals, W: Write>(
 /// of its answer; or `terminal K fault` and the fault's number. Its lines are written and flushed before the next terminal is
 /// waited for. The status is `Failed` where any session failed, a terminal can't be had, or a write failed, `NoMemory` where
 /// memory was refused; the last three end the command, and a front of the text was written.
+#[tactic(auto, using(crate::proofs::Serving::serves_early))]
 pub fn serve_on<T: Terminals, W: Write>(
     alloc: Global,
     terminals: &mut Visits<T>,
     screen: &Screen,
     count: u16,
-    writer: &mut W,
+    output: &mut Output<W>,
 ) -> Status
     ensures { Serves screen.now.layout (records_held screen.now.records.items) count
-        (serving terminals.old (W.contents writer.old))
-        (serving terminals.new (W.contents writer.new)) result }
+        (serving terminals.old output.old)
+        (serving terminals.new output.new) result }
 {
     let Ok(records) = lent(alloc, screen.records.as_slice()) else {
         return Status::NoMemory;
@@ -134,7 +145,7 @@ pub fn serve_on<T: Terminals, W: Write>(
         &screen.layout,
         records.as_slice(),
         count,
-        writer,
+        output,
     ) {
         Ok(false) => Status::Done,
         Ok(true) => Status::Failed,

@@ -14,13 +14,18 @@ use std::alloc::{AllocError, Global};
 use std::io::{Read, Write};
 use tn_session::{HostOutcome, RunFault, SessionFault, Wire, host_run};
 
-/// What a run gave, once the line has sent all that it took. Where it can't, after a run without a fault, the line's.
+/// What a run gave, once the line has sent all that it took, unless it stopped. Where it can't, after a run without a fault, the
+/// line's.
 pub(crate) fn flushed<L: Read + Write, T: Drop>(
     wire: &mut Wire<L>,
     ran: Result<T, RunFault>,
 ) -> Result<T, RunFault>
-    ensures { IsEnded ran wire.old result wire.new }
+    ensures ended { IsEnded ran wire.old result wire.new }
+    ensures line { wire.new.line ≡ wire.old.line }
 {
+    if wire.stop().is_some() {
+        return ran;
+    }
     match wire.flush() {
         Some(()) => ran,
         None => match ran {

@@ -1,8 +1,8 @@
 //! Where terminals come from, and what became of them.
 
-ghost use Rattle.std.specs.Prelude.{◌≡◌, List, [], ◌∷◌, ◌++◌, IfOk, None, Option};
-ghost use Rattle.tn_session.specs.Wire.{WireState};
-ghost use Rattle.term_sessions.specs.Session.{FreshLine, begun};
+ghost use Rattle.std.specs.Prelude.{◌≡◌, List, [], ◌∷◌, ◌++◌, IfErr, OnOk, None, Option};
+ghost use Rattle.std.specs.IoError.{error_kind};
+ghost use Rattle.tn_session.specs.Wire.{FreshLine};
 ghost use Rattle.term_sessions.specs.Serve.{HandsNext};
 
 use std::io;
@@ -30,12 +30,13 @@ pub trait Terminals {
         }) (lines self.old) result (lines self.new) };
 }
 
-/// Terminals, with what passed over the wire of each that has gone, for contracts to see. A wire comes from here and goes back
-/// here, so each session is over the line of its terminal.
+/// Terminals, with what passed over the wire of each that has gone, and the errors in place of those that couldn't be had, for
+/// contracts to see. A wire comes from here and goes back here, so each session is over the line of its terminal.
 #[derive(Drop)]
 pub struct Visits<T: Terminals> {
     terminals: T,
     gone: History<Wire<T::Line>>,
+    missing: History<io::ErrorKind>,
 }
 
 impl<T: Terminals> Model for Visits<T> {
@@ -46,6 +47,7 @@ impl<T: Terminals> Model for Visits<T> {
     ghost view = { λ v. record {
       coming = T.lines v.terminals;
       gone = v.gone.items;
+      missing = v.missing.items;
     } };
 }
 
@@ -57,11 +59,13 @@ impl<T: Terminals> Visits<T> {
         ensures { result ≡ record {
           coming = T.lines terminals;
           gone = [];
+          missing = [];
         } }
     {
         Visits {
             terminals,
             gone: History::new(),
+            missing: History::new(),
         }
     }
 
@@ -76,14 +80,22 @@ impl<T: Terminals> Visits<T> {
           held = T.Line.contents line;
         }) self.old.coming result self.new.coming }
         ensures gone { self.new.gone ≡ self.old.gone }
+        ensures had { OnOk result (self.new.missing ≡ self.old.missing) }
+        ensures missed { IfErr result (λ error.
+            self.new.missing ≡ self.old.missing ++ error_kind error ∷ []) }
     {
-        self.terminals.next_line()
+        let line = self.terminals.next_line();
+        if let Err(error) = &line {
+            self.missing = self.missing.and(&error.kind());
+        }
+        line
     }
 
     /// A terminal goes: its wire is dropped.
     pub(crate) fn end(&mut self, wire: Wire<T::Line>)
         ensures came { self.new.coming ≡ self.old.coming }
         ensures gone { self.new.gone ≡ self.old.gone ++ wire ∷ [] }
+        ensures missing { self.new.missing ≡ self.old.missing }
     {
         self.gone = self.gone.and(&wire);
     }

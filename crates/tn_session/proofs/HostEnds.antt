@@ -1,5 +1,5 @@
 -- How a line stands after a host's run.
-use Rattle.std.proofs.Common.{◌≡◌, ℕ, ◌+◌, ◌≤◌, Bool, List, None, Some, Ok, Err, sym, ◌∙◌, ap, subst, inl, inr, ⊎_elim, arith}
+use Rattle.std.proofs.Common.{◌≡◌, ℕ, ◌+◌, Bool, List, None, Some, Ok, Err, sym, ◌∙◌, ap, subst, inl, inr, ⊎_elim}
 use Rattle.std.specs.Prelude.{Result, ◌↔◌}
 use Rattle.scr_layout.specs.Layout.{Declaration}
 use Rattle.tn_cores.specs.declared.session.SessionFault.TheVariants as session
@@ -13,10 +13,11 @@ use Rattle.tn_session.specs.declared.turn.Finish.{Finish}
 use Rattle.tn_session.specs.declared.turn.Finish.TheVariants as finish
 use Rattle.tn_session.specs.HostLog.{HostRunning, host_start, host_act}
 use Rattle.tn_session.specs.HostRan.{Answers, HostRan}
-use Rattle.tn_session.specs.Ran.{Ran, cause_of}
+use Rattle.tn_session.specs.Ran.{Ran, ReadsInPieces, cause_of}
 use Rattle.tn_session.specs.TerminalRuns.{HasFailed}
 use Rattle.tn_session.specs.Wire.{WireState}
-use Rattle.tn_session.proofs.RunEnds.{line_cause, failed_line, line_failed, not_by_finish, few_reads}
+use Rattle.tn_session.proofs.RunEnds.{line_cause, failed_line, line_failed, not_by_finish, in_pieces}
+use Rattle.tn_session.proofs.RunSteps.{pieces_none}
 
 module _ (layout : Declaration) (records : List (List ℕ)) (enhanced responses : Bool) (old new : WireState) where
   abbrev first : List ℕ
@@ -47,14 +48,14 @@ module _ (layout : Declaration) (records : List (List ℕ)) (enhanced responses 
       same_fault : (w : RunFault) → ◌≡◌ {A = Result HostOutcome RunFault} (Err w) (Err (faults.Session session.LineFault)) → w ≡ faults.Session session.LineFault
       same_fault w e = cc
 
-  line_back : (done : Result Finish RunFault) (end : HostRunning) (result : Result HostOutcome RunFault) → Ran_so done end → Answers done end result
+  line_back : (done : Result Finish RunFault) (end : HostRunning) (result : Result HostOutcome RunFault) → old.stop ≡ None → Ran_so done end → Answers done end result
       → HasFailed new.stop → result ≡ Err (faults.Session session.LineFault)
-  line_back (Ok how) end result ran answer failed = not_by_finish host_act first start old new how end _ ran failed
-  line_back (Err why) end result ran is failed = is ∙ ap Err (line_cause why (line_failed host_act first start old new why (cause_of why) ran failed))
+  line_back (Ok how) end result goes ran answer failed = not_by_finish host_act first start old new how end _ ran failed
+  line_back (Err why) end result goes ran is failed = is ∙ ap Err (line_cause why (line_failed host_act first start old new why (cause_of why) goes ran failed))
 
   pub line_exactly : (result : Result HostOutcome RunFault) → old.stop ≡ None → HostRan layout records enhanced responses old result new
       → (result ≡ Err (faults.Session session.LineFault)) ↔ HasFailed new.stop
-  line_exactly result goes (inl (has, r)) = (line_run r.finished r.end result r.ran r.answer, line_back r.finished r.end result r.ran r.answer)
+  line_exactly result goes (inl (has, r)) = (line_run r.finished r.end result r.ran r.answer, line_back r.finished r.end result goes r.ran r.answer)
   line_exactly result goes (inr (has_none, is, same)) = (
     λ line. let clash : ◌≡◌ {A = Result HostOutcome RunFault} (Err (faults.Session session.NoDevice)) (Err (faults.Session session.LineFault)) = sym is ∙ line in absurd cc,
     stopped_none _ goes same,
@@ -95,6 +96,6 @@ module _ (layout : Declaration) (records : List (List ℕ)) (enhanced responses 
   many_reads result (inr (has_none, is, same)) many =
       let clash : ◌≡◌ {A = Result HostOutcome RunFault} (Err (faults.Session session.NoDevice)) (Err (faults.Session session.TooManyReads)) = sym is ∙ many in absurd cc
 
-  pub host_few : (result : Result HostOutcome RunFault) → HostRan layout records enhanced responses old result new → new.reads ≤ old.reads + 1000000
-  host_few result (inl (has, r)) = few_reads host_act first start old new r.finished r.end r.ran
-  host_few result (inr (has_none, is, same)) = let reads : new.reads ≡ old.reads = ap (λ (w : WireState). w.reads) same in omega (arith, reads)
+  pub host_pieces : (result : Result HostOutcome RunFault) → HostRan layout records enhanced responses old result new → ReadsInPieces old new
+  host_pieces result (inl (has, r)) = in_pieces host_act first start old new r.finished r.end r.ran
+  host_pieces result (inr (has_none, is, same)) = subst (ReadsInPieces old) (sym same) (pieces_none old)

@@ -1,5 +1,5 @@
 -- How a line stands after a run, by what the run answered.
-use Rattle.std.proofs.Common.{◌≡◌, ℕ, ◌+◌, ◌≤◌, List, Some, None, Ok, Err, refl, sym, ◌∙◌, inl, inr, ⊎_elim}
+use Rattle.std.proofs.Common.{◌≡◌, ℕ, ◌+◌, ◌≤◌, List, Some, None, Ok, Err, refl, sym, ◌∙◌, ap, subst, inl, inr, ⊎_elim, arith}
 use Rattle.std.specs.Prelude.{Result}
 use Rattle.tn_wire.specs.Stream.{Told}
 use Rattle.tn_cores.specs.declared.session.SessionFault.{SessionFault}
@@ -11,8 +11,9 @@ use Rattle.tn_session.specs.declared.turn.Finish.{Finish}
 use Rattle.tn_session.specs.declared.turn.Finish.TheVariants as finish
 use Rattle.tn_session.specs.Wire.{WireState}
 use Rattle.tn_session.specs.Runs.{Log}
-use Rattle.tn_session.specs.Ran.{Cause, of_stream, of_memory, of_line, of_reads, of_end, of_events, session_cause, cause_of, IsOpen, IsCutShort, RunFails, Ran}
+use Rattle.tn_session.specs.Ran.{Cause, of_stream, of_memory, of_line, of_reads, of_end, of_events, session_cause, cause_of, ReadsInPieces, IsOpen, IsCutShort, RunFails, Ran}
 use Rattle.tn_session.specs.TerminalRuns.{HasFailed}
+use Rattle.tn_session.proofs.RunSteps.{pieces_none}
 
 session_line : (why : SessionFault) → session_cause why ≡ of_line → faults.Session why ≡ faults.Session session.LineFault
 session_line session.LineFault is = refl
@@ -39,20 +40,21 @@ module _ {State : Type 0} (act : State → Told → Log State) (opening : List �
   pub failed_line : (why : RunFault) → RunFails act opening state old why new of_line → HasFailed new.stop
   failed_line why h =
       ⊎_elim (λ (open_end : (end : State) × IsOpen act opening state old end new (Some ReadFailed)). inl open_end.1.passed.stop_is)
-      (λ (cut : IsCutShort act opening state old new (Some WriteFailed)). inr cut.passed.stop_is) h
+      (λ (cut : IsCutShort act opening state old new). inr cut.passed.stop_is) h
 
   not_failed : (P : Type 0) → new.stop ≡ None → HasFailed new.stop → P
   not_failed P none h =
       ⊎_elim (λ (read : new.stop ≡ Some ReadFailed). let clash : None ≡ Some ReadFailed = sym none ∙ read in absurd cc)
       (λ (written : new.stop ≡ Some WriteFailed). let clash : None ≡ Some WriteFailed = sym none ∙ written in absurd cc) h
 
-  pub line_failed : (why : RunFault) (cause : Cause) → RunFails act opening state old why new cause → HasFailed new.stop → cause ≡ of_line
-  line_failed why of_line ran failed = refl
-  line_failed why (of_stream fault) (stream, due, log, passed) failed = not_failed (of_stream fault ≡ of_line) passed.stop_is failed
-  line_failed why of_memory cut failed = not_failed (of_memory ≡ of_line) cut.passed.stop_is failed
-  line_failed why of_reads (end, open_end, counted) failed = not_failed (of_reads ≡ of_line) open_end.passed.stop_is failed
-  line_failed why of_end ran failed = absurd ran
-  line_failed why of_events (stream, due, log, passed) failed = not_failed (of_events ≡ of_line) passed.stop_is failed
+  pub line_failed : (why : RunFault) (cause : Cause) → old.stop ≡ None → RunFails act opening state old why new cause → HasFailed new.stop → cause ≡ of_line
+  line_failed why of_line goes ran failed = refl
+  line_failed why (of_stream fault) goes (stream, due, log, passed) failed = not_failed (of_stream fault ≡ of_line) passed.stop_is failed
+  line_failed why of_memory goes (inl same) failed = not_failed (of_memory ≡ of_line) (ap (λ (w : WireState). w.stop) same ∙ goes) failed
+  line_failed why of_memory goes (inr (stream, due, lacks, passed)) failed = not_failed (of_memory ≡ of_line) passed.stop_is failed
+  line_failed why of_reads goes (end, open_end, counted) failed = not_failed (of_reads ≡ of_line) open_end.passed.stop_is failed
+  line_failed why of_end goes ran failed = absurd ran
+  line_failed why of_events goes (stream, due, log, passed) failed = not_failed (of_events ≡ of_line) passed.stop_is failed
 
   pub not_by_finish : (how : Finish) (end : State) (P : Type 0) → Ran act opening state old (Ok how) end new → HasFailed new.stop → P
   not_by_finish finish.Finished end P (stream, due, log, passed) failed = not_failed P passed.stop_is failed
@@ -60,17 +62,20 @@ module _ {State : Type 0} (act : State → Told → Log State) (opening : List �
       ⊎_elim (λ (read : new.stop ≡ Some ReadFailed). let clash : Some Ended ≡ Some ReadFailed = sym ran.passed.stop_is ∙ read in absurd cc)
       (λ (written : new.stop ≡ Some WriteFailed). let clash : Some Ended ≡ Some WriteFailed = sym ran.passed.stop_is ∙ written in absurd cc) failed
 
-  few_failed : (why : RunFault) (cause : Cause) → RunFails act opening state old why new cause → new.reads ≤ old.reads + 1000000
-  few_failed why of_line ran =
-      ⊎_elim (λ (open_end : (end : State) × IsOpen act opening state old end new (Some ReadFailed)). open_end.1.passed.few)
-      (λ (cut : IsCutShort act opening state old new (Some WriteFailed)). cut.passed.few) ran
-  few_failed why (of_stream fault) (stream, due, log, passed) = passed.few
-  few_failed why of_memory cut = cut.passed.few
-  few_failed why of_reads (end, open_end, counted) = open_end.passed.few
-  few_failed why of_end ran = absurd ran
-  few_failed why of_events (stream, due, log, passed) = passed.few
+  pieces_failed : (why : RunFault) (cause : Cause) → RunFails act opening state old why new cause → ReadsInPieces old new
+  pieces_failed why of_line (inl (end, open_end)) = open_end.passed.pieces
+  pieces_failed why of_line (inr cut) = cut.passed.pieces
+  pieces_failed why (of_stream fault) (stream, due, log, passed) = passed.pieces
+  pieces_failed why of_memory (inl same) = subst (ReadsInPieces old) (sym same) (pieces_none old)
+  pieces_failed why of_memory (inr (stream, due, lacks, passed)) = passed.pieces
+  pieces_failed why of_reads (end, open_end, counted) = open_end.passed.pieces
+  pieces_failed why of_end ran = absurd ran
+  pieces_failed why of_events (stream, due, log, passed) = passed.pieces
 
-  pub few_reads : (result : Result Finish RunFault) (end : State) → Ran act opening state old result end new → new.reads ≤ old.reads + 1000000
-  few_reads (Ok finish.Finished) end (stream, due, log, passed) = passed.few
-  few_reads (Ok finish.Closed) end ran = ran.passed.few
-  few_reads (Err why) end ran = few_failed why (cause_of why) ran
+  pub in_pieces : (result : Result Finish RunFault) (end : State) → Ran act opening state old result end new → ReadsInPieces old new
+  in_pieces (Ok finish.Finished) end (stream, due, log, passed) = passed.pieces
+  in_pieces (Ok finish.Closed) end ran = ran.passed.pieces
+  in_pieces (Err why) end ran = pieces_failed why (cause_of why) ran
+
+pub few_reads : (old new : WireState) → ReadsInPieces old new → new.reads ≤ old.reads + 1000000
+few_reads old new pieces = omega (arith, pieces.reads, pieces.few)

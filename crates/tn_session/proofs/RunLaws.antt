@@ -5,6 +5,7 @@ use Rattle.tn_wire.specs.declared.event.WireFault.{WireFault}
 use Rattle.tn_wire.specs.Stream.{Told, Tells, Faults}
 use Rattle.tn_wire.proofs.Parts.{tells_both, tells_rest, faults_both}
 use Rattle.tn_session.specs.declared.fault.RunFault.{RunFault}
+use Rattle.tn_session.specs.Ran.{MayAsk, LacksMemory}
 use Rattle.tn_session.specs.Runs.{Course, goes, finishes, fails, Log, going, finished, failed, log_on, log_of, GoesOn, EndsBy, EndsAtFault, IsPartDue}
 
 -- what is open tells nothing by itself
@@ -104,6 +105,21 @@ module _ {State : Type 0} (act : State → Told → Log State) where
             ∙ ap (λ z. (opening ++ due) ++ z) q.part ∙ sym (append_assoc (opening ++ due) sent q.lost);
       }
 
+  pub goes-lacks : (b x y due d c : List ℕ) (s m : State) → GoesOn act b s x due m c → LacksMemory act c m y d → LacksMemory act b s (x ++ y) (due ++ d)
+  goes-lacks b x y due d c s m p q = record {
+    used = x ++ q.used;
+    next = q.next;
+    left = q.left;
+    taken = q.taken;
+    event = q.event;
+    after = q.after;
+    more = q.more;
+    front = ap (λ z. x ++ z) q.front ∙ sym (append_assoc x q.used (q.taken ++ q.more));
+    log = goes-goes b x q.used due d c q.left s m q.next p q.log;
+    tells = q.tells;
+    asks = q.asks;
+  }
+
   -- ---- one event, or none
 
   pub quiet : (c x o : List ℕ) (m : State) → Tells (c ++ x) [] o → GoesOn act c m x [] m o
@@ -133,16 +149,20 @@ module _ {State : Type 0} (act : State → Told → Log State) where
   one_fails c x more o m why e a is =
       record { used = x; more = more; events = e ∷ []; left = o; front = refl; tells = a; log = one m e [] (fails why) is }
 
-  pub none_sent : (c bytes : List ℕ) (m : State) → Tells c [] c → IsPartDue act [] c m bytes []
-  none_sent c bytes m a = record {
+  pub one_lacks : (c x more o : List ℕ) (m : State) (e : Told) → Tells c [] c → Tells (c ++ x) (e ∷ []) o → MayAsk (act m e).course
+      → LacksMemory act c m (x ++ more) []
+  one_lacks c x more o m e opens a asks = record {
     used = [];
-    more = bytes;
-    events = [];
+    next = m;
     left = c;
-    lost = [];
+    taken = x;
+    event = e;
+    after = o;
+    more = more;
     front = refl;
-    tells = subst (λ z. Tells z [] c) (sym (append-nil c)) a;
-    part = refl;
+    log = nothing_yet c m opens;
+    tells = a;
+    asks = asks;
   }
 
   -- what one event makes due, or the beginning of it

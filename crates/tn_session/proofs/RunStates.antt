@@ -1,5 +1,5 @@
 -- What holds between two events of a piece, and between two reads of a run.
-use Rattle.std.proofs.Common.{◌≡◌, ℕ, ◌+◌, ◌*◌, ◌≤◌, List, [], ◌++◌, length, None}
+use Rattle.std.proofs.Common.{◌≡◌, ℕ, ◌+◌, ◌*◌, ◌≤◌, List, [], ◌++◌, length, replicate, None}
 use Rattle.tn_wire.specs.Deframer.{Held}
 use Rattle.tn_wire.specs.Stream.{Told}
 use Rattle.tn_session.specs.Wire.{WireState}
@@ -27,5 +27,9 @@ pub record RunSoFar {State : Type 0} (act : State → Told → Log State) (weigh
   pub sent : wire.sent ≡ old.sent ++ (opening ++ due)
   pub goes : wire.stop ≡ None
   pub counted : wire.reads ≡ old.reads + reads
+  pub rooms : wire.rooms ≡ old.rooms ++ replicate reads 4096
+  pub short : length wire.received ≤ length old.received + 4096 * reads
+  pub line : wire.line ≡ old.line
+  pub flushes : wire.flushes ≡ old.flushes
   pub fresh : held.fault ≡ None
   pub light : weight now ≤ weight first + 4096 * reads

@@ -1,5 +1,5 @@
 -- A terminal's run, from that of its machine.
-use Rattle.std.proofs.Common.{◌≡◌, Bool, false, List, [], None, Ok, Err, refl, sym, ◌∙◌, ap, subst}
+use Rattle.std.proofs.Common.{◌≡◌, Bool, false, List, [], Ok, Err, refl, sym, ◌∙◌, ap, subst}
 use Rattle.std.specs.Prelude.{Result}
 use Rattle.ds_codec.specs.Geometry.{Sizes}
 use Rattle.ds_screen.specs.Picture.{Picture}
@@ -53,10 +53,10 @@ module _ (device : Device) (enhanced responses : Bool) (keys : List Key) (old ne
       subst (λ z. RunFails terminal_act [] z old why new (cause_of why)) begun ran in
       subst (λ z. TerminalRan device enhanced responses keys old z new) (sym is) whole
 
-pub no_screen : (device : Device) (enhanced responses : Bool) (keys : List Key) (old : WireState) (result : Result Report RunFault) → old.stop ≡ None
+pub no_screen : (device : Device) (enhanced responses : Bool) (keys : List Key) (old : WireState) (result : Result Report RunFault)
     → result ≡ Err faults.OutOfMemory → TerminalRan device enhanced responses keys old result old
-no_screen device enhanced responses keys old result open_line is =
+no_screen device enhanced responses keys old result is =
     let start : TerminalRunning = terminal_start device enhanced responses keys in
     let ran : Ran terminal_act [] (terminal_start device enhanced responses keys) old (Err faults.OutOfMemory) start old =
-    no_memory terminal_act terminal_weight [] (terminal_start device enhanced responses keys) start old (Err faults.OutOfMemory) open_line refl in
+    no_memory terminal_act terminal_weight [] (terminal_start device enhanced responses keys) start old (Err faults.OutOfMemory) refl in
     subst (λ z. TerminalRan device enhanced responses keys old z old) (sym is) ran

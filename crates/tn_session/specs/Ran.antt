@@ -1,7 +1,9 @@
 -- What a run over a line did: what it read, what it sent, and how its log and the line then stand.
-use Rattle.std.specs.Prelude.{ℕ, ◌≡◌, ◌+◌, ◌≤◌, ◌⊎◌, List, [], ◌++◌, Option, Some, None, Result, Ok, Err}
+use Rattle.std.specs.Prelude.{ℕ, ◌≡◌, ◌+◌, ◌*◌, ◌≤◌, ◌⊎◌, List, [], ◌∷◌, ◌++◌, length, replicate, Option, Some, None, Result, Ok, Err}
+use Rattle.scr_check.specs.declared.binding.BindError.{BindError}
+use Rattle.scr_check.specs.declared.binding.BindError.TheVariants.{Refused, OutOfMemory as BindMemory}
 use Rattle.tn_wire.specs.declared.event.WireFault.{WireFault}
-use Rattle.tn_wire.specs.Stream.{Told}
+use Rattle.tn_wire.specs.Stream.{Told, Tells}
 use Rattle.tn_cores.specs.declared.session.SessionFault.{SessionFault}
 use Rattle.tn_cores.specs.declared.session.SessionFault.TheVariants.{LineFault, TooManyReads, Closed}
 use Rattle.tn_session.specs.declared.stop.Stop.{Stop}
@@ -12,8 +14,8 @@ use Rattle.tn_session.specs.declared.turn.Turn.{Turn}
 use Rattle.tn_session.specs.declared.turn.Turn.TheVariants as turns
 use Rattle.tn_session.specs.declared.turn.Finish.{Finish}
 use Rattle.tn_session.specs.declared.turn.Finish.TheVariants as finish
-use Rattle.tn_session.specs.Wire.{WireState}
-use Rattle.tn_session.specs.Runs.{Log, finishes, fails, going, finished, failed, GoesOn, EndsBy, EndsAtFault, IsPartDue}
+use Rattle.tn_session.specs.Wire.{WireState, IsWrite}
+use Rattle.tn_session.specs.Runs.{Log, Course, finishes, fails, going, finished, failed, GoesOn, EndsBy, EndsAtFault, IsPartDue}
 
 -- ---- faults, by what is at fault
 
@@ -38,6 +40,11 @@ cause_of faults.OutOfMemory = of_memory
 cause_of (faults.Session why) = session_cause why
 cause_of _ = of_events
 
+-- why the fields of an answer aren't bound, as a run tells it
+abbrev pub bind_fault : BindError → RunFault
+bind_fault (Refused why) = faults.Bind why
+bind_fault BindMemory = faults.OutOfMemory
+
 -- a core's refusal of an event
 abbrev pub IsOfEvents : Cause → Type 0
 IsOfEvents of_events = Unit {0}
@@ -45,9 +52,16 @@ IsOfEvents _ = ⊥
 
 -- ---- one event
 
--- a fault of an event is the log's; or memory was refused
+-- An event may ask for memory where it isn't at fault: what is found at fault asks for none. Only the fields of an answer
+-- take memory before the one that is at fault is found.
+abbrev pub MayAsk : {State : Type 0} → Course State → Type 0
+MayAsk (fails (faults.Bind why)) = Unit {0}
+MayAsk (fails why) = ⊥
+MayAsk course = Unit {0}
+
+-- a fault of an event is the log's; or memory was refused to an event that may ask for it
 abbrev pub FailsAs : {State : Type 0} → Log State → RunFault → Cause → Type 0
-FailsAs log why of_memory = Unit {0}
+FailsAs log why of_memory = MayAsk log.course
 FailsAs log why of_events = log ≡ failed why
 FailsAs log why _ = ⊥
 
@@ -61,8 +75,7 @@ Does log (Err why) new due = FailsAs log why (cause_of why)
 
 pub record SentOn (old new : WireState) (bytes : List ℕ) (stop : Option Stop) : Type 0 where
   pub sent : new.sent ≡ old.sent ++ bytes
-  pub received : new.received ≡ old.received
-  pub reads : new.reads ≡ old.reads
+  pub rest : IsWrite old new
   pub stop_is : new.stop ≡ stop
 
 -- a front of the bytes went out, and then a write failed
@@ -78,7 +91,7 @@ Sends old bytes (Err why) new = (why ≡ faults.Session LineFault) × SentPart o
 
 -- an event was taken, and what is due was sent
 abbrev pub EventFails : {State : Type 0} → Log State → WireState → RunFault → WireState → Cause → Type 0
-EventFails log old why new of_memory = SentOn old new [] None
+EventFails log old why new of_memory = MayAsk log.course × SentOn old new [] None
 EventFails log old why new of_line = SentPart old new log.due
 EventFails log old why new of_events = (log ≡ failed why) × SentOn old new [] None
 EventFails log old why new _ = ⊥
@@ -90,10 +103,24 @@ TakesEvent log old (Err why) end new = EventFails log old why new (cause_of why)
 
 -- ---- a piece of the stream, where so much of it was open before
 
+-- Memory was refused to an event that may ask for it, after bytes at which this is due and the run goes on.
+pub record LacksMemory {State : Type 0} (act : State → Told → Log State) (before : List ℕ) (state : State) (bytes due : List ℕ) : Type 0 where
+  pub used : List ℕ
+  pub next : State
+  pub left : List ℕ
+  pub taken : List ℕ
+  pub event : Told
+  pub after : List ℕ
+  pub more : List ℕ
+  pub front : bytes ≡ used ++ (taken ++ more)
+  pub log : GoesOn act before state used due next left
+  pub tells : Tells (left ++ taken) (event ∷ []) after
+  pub asks : MayAsk (act next event).course
+
 abbrev pub PieceFails : {State : Type 0} → (State → Told → Log State) → List ℕ → State → List ℕ → WireState → RunFault → WireState → Cause → Type 0
 PieceFails act before state piece old why new (of_stream fault) =
     (due : List ℕ) × EndsAtFault act before state piece due fault × SentOn old new due None
-PieceFails act before state piece old why new of_memory = (sent : List ℕ) × IsPartDue act [] before state piece sent × SentOn old new sent None
+PieceFails act before state piece old why new of_memory = (due : List ℕ) × LacksMemory act before state piece due × SentOn old new due None
 PieceFails act before state piece old why new of_line =
     (sent : List ℕ) × IsPartDue act [] before state piece sent × SentOn old new sent (Some WriteFailed)
 PieceFails act before state piece old why new of_events =
@@ -114,11 +141,22 @@ abbrev pub stopped_by : Option Stop → Result Finish RunFault
 stopped_by (Some Ended) = Ok finish.Closed
 stopped_by _ = Err (faults.Session LineFault)
 
--- so much was read and sent, by at most a million reads, and so the line then stands
+-- What a run does to a wire, whatever passes: it reads at most a million times, each time with room for 4,096 bytes, so that
+-- at most so many a read are received; the line is the one that was handed over, and isn't flushed.
+pub record ReadsInPieces (old new : WireState) : Type 0 where
+  pub count : ℕ
+  pub few : count ≤ 1000000
+  pub reads : new.reads ≡ old.reads + count
+  pub rooms : new.rooms ≡ old.rooms ++ replicate count 4096
+  pub bytes : length new.received ≤ length old.received + 4096 * count
+  pub line : new.line ≡ old.line
+  pub flushes : new.flushes ≡ old.flushes
+
+-- so much was read and sent, and so the line then stands
 pub record PassedOver (old new : WireState) (stream sent : List ℕ) (stop : Option Stop) : Type 0 where
   pub received : new.received ≡ old.received ++ stream
   pub sent_is : new.sent ≡ old.sent ++ sent
-  pub few : new.reads ≤ old.reads + 1000000
+  pub pieces : ReadsInPieces old new
   pub stop_is : new.stop ≡ stop
 
 -- the log goes on at the end of what was read, and all that is due was sent
@@ -129,19 +167,21 @@ pub record IsOpen {State : Type 0} (act : State → Told → Log State) (opening
   pub log : GoesOn act [] state stream due end left
   pub passed : PassedOver old new stream (opening ++ due) stop
 
--- a front of what is due was sent
-pub record IsCutShort {State : Type 0} (act : State → Told → Log State) (opening : List ℕ) (state : State) (old new : WireState) (stop : Option Stop) : Type 0 where
+-- a front of what is due was sent, and then a write failed
+pub record IsCutShort {State : Type 0} (act : State → Told → Log State) (opening : List ℕ) (state : State) (old new : WireState) : Type 0 where
   pub stream : List ℕ
   pub sent : List ℕ
   pub part : IsPartDue act opening [] state stream sent
-  pub passed : PassedOver old new stream sent stop
+  pub passed : PassedOver old new stream sent (Some WriteFailed)
 
 abbrev pub RunFails : {State : Type 0} → (State → Told → Log State) → List ℕ → State → WireState → RunFault → WireState → Cause → Type 0
 RunFails act opening state old why new (of_stream fault) =
     (stream : List ℕ) × (due : List ℕ) × EndsAtFault act [] state stream due fault × PassedOver old new stream (opening ++ due) None
-RunFails act opening state old why new of_memory = IsCutShort act opening state old new None
+-- at the start, with nothing sent, or at an event
+RunFails act opening state old why new of_memory =
+    (new ≡ old) ⊎ ((stream : List ℕ) × (due : List ℕ) × LacksMemory act [] state stream due × PassedOver old new stream (opening ++ due) None)
 RunFails {State = State} act opening state old why new of_line =
-    ((end : State) × IsOpen act opening state old end new (Some ReadFailed)) ⊎ IsCutShort act opening state old new (Some WriteFailed)
+    ((end : State) × IsOpen act opening state old end new (Some ReadFailed)) ⊎ IsCutShort act opening state old new
 RunFails {State = State} act opening state old why new of_reads =
     (end : State) × IsOpen act opening state old end new None × (new.reads ≡ old.reads + 1000000)
 RunFails act opening state old why new of_end = ⊥

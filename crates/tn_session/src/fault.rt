@@ -1,6 +1,6 @@
 //! Why a run over a line ends without a report or an outcome.
 
-use scr_check::BindFault;
+use scr_check::{BindError, BindFault};
 use std::alloc::{AllocError, AllocFailed};
 use thiserror::Error;
 use tn_cores::SessionFault;
@@ -48,5 +48,19 @@ impl<T: Drop> From<AllocFailed<T>> for RunFault {
 
     fn from(_e: AllocFailed<T>) -> RunFault {
         RunFault::OutOfMemory
+    }
+}
+
+impl From<BindError> for RunFault {
+    ghost use Rattle.std.specs.Prelude.{◌≡◌};
+    ghost use Rattle.tn_session.specs.Ran.{bind_fault};
+
+    ghost from_gives = { λ error e. e ≡ bind_fault error };
+
+    fn from(error: BindError) -> RunFault {
+        match error {
+            BindError::Refused(fault) => RunFault::Bind(fault),
+            BindError::OutOfMemory => RunFault::OutOfMemory,
+        }
     }
 }

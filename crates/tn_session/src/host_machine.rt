@@ -9,7 +9,7 @@ use crate::outcome::{HostOutcome, owned_fields};
 use crate::sent::{next_sequence, push_data};
 use crate::turn::Turn;
 use ds_inbound::Inbound;
-use scr_check::{BindError, bind};
+use scr_check::bind;
 use scr_layout::Layout;
 use std::alloc::{AllocError, Global};
 use std::marker::Model;
@@ -144,11 +144,7 @@ impl<'a> HostMachine<'a> {
             Ok(answer) => answer,
             Err(refused) => return Err(RunFault::Inbound(refused)),
         };
-        let bound = match bind(alloc, self.layout, &answer) {
-            Ok(bound) => bound,
-            Err(BindError::Refused(fault)) => return Err(RunFault::Bind(fault)),
-            Err(BindError::OutOfMemory) => return Err(RunFault::OutOfMemory),
-        };
+        let bound = bind(alloc, self.layout, &answer)?;
         let fields = owned_fields(alloc, bound.as_slice())?;
         self.outcome = Some(HostOutcome {
             agreed,

@@ -3,6 +3,7 @@
 ghost use Rattle.std.specs.Prelude.{◌≡◌, ◌+◌, ◌≤◌, ◌↔◌, map, None, Some, Err};
 ghost use Rattle.tn_cores.specs.declared.session.SessionFault.TheVariants as session;
 ghost use Rattle.tn_session.specs.declared.stop.Stop.TheVariants.{Ended};
+ghost use Rattle.tn_session.specs.Ran.{ReadsInPieces};
 ghost use Rattle.tn_session.specs.HostRan.{HostRan};
 ghost use Rattle.tn_session.specs.TerminalRuns.{HasFailed};
 
@@ -47,6 +48,8 @@ pub fn host_run<L: Read + Write>(
     ensures many { result ≡ Err (RunFault.Session session.TooManyReads)
         → wire.new.reads ≡ wire.old.reads + 1000000 }
     ensures few { wire.new.reads ≤ wire.old.reads + 1000000 }
+    // Each read has room for 4,096 bytes.
+    ensures pieces { ReadsInPieces wire.old wire.new }
 {
     run_host(alloc, wire, records, layout, enhanced, responses)
 }

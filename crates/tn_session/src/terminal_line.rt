@@ -4,6 +4,7 @@ ghost use Rattle.std.specs.Prelude.{◌≡◌, ◌+◌, ◌≤◌, ◌↔◌, No
 ghost use Rattle.tn_cores.specs.declared.session.SessionFault.TheVariants as session;
 ghost use Rattle.tn_session.specs.declared.report.RunEnd.TheVariants as ends;
 ghost use Rattle.tn_session.specs.declared.stop.Stop.TheVariants.{Ended};
+ghost use Rattle.tn_session.specs.Ran.{ReadsInPieces};
 ghost use Rattle.tn_session.specs.TerminalRuns.{TerminalRan, HasFailed};
 
 use crate::fault::RunFault;
@@ -50,6 +51,8 @@ pub fn terminal_run<L: Read + Write>(
     ensures many { result ≡ Err (RunFault.Session session.TooManyReads)
         → wire.new.reads ≡ wire.old.reads + 1000000 }
     ensures few { wire.new.reads ≤ wire.old.reads + 1000000 }
+    // Each read has room for 4,096 bytes.
+    ensures pieces { ReadsInPieces wire.old wire.new }
 {
     run_terminal(alloc, wire, device, enhanced, responses, keys)
 }

@@ -9,8 +9,9 @@ use crate::stop::Stop;
 use std::io::{Read, Write};
 use std::marker::Model;
 
-/// A line that bytes are read from and written to, up to its first failure or its end. Callers' contracts see all that was
-/// received and sent, how many reads there were, and why the line stopped.
+/// A line that bytes are read from and written to, up to its first failure or its end. Callers' contracts see the line as it
+/// was handed over, all that was received and sent, how many reads there were and for how many bytes each had room, how often
+/// the line was flushed, and why it stopped.
 #[derive(Drop)]
 pub struct Wire<L: Read + Write> {
     line: L,
@@ -18,17 +19,24 @@ pub struct Wire<L: Read + Write> {
     stop: Option<Stop>,
     received: History<u8>,
     sent: History<u8>,
+    made_of: History<L>,
+    rooms: History<usize>,
+    flushes: History<()>,
 }
 
 impl<L: Read + Write> Model for Wire<L> {
-    ghost use Rattle.tn_session.specs.Wire.{WireState};
+    ghost use Rattle.std.specs.Prelude.{length, map};
+    ghost use Rattle.tn_session.specs.Wire.{WireState, fresh, first_line};
 
     ghost Value = { WireState };
 
     ghost view = { λ w. record {
+      line = first_line (map (λ (line : L). fresh (L.remaining line) (L.contents line)) w.made_of.items);
       received = w.received.items;
       sent = w.sent.items;
       reads = w.reads;
+      rooms = w.rooms.items;
+      flushes = length w.flushes.items;
       stop = w.stop;
       left = L.remaining w.line;
       held = L.contents w.line;
@@ -36,26 +44,22 @@ impl<L: Read + Write> Model for Wire<L> {
 }
 
 impl<L: Read + Write> Wire<L> {
-    ghost use Rattle.std.specs.Prelude.{[]};
-    ghost use Rattle.tn_session.specs.Wire.{WireState};
+    ghost use Rattle.tn_session.specs.Wire.{begun, fresh};
 
     /// A line over which nothing has passed.
     pub fn new(line: L) -> Wire<L>
-        ensures { result ≡ record {
-          received = [];
-          sent = [];
-          reads = 0;
-          stop = None;
-          left = L.remaining line;
-          held = L.contents line;
-        } }
+        ensures { result ≡ begun (fresh (L.remaining line) (L.contents line)) }
     {
+        let made_of = History::new().and(&line);
         Wire {
             line,
             reads: 0,
             stop: None,
             received: History::new(),
             sent: History::new(),
+            made_of,
+            rooms: History::new(),
+            flushes: History::new(),
         }
     }
 
@@ -66,9 +70,10 @@ impl<L: Read + Write> Wire<L> {
         requires counts { self.old.reads < u64.MAX }
         requires room { 0 < length buffer.old }
         ensures gave { Gave self.old buffer.new result self.new }
-        ensures rest { IsRead self.old self.new }
+        ensures rest { IsRead (length buffer.old) self.old self.new }
     {
         self.reads += 1;
+        self.rooms = self.rooms.and(&buffer.len());
         match self.line.read(buffer) {
             Ok(0) => {
                 self.stop = Some(Stop::Ended);
@@ -107,9 +112,11 @@ impl<L: Read + Write> Wire<L> {
 
     /// Asks the line to send all that it took. None where it can't; then the line has stopped.
     pub fn flush(&mut self) -> Option<()>
+        requires goes { self.old.stop ≡ None }
         ensures flushed { Flushed self.old result self.new }
         ensures rest { IsFlush self.old self.new }
     {
+        self.flushes = self.flushes.and(&());
         match self.line.flush() {
             Ok(()) => Some(()),
             Err(_error) => {

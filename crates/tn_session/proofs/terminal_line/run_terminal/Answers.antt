@@ -6,7 +6,7 @@ use Rattle.tn_session.proofs.terminal_line.run_terminal.Goals as goal
 pub returns-in_err-terminal : goal.returns-in_err-terminal
 returns-in_err-terminal g c =
     let p = err_from_is_err_and c.from_residual.result c.from_residual.ensures.1 in
-    no_screen c.args.device c.args.enhanced c.args.responses c.args.keys.now c.args.wire.now c.from_residual.result c.requires.goes (p.1 ∙ ap Err p.2)
+    no_screen c.args.device c.args.enhanced c.args.responses c.args.keys.now c.args.wire.now c.from_residual.result (p.1 ∙ ap Err p.2)
 
 pub returns-in_err-finish : goal.returns-in_err-finish
 returns-in_err-finish g c =

@@ -1,0 +1,67 @@
+//! Where the lines of sessions are printed.
+
+ghost use Rattle.std.specs.Prelude.{◌≡◌};
+ghost use Rattle.std.specs.String.{string_bytes};
+ghost use Rattle.term_sessions.specs.Printing.{IsPrinted};
+
+use std::alloc::Global;
+use std::io::Write;
+use std::marker::Model;
+use term_commands::{Answer, Status, finish};
+use tn_session::History;
+
+/// A writer, with how many texts it couldn't take, for contracts to see. It is written to here alone, so where a command says
+/// that a write failed, one did.
+#[derive(Drop)]
+pub struct Output<W: Write> {
+    writer: W,
+    failures: History<()>,
+}
+
+impl<W: Write> Model for Output<W> {
+    ghost use Rattle.std.specs.Prelude.{length};
+    ghost use Rattle.term_sessions.specs.Printing.{Printing};
+
+    ghost Value = { Printing };
+
+    ghost view = { λ o. record {
+      written = W.contents o.writer;
+      failures = length o.failures.items;
+    } };
+}
+
+impl<W: Write> Output<W> {
+    ghost use Rattle.term_sessions.specs.Printing.{printing};
+
+    /// A writer to which nothing was printed.
+    pub fn new(writer: W) -> Output<W>
+        ensures { result ≡ printing (W.contents writer) 0 }
+    {
+        Output {
+            writer,
+            failures: History::new(),
+        }
+    }
+
+    /// Writes a text and flushes: whether every byte was taken.
+    pub(crate) fn print(&mut self, alloc: Global, text: String) -> bool
+        ensures { IsPrinted self.old self.new (string_bytes text) result }
+    {
+        let status = Status::Done;
+        match finish(alloc, &mut self.writer, Ok(Answer { text, status })) {
+            Status::Done => true,
+            _ => {
+                self.failures = self.failures.and(&());
+                false
+            }
+        }
+    }
+
+    /// The writer itself.
+    pub fn into_writer(self) -> W
+        ensures { W.contents result ≡ self.written }
+    {
+        let Output { writer, .. } = self;
+        writer
+    }
+}
