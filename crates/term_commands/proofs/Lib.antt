@@ -3,12 +3,14 @@ pub mod Prefixes
 pub mod Pieces
 mod ShownLines
 pub mod Parts
+pub mod Ahead
 pub mod NextLines
 pub mod Taking
 pub mod InTurn
 pub mod Joined
 pub mod Backward
 pub mod Answered
+pub mod Causes
 pub mod Checked
 pub mod CheckedLines
 pub mod PlainLines

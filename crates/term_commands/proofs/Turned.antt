@@ -30,7 +30,9 @@ use Rattle.term_commands.specs.declared.output.answer.Answer.{Answer}
 use Rattle.term_commands.specs.Held.{answer_seen}
 use Rattle.term_commands.specs.Printed.{Printed, printed_or_fault}
 use Rattle.term_commands.specs.Streams.{Finishes, Prints}
+use Rattle.term_commands.specs.Causes.{ToldBy, FinishesBy, EndsBy}
 use Rattle.term_commands.proofs.Answered.{finishes}
+use Rattle.term_commands.proofs.Causes.{ends_known}
 
 -- ---- the first of another geometry
 pub other_on : (geometry : Sizes) (layouts : List Declaration) (index turn : ℕ) (d : Declaration) → index < length layouts → is_geometry (get_or layouts index d).geometry geometry ≡ true
@@ -157,6 +159,10 @@ none_known remaining readers texts none known = none_is texts (ap (all_remaining
     none_is : (texts : List (List ℕ)) → Some [] ≡ Some texts → texts ≡ []
     none_is texts e = cc
 
+pub known_none : {L : Type 0} (remaining : L → Option (List ℕ)) (readers : List L) (index : ℕ) (texts : List (List ℕ)) → length readers ≤ index
+    → all_remaining remaining (drop index readers) ≡ Some texts → texts ≡ []
+known_none remaining readers index texts past known = none_known remaining (drop index readers) texts (drop_all index readers past) known
+
 known_is : {A : Type 0} (o : Option A) (x : A) (P : A → Type 0) → o ≡ Some x → IfSome o P → P x
 known_is None x P e has = absurd cc
 known_is (Some y) x P e has = let same : y ≡ x = cc in subst P same has
@@ -243,3 +249,9 @@ pub layout_end : (texts : List (Bor (List ℕ))) (index : ℕ) (before : List De
     → layouts_from (length before) before (map (λ t. t.now) (drop index texts)) ≡ all → all ≡ Ok before
 layout_end texts index before all past so_far =
     sym so_far ∙ layouts_end (length before) before (map (λ t. t.now) (drop index texts)) (ap (map (λ t. t.now)) (drop_all index texts past))
+
+pub talk_ends : (due : List (List ℕ) → List ℕ → Result Printed Fault) (known : Option (List (List ℕ))) (other : Option (List ℕ)) (a a' b b' : ℕ) (answer : Result Answer CommandError) (status : Status)
+    → IfSome known (λ texts. IfSome other (λ input. GivesOrFails answer_seen answer (due texts input))) → ToldBy a a' answer → FinishesBy b b' answer status
+    → IfSome known (λ texts. IfSome other (λ input. EndsBy (a + b) (a' + b') (printed_or_fault (due texts input)).status status))
+talk_ends due None other a a' b b' answer status is told writes = tt
+talk_ends due (Some texts) other a a' b b' answer status is told writes = ends_known (due texts) other a a' b b' answer status is told writes

@@ -20,6 +20,7 @@ pub mod Back
 pub mod Backward
 pub mod Held
 pub mod Streams
+pub mod Causes
 pub mod Pieces
 pub mod Says
 pub mod SaysDrafts

@@ -1,5 +1,6 @@
 //! The inputs of the commands, judged line by line: a layout once it is read, records and keys as they are read.
 
+pub mod ahead;
 pub mod bytes;
 pub mod checking;
 pub mod drafts;

@@ -9,12 +9,14 @@ mod law;
 mod output;
 mod shown;
 mod status;
+mod streams;
 
 pub use commands::{
     check_answer, check_texts, convert_back_text, convert_text, lent, press_texts, run_check,
     run_convert, run_convert_back, run_press, run_show, run_talk, show_text, talk_texts,
 };
 pub use fault::{CommandError, Fault, failure};
+pub use input::ahead::ReadAhead;
 pub use input::bytes::{read_text, within_limit};
 pub use input::keys::{Keys, read_keys};
 pub use input::layout::{layout_in, read_layout};
@@ -27,3 +29,4 @@ pub use output::demo::{Demos, demo_sends, demo_terminal};
 pub use output::screen::{lock_word, push_field_lines, push_screen_line};
 pub use shown::shown_on;
 pub use status::Status;
+pub use streams::{GivesBytes, TakesBytes, Watched};

@@ -1,6 +1,6 @@
 //! The command `convert --back`: order lines as records.
 
-ghost use Rattle.std.specs.Prelude.{◌≡◌, ◌≤◌, IfOk, IfSome, Ok, None, length};
+ghost use Rattle.std.specs.Prelude.{◌≡◌, ◌≤◌, ◌+◌, IfOk, IfSome, Ok, None, length};
 ghost use Rattle.std.specs.List.{flat_map};
 ghost use Rattle.ds_codec.specs.Geometry.{Sizes, IsGood, cells_of};
 ghost use Rattle.order_lines.specs.Draft.{begun as no_order};
@@ -13,6 +13,7 @@ ghost use Rattle.term_commands.specs.Lines.{lines_in};
 ghost use Rattle.term_commands.specs.Taking.{taken, taken_in};
 ghost use Rattle.term_commands.specs.Back.{size_after, back, printed_back};
 ghost use Rattle.term_commands.specs.Backward.{nothing, with_line, ended, begun, added, after_line, take_line, text_after, answer_to};
+ghost use Rattle.term_commands.specs.Causes.{EndsBy, ToldBy};
 ghost use Rattle.term_commands.specs.Streams.{Prints};
 
 use crate::commands::backward::{Backward, SizeInUse, WrittenRecord};
@@ -26,10 +27,10 @@ use crate::input::sizes::{SizeLine, usual_geometry};
 use crate::output::answer::{Answer, finish};
 use crate::output::pieces::{PrintsLines, lines_of, write_lines};
 use crate::status::Status;
+use crate::streams::{GivesBytes, TakesBytes};
 use ds_codec::{Command, Geometry, Size};
 use order_lines::{Draft, OwnedOrder, Told, push_bytes};
 use std::alloc::{AllocError, Global};
-use std::io::{Read, Write};
 
 /// The size for which a record is written: an erase sets it, for this record and those after it.
 fn size_after(size: SizeInUse, command: Command) -> SizeInUse
@@ -249,21 +250,26 @@ fn written(alloc: Global, lines: &[u8]) -> Result<Answer, CommandError>
 }
 
 /// What the lines of an input add, or their first fault.
-fn read_added<R: Read>(
+fn read_added<R: GivesBytes>(
     alloc: Global,
     reader: &mut R,
     none: Backward,
 ) -> Result<Backward, CommandError>
-    ensures { IfSome (R.remaining reader.old) (λ input. GivesOrFails backward_seen result
+    ensures added { IfSome (R.remaining reader.old) (λ input. GivesOrFails backward_seen result
         (taken_in take_line (backward_seen none) input)) }
+    ensures cause { ToldBy (R.failures reader.old) (R.failures reader.new) result }
 {
     read_lines(alloc, reader, none)
 }
 
 /// The records that the order lines of an input tell, as it is read.
-fn read_held<R: Read>(alloc: Global, reader: &mut R) -> Result<Vec<WrittenRecord>, CommandError>
-    ensures { IfSome (R.remaining reader.old)
+fn read_held<R: GivesBytes>(
+    alloc: Global,
+    reader: &mut R,
+) -> Result<Vec<WrittenRecord>, CommandError>
+    ensures held { IfSome (R.remaining reader.old)
         (λ input. GivesOrFails written_printed result (answer_to input)) }
+    ensures cause { ToldBy (R.failures reader.old) (R.failures reader.new) result }
 {
     all_written(read_added(alloc, reader, nothing(alloc))?)
 }
@@ -279,9 +285,10 @@ pub fn convert_back_text(alloc: Global, lines: &[u8]) -> Result<Answer, CommandE
     written(alloc, lines)
 }
 
-fn back<R: Read>(alloc: Global, reader: &mut R) -> Result<Vec<WrittenRecord>, CommandError>
-    ensures { IfSome (R.remaining reader.old)
+fn back<R: GivesBytes>(alloc: Global, reader: &mut R) -> Result<Vec<WrittenRecord>, CommandError>
+    ensures records { IfSome (R.remaining reader.old)
         (λ input. GivesOrFails written_printed result (back input)) }
+    ensures cause { ToldBy (R.failures reader.old) (R.failures reader.new) result }
 {
     read_held(alloc, reader)
 }
@@ -291,9 +298,16 @@ fn back<R: Read>(alloc: Global, reader: &mut R) -> Result<Vec<WrittenRecord>, Co
 /// after Erase/Write and until another erase, for the alternate size after Erase/Write Alternate, at
 /// first for the default size. At most 16,777,216 bytes and 1,000 records; the statuses are those of
 /// `run_show`.
-pub fn run_convert_back<R: Read, W: Write>(alloc: Global, reader: &mut R, writer: &mut W) -> Status
-    ensures { IfSome (R.remaining reader.old) (λ input.
+pub fn run_convert_back<R: GivesBytes, W: TakesBytes>(
+    alloc: Global,
+    reader: &mut R,
+    writer: &mut W,
+) -> Status
+    ensures prints { IfSome (R.remaining reader.old) (λ input.
         Prints (W.contents writer.old) (W.contents writer.new) result (printed_back input)) }
+    ensures cause { IfSome (R.remaining reader.old) (λ input.
+        EndsBy (R.failures reader.old + W.failures writer.old)
+        (R.failures reader.new + W.failures writer.new) (printed_back input).status result) }
 {
     match back(alloc, reader) {
         Ok(records) => write_lines(alloc, writer, &records),

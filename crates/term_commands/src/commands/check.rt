@@ -1,12 +1,13 @@
 //! The command `check`: what stands against records and a layout.
 
-ghost use Rattle.std.specs.Prelude.{◌≡◌, if◌then◌else◌, map, IfErr, IfOk, IfSome};
+ghost use Rattle.std.specs.Prelude.{◌≡◌, ◌+◌, if◌then◌else◌, map, IfErr, IfOk, IfSome};
 ghost use Rattle.std.specs.List.{flat_map, list_any};
 ghost use Rattle.scr_check.specs.Seen.{findings_in, TellsSome};
 ghost use Rattle.term_commands.specs.declared.status.Status.TheVariants.{Findings};
 ghost use Rattle.term_commands.specs.declared.output.demo.Demos.TheVariants.{Omitted, Printed};
 ghost use Rattle.term_commands.specs.Check.{printed_verdict, printed_answer, check_records, check, printed_check};
 ghost use Rattle.term_commands.specs.DemoLines.{finding_lines, has_keys, asked, shown_on};
+ghost use Rattle.term_commands.specs.Causes.{EndsBy, ToldBy};
 ghost use Rattle.term_commands.specs.Fault.{Gives, GivesOrFails};
 ghost use Rattle.term_commands.specs.Held.{answer_seen, records_held};
 ghost use Rattle.term_commands.specs.LayoutText.{layout_in};
@@ -22,10 +23,10 @@ use crate::output::answer::{Answer, finish};
 use crate::output::demo::{Demos, demo_terminal};
 use crate::output::findings::push_findings;
 use crate::status::Status;
+use crate::streams::{GivesBytes, TakesBytes};
 use scr_check::{Finding, Verdict, check};
 use scr_layout::Layout;
 use std::alloc::{AllocError, Global};
-use std::io::{Read, Write};
 
 /// The records as slices.
 ///
@@ -156,40 +157,43 @@ fn check_records(
 }
 
 /// What `check` answers without demos to a layout and to records that are read, each of which is checked as its line comes.
-fn check_read_lines<R: Read>(
+fn check_read_lines<R: GivesBytes>(
     alloc: Global,
     layout: &Layout,
     reader: &mut R,
 ) -> Result<Answer, CommandError>
-    ensures { IfSome (R.remaining reader.old)
+    ensures answer { IfSome (R.remaining reader.old)
         (λ input. GivesOrFails answer_seen result (check_records Omitted layout.now input)) }
+    ensures cause { ToldBy (R.failures reader.old) (R.failures reader.new) result }
 {
     let verdict = read_verdict(alloc, layout, reader)?;
     Ok(verdict_text(alloc, layout, &[], Demos::Omitted, &verdict)?)
 }
 
 /// The same with demos, from a screen that the records are shown on once they are held.
-fn check_read_held<R: Read>(
+fn check_read_held<R: GivesBytes>(
     alloc: Global,
     layout: &Layout,
     reader: &mut R,
 ) -> Result<Answer, CommandError>
-    ensures { IfSome (R.remaining reader.old)
+    ensures answer { IfSome (R.remaining reader.old)
         (λ input. GivesOrFails answer_seen result (check_records Printed layout.now input)) }
+    ensures cause { ToldBy (R.failures reader.old) (R.failures reader.new) result }
 {
     let told = read_records(alloc, reader, SizeLine::Refused)?;
     Ok(check_answer(alloc, layout, told.records.as_slice(), Demos::Printed)?)
 }
 
 /// What `check` answers to a layout and to records that are read.
-fn check_read_records<R: Read>(
+fn check_read_records<R: GivesBytes>(
     alloc: Global,
     layout: &Layout,
     reader: &mut R,
     demos: Demos,
 ) -> Result<Answer, CommandError>
-    ensures { IfSome (R.remaining reader.old)
+    ensures answer { IfSome (R.remaining reader.old)
         (λ input. GivesOrFails answer_seen result (check_records demos layout.now input)) }
+    ensures cause { ToldBy (R.failures reader.old) (R.failures reader.new) result }
 {
     match demos {
         Demos::Omitted => check_read_lines(alloc, layout, reader),
@@ -214,7 +218,7 @@ pub fn check_texts(
     check_records(alloc, &layout, records, demos)
 }
 
-fn check_read<L: Read, R: Read>(
+fn check_read<L: GivesBytes, R: GivesBytes>(
     alloc: Global,
     layout: &mut L,
     reader: &mut R,
@@ -222,6 +226,8 @@ fn check_read<L: Read, R: Read>(
 ) -> Result<Answer, CommandError>
     ensures answer { IfSome (L.remaining layout.old) (λ text. IfSome (R.remaining
         reader.old) (λ input. GivesOrFails answer_seen result (check demos text input))) }
+    ensures cause { ToldBy (L.failures layout.old + R.failures reader.old)
+        (L.failures layout.new + R.failures reader.new) result }
     ensures unread { IfSome (L.remaining layout.old) (λ text. IfErr (layout_in text) (λ fault.
         reader.new ≡ reader.old)) }
 {
@@ -235,7 +241,7 @@ fn check_read<L: Read, R: Read>(
 /// layout's, so a line of sizes is bad. At most 16,777,216 bytes of either, 1,000 records of 32,768
 /// bytes. After a read or a write that failed the status is `Failed`, where memory was refused
 /// `NoMemory`, and a front of the text was written.
-pub fn run_check<L: Read, R: Read, W: Write>(
+pub fn run_check<L: GivesBytes, R: GivesBytes, W: TakesBytes>(
     alloc: Global,
     layout: &mut L,
     reader: &mut R,
@@ -245,6 +251,11 @@ pub fn run_check<L: Read, R: Read, W: Write>(
     ensures prints { IfSome (L.remaining layout.old) (λ text. IfSome (R.remaining
         reader.old) (λ input.
         Prints (W.contents writer.old) (W.contents writer.new) result (printed_check demos text input))) }
+    ensures cause { IfSome (L.remaining layout.old) (λ text. IfSome (R.remaining
+        reader.old) (λ input.
+        EndsBy (L.failures layout.old + R.failures reader.old + W.failures writer.old)
+        (L.failures layout.new + R.failures reader.new + W.failures writer.new)
+        (printed_check demos text input).status result)) }
     ensures unread { IfSome (L.remaining layout.old) (λ text. IfErr (layout_in text) (λ fault.
         reader.new ≡ reader.old)) }
 {

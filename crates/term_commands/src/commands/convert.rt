@@ -1,9 +1,10 @@
 //! The command `convert`: records as order lines.
 
-ghost use Rattle.std.specs.Prelude.{IfSome};
+ghost use Rattle.std.specs.Prelude.{◌+◌, IfSome};
 ghost use Rattle.std.specs.List.{flat_map};
 ghost use Rattle.ds_codec.specs.Reading.{read_of};
 ghost use Rattle.order_lines.specs.Print.{record_lines};
+ghost use Rattle.term_commands.specs.Causes.{EndsBy};
 ghost use Rattle.term_commands.specs.Fault.{Gives};
 ghost use Rattle.term_commands.specs.Held.{answer_seen, records_held};
 ghost use Rattle.term_commands.specs.Convert.{lines_or_refusal, lines_printed, lines_told, convert, printed_convert};
@@ -16,11 +17,11 @@ use crate::input::sizes::SizeLine;
 use crate::output::answer::{Answer, finish};
 use crate::output::pieces::{PrintsLines, lines_of, write_lines};
 use crate::status::Status;
+use crate::streams::{GivesBytes, TakesBytes};
 use ds_codec::{Mode, Record};
 use ds_terminal::Refused;
 use order_lines::push_record;
 use std::alloc::{AllocError, Global};
-use std::io::{Read, Write};
 
 impl<'a> PrintsLines for Record<'a> {
     ghost lines = { record_lines };
@@ -76,9 +77,11 @@ pub fn convert_text(alloc: Global, records: &[u8]) -> Result<Answer, CommandErro
 }
 
 /// Writes the lines of records, or the first of them that is refused.
-fn write_told<W: Write>(alloc: Global, writer: &mut W, told: &Records) -> Status
-    ensures { Prints (W.contents writer.old) (W.contents writer.new) result
+fn write_told<W: TakesBytes>(alloc: Global, writer: &mut W, told: &Records) -> Status
+    ensures prints { Prints (W.contents writer.old) (W.contents writer.new) result
         (printed_or_fault (lines_told told.now.geometry.mode (records_held told.now.records.items))) }
+    ensures cause { EndsBy (W.failures writer.old) (W.failures writer.new)
+        (printed_or_fault (lines_told told.now.geometry.mode (records_held told.now.records.items))).status result }
 {
     match read_each(alloc, told.geometry.mode(), told.records.as_slice()) {
         Ok(all) => write_lines(alloc, writer, &all),
@@ -89,9 +92,16 @@ fn write_told<W: Write>(alloc: Global, writer: &mut W, told: &Records) -> Status
 /// Reads records in hexadecimal, one a line, and prints each as lines: its command, its orders, and an
 /// empty line; or the first fault of the lines, or the first record that is refused. The limits and
 /// the statuses are those of `run_show`.
-pub fn run_convert<R: Read, W: Write>(alloc: Global, reader: &mut R, writer: &mut W) -> Status
-    ensures { IfSome (R.remaining reader.old) (λ input.
+pub fn run_convert<R: GivesBytes, W: TakesBytes>(
+    alloc: Global,
+    reader: &mut R,
+    writer: &mut W,
+) -> Status
+    ensures prints { IfSome (R.remaining reader.old) (λ input.
         Prints (W.contents writer.old) (W.contents writer.new) result (printed_convert input)) }
+    ensures cause { IfSome (R.remaining reader.old) (λ input.
+        EndsBy (R.failures reader.old + W.failures writer.old)
+        (R.failures reader.new + W.failures writer.new) (printed_convert input).status result) }
 {
     match read_records(alloc, reader, SizeLine::Allowed) {
         Ok(told) => write_told(alloc, writer, &told),

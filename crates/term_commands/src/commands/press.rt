@@ -1,11 +1,12 @@
 //! The command `press`: the operator's keys on a screen, with the bytes that go out.
 
-ghost use Rattle.std.specs.Prelude.{◌≡◌, ◌++◌, IfErr, IfSome, OnOk, codes};
+ghost use Rattle.std.specs.Prelude.{◌≡◌, ◌+◌, ◌++◌, IfErr, IfSome, OnOk, codes};
 ghost use Rattle.std.specs.Fmt.{decimal};
 ghost use Rattle.std.specs.String.{string_bytes};
 ghost use Rattle.ds_terminal.specs.Seen.{key_reply_seen};
 ghost use Rattle.ds_terminal.specs.Terminal.{pressed};
 ghost use Rattle.term_commands.specs.declared.input.sizes.SizeLine.TheVariants.{Allowed};
+ghost use Rattle.term_commands.specs.Causes.{EndsBy, ToldBy};
 ghost use Rattle.term_commands.specs.Fault.{Gives, GivesOrFails};
 ghost use Rattle.term_commands.specs.Held.{answer_seen, records_seen, keys_seen};
 ghost use Rattle.term_commands.specs.Press.{reply_line, turn_line, pressed_text, press_told, press_keys, press, printed_press};
@@ -20,12 +21,12 @@ use crate::output::answer::{Answer, finish};
 use crate::output::bytes::push_sent;
 use crate::shown::shown_on;
 use crate::status::Status;
+use crate::streams::{GivesBytes, TakesBytes};
 use ds_keys::Key;
 use ds_screen::PlaneCells;
 use ds_terminal::{KeyReply, Terminal};
 use itoa::Buffer;
 use std::alloc::{AllocError, Global};
-use std::io::{Read, Write};
 
 /// A line of a word and the cursor.
 fn push_cursor(out: &mut String, word: &str, cursor: u32) -> Result<(), AllocError>
@@ -104,13 +105,14 @@ fn press_keys(alloc: Global, told: &Records, keys: &[u8]) -> Result<Answer, Comm
 }
 
 /// What `press` answers to records and to keys that are read.
-fn press_read_keys<K: Read>(
+fn press_read_keys<K: GivesBytes>(
     alloc: Global,
     told: &Records,
     keys: &mut K,
 ) -> Result<Answer, CommandError>
-    ensures { IfSome (K.remaining keys.old)
+    ensures answer { IfSome (K.remaining keys.old)
         (λ lines. GivesOrFails answer_seen result (press_keys (records_seen told.now) lines)) }
+    ensures cause { ToldBy (K.failures keys.old) (K.failures keys.new) result }
 {
     let named = read_keys(alloc, keys)?;
     press_told(alloc, told, &named)
@@ -128,13 +130,15 @@ pub fn press_texts(alloc: Global, records: &[u8], keys: &[u8]) -> Result<Answer,
     press_keys(alloc, &told, keys)
 }
 
-fn press_read<R: Read, K: Read>(
+fn press_read<R: GivesBytes, K: GivesBytes>(
     alloc: Global,
     reader: &mut R,
     keys: &mut K,
 ) -> Result<Answer, CommandError>
     ensures answer { IfSome (R.remaining reader.old) (λ input. IfSome (K.remaining
         keys.old) (λ lines. GivesOrFails answer_seen result (press input lines))) }
+    ensures cause { ToldBy (R.failures reader.old + K.failures keys.old)
+        (R.failures reader.new + K.failures keys.new) result }
     ensures unread { IfSome (R.remaining reader.old) (λ input.
         IfErr (records_in Allowed input) (λ fault. keys.new ≡ keys.old)) }
 {
@@ -148,7 +152,7 @@ fn press_read<R: Read, K: Read>(
 /// is refused. Keys aren't read where the records' lines have a fault. At most 16,777,216 bytes of
 /// either, 1,000 records of 32,768 bytes, 100,000 keys. After a read or a write that failed the status
 /// is `Failed`, where memory was refused `NoMemory`, and a front of the text was written.
-pub fn run_press<R: Read, K: Read, W: Write>(
+pub fn run_press<R: GivesBytes, K: GivesBytes, W: TakesBytes>(
     alloc: Global,
     reader: &mut R,
     keys: &mut K,
@@ -157,6 +161,11 @@ pub fn run_press<R: Read, K: Read, W: Write>(
     ensures prints { IfSome (R.remaining reader.old) (λ input. IfSome (K.remaining
         keys.old) (λ lines.
         Prints (W.contents writer.old) (W.contents writer.new) result (printed_press input lines))) }
+    ensures cause { IfSome (R.remaining reader.old) (λ input. IfSome (K.remaining
+        keys.old) (λ lines.
+        EndsBy (R.failures reader.old + K.failures keys.old + W.failures writer.old)
+        (R.failures reader.new + K.failures keys.new + W.failures writer.new)
+        (printed_press input lines).status result)) }
     ensures unread { IfSome (R.remaining reader.old) (λ input.
         IfErr (records_in Allowed input) (λ fault. keys.new ≡ keys.old)) }
 {

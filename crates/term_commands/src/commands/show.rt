@@ -1,6 +1,7 @@
 //! The command `show`: the screen that records leave.
 
-ghost use Rattle.std.specs.Prelude.{◌≡◌, IfSome};
+ghost use Rattle.std.specs.Prelude.{◌≡◌, ◌+◌, IfSome};
+ghost use Rattle.term_commands.specs.Causes.{EndsBy, ToldBy};
 ghost use Rattle.term_commands.specs.Fault.{Gives, GivesOrFails};
 ghost use Rattle.term_commands.specs.Held.{answer_seen, records_seen};
 ghost use Rattle.term_commands.specs.Show.{show_told, show, printed_show};
@@ -13,8 +14,8 @@ use crate::output::answer::{Answer, finish};
 use crate::output::screen::screen_text;
 use crate::shown::shown_on;
 use crate::status::Status;
+use crate::streams::{GivesBytes, TakesBytes};
 use std::alloc::Global;
-use std::io::{Read, Write};
 
 /// What `show` answers to records.
 fn show_told(alloc: Global, told: &Records) -> Result<Answer, CommandError>
@@ -39,9 +40,10 @@ pub fn show_text(alloc: Global, records: &[u8]) -> Result<Answer, CommandError>
     show_told(alloc, &told)
 }
 
-fn show<R: Read>(alloc: Global, reader: &mut R) -> Result<Answer, CommandError>
-    ensures { IfSome (R.remaining reader.old)
+fn show<R: GivesBytes>(alloc: Global, reader: &mut R) -> Result<Answer, CommandError>
+    ensures answer { IfSome (R.remaining reader.old)
         (λ input. GivesOrFails answer_seen result (show input)) }
+    ensures cause { ToldBy (R.failures reader.old) (R.failures reader.new) result }
 {
     let told = read_records(alloc, reader, SizeLine::Allowed)?;
     show_told(alloc, &told)
@@ -51,9 +53,16 @@ fn show<R: Read>(alloc: Global, reader: &mut R) -> Result<Answer, CommandError>
 /// the first fault of the lines, or the first record that is refused. At most 16,777,216 bytes, 1,000
 /// records of 32,768 bytes. After a read or a write that failed the status is `Failed`, where memory
 /// was refused `NoMemory`, and a front of the text was written.
-pub fn run_show<R: Read, W: Write>(alloc: Global, reader: &mut R, writer: &mut W) -> Status
-    ensures { IfSome (R.remaining reader.old) (λ input.
+pub fn run_show<R: GivesBytes, W: TakesBytes>(
+    alloc: Global,
+    reader: &mut R,
+    writer: &mut W,
+) -> Status
+    ensures prints { IfSome (R.remaining reader.old) (λ input.
         Prints (W.contents writer.old) (W.contents writer.new) result (printed_show input)) }
+    ensures cause { IfSome (R.remaining reader.old) (λ input.
+        EndsBy (R.failures reader.old + W.failures writer.old)
+        (R.failures reader.new + W.failures writer.new) (printed_show input).status result) }
 {
     let answer = show(alloc, reader);
     finish(alloc, writer, answer)

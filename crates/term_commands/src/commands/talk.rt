@@ -1,10 +1,11 @@
 //! The command `talk`: what stands against the turns of a dialogue.
 
-ghost use Rattle.std.specs.Prelude.{◌≡◌, ◌++◌, codes, length, map, None, Some, IfErr, IfOk, IfSome, OnOk, slice_get};
+ghost use Rattle.std.specs.Prelude.{◌≡◌, ◌+◌, ◌++◌, codes, length, map, None, Some, IfErr, IfOk, IfSome, OnOk, slice_get};
 ghost use Rattle.std.specs.Fmt.{decimal};
 ghost use Rattle.std.specs.String.{string_bytes};
 ghost use Rattle.scr_check.specs.TalkSeen.{rounds_of, stop_in};
 ghost use Rattle.scr_check.specs.Walk.{walk_of};
+ghost use Rattle.term_commands.specs.Causes.{EndsBy, ToldBy, all_failures};
 ghost use Rattle.term_commands.specs.Fault.{Gives, GivesOrFails};
 ghost use Rattle.term_commands.specs.Held.{answer_seen};
 ghost use Rattle.term_commands.specs.Printed.{printed};
@@ -20,11 +21,11 @@ use crate::input::turns::{read_turns, turns_in};
 use crate::output::answer::{Answer, finish};
 use crate::output::findings::push_findings;
 use crate::status::Status;
+use crate::streams::{GivesBytes, TakesBytes};
 use ds_codec::{Geometry, Mode, Size};
 use scr_check::{Finding, TalkVerdict, Turn, check_talk};
 use scr_layout::Layout;
 use std::alloc::{AllocError, Global};
-use std::io::{Read, Write};
 
 fn sizes_equal(a: Size, b: Size) -> bool
     ensures { result ≡ sizes_equal a b }
@@ -220,14 +221,15 @@ fn talk_turns(alloc: Global, layouts: &[Layout], records: &[u8]) -> Result<Answe
 }
 
 /// What `talk` answers to layouts of one geometry and to turns that are read.
-fn talk_read_turns<R: Read>(
+fn talk_read_turns<R: GivesBytes>(
     alloc: Global,
     layouts: &[Layout],
     reader: &mut R,
 ) -> Result<Answer, CommandError>
     requires { first_other layouts.now ≡ None }
-    ensures { IfSome (R.remaining reader.old)
+    ensures answer { IfSome (R.remaining reader.old)
         (λ input. GivesOrFails answer_seen result (talk_turns layouts.now input)) }
+    ensures cause { ToldBy (R.failures reader.old) (R.failures reader.new) result }
 {
     let turns = read_turns(alloc, reader)?;
     talk_told(alloc, layouts, turns.as_slice())
@@ -247,15 +249,17 @@ pub fn talk_texts(alloc: Global, layouts: &[&[u8]], records: &[u8]) -> Result<An
     talk_turns(alloc, layouts.as_slice(), records)
 }
 
-fn talk_read<L: Read + Drop, R: Read>(
+fn talk_read<L: GivesBytes, R: GivesBytes>(
     alloc: Global,
-    layouts: Vec<L>,
+    layouts: &mut [L],
     reader: &mut R,
 ) -> Result<Answer, CommandError>
-    ensures answer { IfSome (all_remaining L.remaining layouts.items)
+    ensures answer { IfSome (all_remaining L.remaining layouts.old)
         (λ texts. IfSome (R.remaining reader.old)
         (λ input. GivesOrFails answer_seen result (talk texts input))) }
-    ensures unread { IfSome (all_remaining L.remaining layouts.items)
+    ensures cause { ToldBy (all_failures L.failures layouts.old + R.failures reader.old)
+        (all_failures L.failures layouts.new + R.failures reader.new) result }
+    ensures unread { IfSome (all_remaining L.remaining layouts.old)
         (λ texts. IfErr (layouts_from 0 [] texts) (λ fault. reader.new ≡ reader.old)) }
 {
     let layouts = read_layouts(alloc, layouts)?;
@@ -271,16 +275,21 @@ fn talk_read<L: Read + Drop, R: Read>(
 /// bad. The limits are those of `run_check`, for the records of all turns together. After a read or a write
 /// that failed the status is `Failed`, where memory was refused `NoMemory`, and a front of the text was
 /// written.
-pub fn run_talk<L: Read + Drop, R: Read, W: Write>(
+pub fn run_talk<L: GivesBytes, R: GivesBytes, W: TakesBytes>(
     alloc: Global,
-    layouts: Vec<L>,
+    layouts: &mut [L],
     reader: &mut R,
     writer: &mut W,
 ) -> Status
-    ensures prints { IfSome (all_remaining L.remaining layouts.items)
+    ensures prints { IfSome (all_remaining L.remaining layouts.old)
         (λ texts. IfSome (R.remaining reader.old) (λ input.
         Prints (W.contents writer.old) (W.contents writer.new) result (printed_talk texts input))) }
-    ensures unread { IfSome (all_remaining L.remaining layouts.items)
+    ensures cause { IfSome (all_remaining L.remaining layouts.old)
+        (λ texts. IfSome (R.remaining reader.old) (λ input.
+        EndsBy (all_failures L.failures layouts.old + R.failures reader.old + W.failures writer.old)
+        (all_failures L.failures layouts.new + R.failures reader.new + W.failures writer.new)
+        (printed_talk texts input).status result)) }
+    ensures unread { IfSome (all_remaining L.remaining layouts.old)
         (λ texts. IfErr (layouts_from 0 [] texts) (λ fault. reader.new ≡ reader.old)) }
 {
     let answer = talk_read(alloc, layouts, reader);

@@ -3,6 +3,7 @@
 ghost use Rattle.std.specs.Prelude.{◌≡◌, ◌≤◌, IfOk, IfSome, length};
 ghost use Rattle.scr_check.specs.Seen.{findings_in, TellsSome};
 ghost use Rattle.term_commands.specs.declared.input.sizes.SizeLine.TheVariants.{Refused};
+ghost use Rattle.term_commands.specs.Causes.{ToldBy};
 ghost use Rattle.term_commands.specs.Check.{records_beside, findings_beside, findings_told};
 ghost use Rattle.term_commands.specs.Fault.{Gives, GivesOrFails};
 ghost use Rattle.term_commands.specs.Held.{line_seen, records_checked, checking_seen};
@@ -16,10 +17,10 @@ use crate::input::lines::{TakesLines, take_lines};
 use crate::input::reading::read_lines;
 use crate::input::records::{Line, MOST_RECORD_BYTES, MOST_RECORDS, line_told};
 use crate::input::sizes::SizeLine;
+use crate::streams::GivesBytes;
 use scr_check::{Checker, Verdict};
 use scr_layout::Layout;
 use std::alloc::{AllocError, Global};
-use std::io::Read;
 
 /// A checker that takes the records of lines. A line of sizes is refused: the sizes are the layout's.
 #[derive(Drop)]
@@ -89,13 +90,14 @@ fn take_added<'l>(
 }
 
 /// The records that the lines of an input add, or their first fault.
-fn read_added<'l, R: Read>(
+fn read_added<'l, R: GivesBytes>(
     alloc: Global,
     reader: &mut R,
     none: Checking<'l>,
 ) -> Result<Checking<'l>, CommandError>
-    ensures { IfSome (R.remaining reader.old) (λ input. GivesOrFails checking_seen result
+    ensures added { IfSome (R.remaining reader.old) (λ input. GivesOrFails checking_seen result
         (taken_in (beside take_record) (checking_seen none.entry) input)) }
+    ensures cause { ToldBy (R.failures reader.old) (R.failures reader.new) result }
 {
     read_lines(alloc, reader, none)
 }
@@ -134,25 +136,27 @@ pub(crate) fn verdict_in(
 }
 
 /// The records of an input, or the first fault of its lines.
-fn read_checked<'l, R: Read>(
+fn read_checked<'l, R: GivesBytes>(
     alloc: Global,
     layout: &'l Layout,
     reader: &mut R,
 ) -> Result<Checking<'l>, CommandError>
-    ensures { IfSome (R.remaining reader.old)
+    ensures checked { IfSome (R.remaining reader.old)
         (λ input. GivesOrFails checking_seen result (records_beside layout.now input)) }
+    ensures cause { ToldBy (R.failures reader.old) (R.failures reader.new) result }
 {
     read_added(alloc, reader, no_record(alloc, layout)?)
 }
 
 /// The verdict on the records of an input and the layout that was kept beside them.
-fn read_verdict_beside<R: Read>(
+fn read_verdict_beside<R: GivesBytes>(
     alloc: Global,
     layout: &Layout,
     reader: &mut R,
 ) -> Result<Verdict, CommandError>
     ensures listed { IfSome (R.remaining reader.old)
         (λ input. GivesOrFails findings_in result (findings_beside layout.now input)) }
+    ensures cause { ToldBy (R.failures reader.old) (R.failures reader.new) result }
     ensures some { IfOk result TellsSome }
 {
     let told = read_checked(alloc, layout, reader)?;
@@ -160,13 +164,14 @@ fn read_verdict_beside<R: Read>(
 }
 
 /// The verdict on the records of an input, each of which is checked as its line comes, or the first fault of the lines.
-pub(crate) fn read_verdict<R: Read>(
+pub(crate) fn read_verdict<R: GivesBytes>(
     alloc: Global,
     layout: &Layout,
     reader: &mut R,
 ) -> Result<Verdict, CommandError>
     ensures listed { IfSome (R.remaining reader.old)
         (λ input. GivesOrFails findings_in result (findings_told layout.now input)) }
+    ensures cause { ToldBy (R.failures reader.old) (R.failures reader.new) result }
     ensures some { IfOk result TellsSome }
 {
     read_verdict_beside(alloc, layout, reader)

@@ -2,6 +2,7 @@
 
 ghost use Rattle.std.specs.Prelude.{◌≡◌, IfSome, ◌≤◌, length};
 ghost use Rattle.ds_keys.specs.Lines.{key_of};
+ghost use Rattle.term_commands.specs.Causes.{ToldBy};
 ghost use Rattle.term_commands.specs.Fault.{Gives, GivesOrFails};
 ghost use Rattle.term_commands.specs.Keys.{key_or_bad, key_told, after_key_line, take_key, keys_in};
 ghost use Rattle.term_commands.specs.Lines.{lines_in};
@@ -12,9 +13,9 @@ use crate::fault::{CommandError, Fault};
 use crate::input::bytes::{at_most, within_limit};
 use crate::input::lines::{TakesLines, is_ignored, take_lines, text_of};
 use crate::input::reading::read_lines;
+use crate::streams::GivesBytes;
 use ds_keys::{Key, key_of_line};
 use std::alloc::Global;
-use std::io::Read;
 
 /// The most keys of an input.
 const MOST_KEYS: usize = 100_000;
@@ -97,17 +98,23 @@ pub fn keys_in(alloc: Global, text: &[u8]) -> Result<Keys, CommandError>
 }
 
 /// The keys that the lines of an input add, or their first fault.
-fn read_added<R: Read>(alloc: Global, reader: &mut R, none: Keys) -> Result<Keys, CommandError>
-    ensures { IfSome (R.remaining reader.old) (λ input. GivesOrFails keys_seen result
+fn read_added<R: GivesBytes>(
+    alloc: Global,
+    reader: &mut R,
+    none: Keys,
+) -> Result<Keys, CommandError>
+    ensures added { IfSome (R.remaining reader.old) (λ input. GivesOrFails keys_seen result
         (taken_in take_key (keys_seen none) input)) }
+    ensures cause { ToldBy (R.failures reader.old) (R.failures reader.new) result }
 {
     read_lines(alloc, reader, none)
 }
 
 /// The keys of an input, or the first fault of its lines.
-pub fn read_keys<R: Read>(alloc: Global, reader: &mut R) -> Result<Keys, CommandError>
-    ensures { IfSome (R.remaining reader.old)
+pub fn read_keys<R: GivesBytes>(alloc: Global, reader: &mut R) -> Result<Keys, CommandError>
+    ensures keys { IfSome (R.remaining reader.old)
         (λ input. GivesOrFails keys_seen result (keys_in input)) }
+    ensures cause { ToldBy (R.failures reader.old) (R.failures reader.new) result }
 {
     let none = Keys {
         keys: Vec::new(alloc),

@@ -2,15 +2,16 @@
 
 ghost use Rattle.std.specs.Prelude.{◌≡◌, IfSome};
 ghost use Rattle.scr_layout.specs.Results.{Gives as GivesLayout};
+ghost use Rattle.term_commands.specs.Causes.{ToldBy};
 ghost use Rattle.term_commands.specs.Fault.{Gives, GivesOrFails};
 ghost use Rattle.term_commands.specs.LayoutText.{layout_said, layout_in};
 
 use crate::fault::CommandError;
 use crate::input::bytes::{read_text, within_limit};
 use crate::input::lines::text_of;
+use crate::streams::GivesBytes;
 use scr_layout::{Layout, LayoutError, LayoutFault, Why};
 use std::alloc::Global;
-use std::io::Read;
 
 /// The layout that bytes say.
 fn layout_of(alloc: Global, bytes: &[u8]) -> Result<Layout, LayoutError>
@@ -35,9 +36,10 @@ pub fn layout_in(alloc: Global, text: &[u8]) -> Result<Layout, CommandError>
 }
 
 /// The layout of an input, or its first fault.
-pub fn read_layout<R: Read>(alloc: Global, reader: &mut R) -> Result<Layout, CommandError>
-    ensures { IfSome (R.remaining reader.old)
+pub fn read_layout<R: GivesBytes>(alloc: Global, reader: &mut R) -> Result<Layout, CommandError>
+    ensures layout { IfSome (R.remaining reader.old)
         (λ input. GivesOrFails (λ l. l) result (layout_in input)) }
+    ensures cause { ToldBy (R.failures reader.old) (R.failures reader.new) result }
 {
     let text = read_text(alloc, reader)?;
     layout_in(alloc, text.as_slice())

@@ -1,7 +1,8 @@
 //! Lines, numbered from 1 and taken in turn.
 
-ghost use Rattle.std.specs.Prelude.{◌≡◌, ◌≤◌, ◌+◌, ℕ, List, IfOk, MatchOption, Result, length, true, false};
+ghost use Rattle.std.specs.Prelude.{◌≡◌, ◌≤◌, ◌+◌, ℕ, List, IfErr, IfOk, MatchOption, Result, length, true, false};
 ghost use Rattle.std.specs.Str.{is_utf8};
+ghost use Rattle.term_commands.specs.Causes.{ReadsNothing};
 ghost use Rattle.term_commands.specs.Lines.{lines_in, is_ignored};
 ghost use Rattle.term_commands.specs.Taking.{TakesAll, TakesNumbered, told_then};
 ghost use Rattle.term_commands.specs.declared.fault.CommandError.{CommandError};
@@ -19,7 +20,8 @@ pub trait TakesLines: Drop {
     fn take(&mut self, alloc: Global, number: usize, line: &[u8]) -> Result<(), CommandError>
     where
         Self: Sized,
-        ensures { takes number self.old line.now (told_then self.new result) };
+        ensures takes { takes number self.old line.now (told_then self.new result) }
+        ensures unread { IfErr result ReadsNothing };
 }
 
 /// Takes the lines of a text in turn, of which the first has this number, up to the first fault; and tells the number of the
@@ -33,6 +35,7 @@ pub fn take_numbered<T: TakesLines>(
     requires { first + length text.now ≤ 16777217 }
     ensures takes { TakesNumbered T.takes first none (lines_in text.now) result }
     ensures few { IfOk result (λ taken. taken.1 ≤ first + length text.now) }
+    ensures unread { IfErr result ReadsNothing }
 {
     let mut told = none;
     let mut number = first;

@@ -1,25 +1,19 @@
 //! The next line of a reader.
 
-ghost use Rattle.std.specs.Prelude.{◌≡◌, ◌≢◌, ◌↔◌, ◌++◌, ◌<◌, ◌≤◌, ◌-◌, ◌+◌, List, ℕ, All, IsTrue, length, take, slice_index, true, false, min, IfOk, IfSome};
-ghost use Rattle.std.specs.IoError.{error_kind};
-ghost use Rattle.std.specs.Io.KnownBytes.{Consumes};
+ghost use Rattle.std.specs.Prelude.{◌≡◌, ◌≢◌, ◌↔◌, ◌++◌, ◌<◌, ◌≤◌, ◌-◌, ◌+◌, List, ℕ, All, length, take, slice_index, true, false, min, IfErr, IfOk, IfSome};
+ghost use Rattle.std.specs.Io.KnownBytes.{Consumes, prepend_known};
 ghost use Rattle.bstr.specs.Text.{no_cr, without_terminator};
+ghost use Rattle.term_commands.specs.Causes.{ToldBy};
+ghost use Rattle.term_commands.specs.Fault.{IsNoFault};
 ghost use Rattle.term_commands.specs.NextLine.{ReadsLine, ReadsSome, EndsPart};
 
+use crate::fault::CommandError;
+use crate::input::ahead::ReadAhead;
+use crate::streams::GivesBytes;
 use memchr::memchr;
-use std::io;
-use std::io::{BufRead, ErrorKind};
 
 /// So many bytes without an LF show that a line is too long, with or without a CR at its end.
 const READ_LIMIT: usize = 16_777_219;
-/// The most times that a reader is asked for a line. Each brings a byte, unless it was interrupted.
-const MOST_TURNS: u64 = 4_294_967_296;
-
-pub(crate) fn is_interrupted(error: &io::Error) -> bool
-    ensures { IsTrue result ↔ (error_kind error.now ≡ ErrorKind.Interrupted) }
-{
-    error.kind() == ErrorKind::Interrupted
-}
 
 /// So many bytes, or all where there are fewer.
 pub(crate) fn front(bytes: &[u8], most: usize) -> &[u8]
@@ -61,43 +55,55 @@ fn ends_line(part: &[u8]) -> bool
 }
 
 /// Takes what a reader shows of a line, at most so many bytes, and tells whether the line ends with it.
-fn take_part<R: BufRead>(reader: &mut R, most: usize, line: &mut Vec<u8>) -> io::Result<bool>
+fn take_part<R: GivesBytes>(
+    reader: &mut R,
+    ahead: &mut ReadAhead,
+    most: usize,
+    line: &mut Vec<u8>,
+) -> Result<bool, CommandError>
     requires { 0 < most }
-    ensures { IfOk result (λ ends. (part : List ℕ) × (line.new.items ≡ line.old.items ++ part)
-        × (length part ≤ most) × Consumes (R.remaining reader.old) (R.remaining reader.new) part
-        × EndsPart ends part (R.remaining reader.old) (R.remaining reader.new)) }
+    ensures took { IfOk result (λ ends. (part : List ℕ) × (line.new.items ≡ line.old.items ++ part)
+        × (length part ≤ most)
+        × Consumes (prepend_known ahead.old (R.remaining reader.old)) (prepend_known ahead.new (R.remaining reader.new)) part
+        × EndsPart ends part (prepend_known ahead.old (R.remaining reader.old)) (prepend_known ahead.new (R.remaining reader.new))) }
+    ensures more { IfOk result (λ ends. ends ≡ false
+        → length line.old.items < length line.new.items) }
+    ensures cause { ToldBy (R.failures reader.old) (R.failures reader.new) result }
+    ensures failed { IfErr result IsNoFault }
 {
-    let shown = match reader.fill_buf() {
-        Ok(shown) => shown,
-        Err(error) => {
-            return if is_interrupted(&error) {
-                Ok(false)
-            } else {
-                Err(error)
-            };
-        }
-    };
+    ahead.fill(reader)?;
+    let shown = ahead.shown();
     let seen = front(shown, most);
     let count = part_len(seen);
     let part = &seen[..count];
     line.extend_from_slice(part)?;
     let ends = ends_line(part);
-    reader.consume(count);
+    ahead.consume(count);
     Ok(ends)
 }
 
 /// Reads the next line with its end, and tells whether there is one. Of a line that is too long so much is read
 /// as shows that: 16,777,219 bytes.
-pub fn next_line<R: BufRead>(reader: &mut R, line: &mut Vec<u8>) -> io::Result<bool>
-    ensures line { IfSome (R.remaining reader.old) (λ bytes. IfOk result (λ more.
-        ReadsLine bytes more line.new.items (R.remaining reader.new))) }
-    ensures front { IfSome (R.remaining reader.old) (λ bytes. IfOk result (λ more.
-        ReadsSome bytes more line.new.items (R.remaining reader.new))) }
+///
+/// # Errors
+///
+/// That a read failed; out of memory.
+pub fn next_line<R: GivesBytes>(
+    reader: &mut R,
+    ahead: &mut ReadAhead,
+    line: &mut Vec<u8>,
+) -> Result<bool, CommandError>
+    ensures line { IfSome (prepend_known ahead.old (R.remaining reader.old)) (λ bytes. IfOk result (λ more.
+        ReadsLine bytes more line.new.items (prepend_known ahead.new (R.remaining reader.new)))) }
+    ensures front { IfSome (prepend_known ahead.old (R.remaining reader.old)) (λ bytes. IfOk result (λ more.
+        ReadsSome bytes more line.new.items (prepend_known ahead.new (R.remaining reader.new)))) }
     ensures some { IfOk result (λ more. more ≡ true → 0 < length line.new.items) }
+    ensures cause { ToldBy (R.failures reader.old) (R.failures reader.new) result }
+    ensures failed { IfErr result IsNoFault }
 {
     line.clear();
-    'parts: for _turn in 0..MOST_TURNS {
-        let ends = take_part(reader, READ_LIMIT - line.len(), line)?;
+    'parts: for _part in 0..READ_LIMIT {
+        let ends = take_part(reader, ahead, READ_LIMIT - line.len(), line)?;
         if ends {
             return Ok(!line.is_empty());
         }
@@ -105,7 +111,8 @@ pub fn next_line<R: BufRead>(reader: &mut R, line: &mut Vec<u8>) -> io::Result<b
             return Ok(true);
         }
     }
-    Err(io::Error::from(ErrorKind::TimedOut))
+    // Each part brings a byte.
+    unreachable!()
 }
 
 fn without_cr(line: &[u8]) -> &[u8]

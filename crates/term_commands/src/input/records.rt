@@ -3,6 +3,7 @@
 ghost use Rattle.std.specs.Prelude.{◌≡◌, ◌==◌, not, IfOk, IfSome, OnOk, ◌≤◌, length, false};
 ghost use Rattle.std.specs.List.{filter};
 ghost use Rattle.hex.specs.Hex.{decode_of};
+ghost use Rattle.term_commands.specs.Causes.{ToldBy};
 ghost use Rattle.term_commands.specs.Fault.{Gives, GivesOrFails};
 ghost use Rattle.term_commands.specs.Records.{line_told, digits_told, record_told, without_spaces, no_records, one_more, after_line, take_record, records_in};
 ghost use Rattle.term_commands.specs.Lines.{lines_in};
@@ -14,10 +15,10 @@ use crate::input::bytes::{at_most, within_limit};
 use crate::input::lines::{TakesLines, is_ignored, take_lines, text_of};
 use crate::input::reading::read_lines;
 use crate::input::sizes::{SizeLine, told_sizes, usual_geometry};
+use crate::streams::GivesBytes;
 use ds_codec::{Geometry, bytes_of_digits};
 use memchr::memchr;
 use std::alloc::{AllocError, Global};
-use std::io::Read;
 
 /// The most records of an input.
 pub const MOST_RECORDS: usize = 1_000;
@@ -197,26 +198,28 @@ pub fn records_in(alloc: Global, text: &[u8], size_line: SizeLine) -> Result<Rec
 }
 
 /// The sizes and the records that the lines of an input add, or their first fault.
-fn read_added<R: Read>(
+fn read_added<R: GivesBytes>(
     alloc: Global,
     reader: &mut R,
     none: Records,
 ) -> Result<Records, CommandError>
-    ensures { IfSome (R.remaining reader.old) (λ input. GivesOrFails records_seen result
+    ensures added { IfSome (R.remaining reader.old) (λ input. GivesOrFails records_seen result
         (taken_in take_record (records_seen none) input)) }
+    ensures cause { ToldBy (R.failures reader.old) (R.failures reader.new) result }
 {
     read_lines(alloc, reader, none)
 }
 
 /// The sizes and the records of an input, or the first fault of its lines. Where a line of sizes is
 /// refused, they are told elsewhere.
-pub fn read_records<R: Read>(
+pub fn read_records<R: GivesBytes>(
     alloc: Global,
     reader: &mut R,
     size_line: SizeLine,
 ) -> Result<Records, CommandError>
-    ensures { IfSome (R.remaining reader.old) (λ input. GivesOrFails records_seen result
+    ensures records { IfSome (R.remaining reader.old) (λ input. GivesOrFails records_seen result
         (records_in size_line input)) }
+    ensures cause { ToldBy (R.failures reader.old) (R.failures reader.new) result }
 {
     read_added(alloc, reader, no_records(alloc, size_line))
 }

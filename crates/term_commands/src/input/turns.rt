@@ -1,6 +1,7 @@
 //! Lines of records in hexadecimal, with a line `turn` between the turns of a dialogue.
 
 ghost use Rattle.std.specs.Prelude.{◌≡◌, IfSome, Ok, ◌≤◌, length};
+ghost use Rattle.term_commands.specs.Causes.{ToldBy};
 ghost use Rattle.term_commands.specs.Fault.{Gives, GivesOrFails};
 ghost use Rattle.term_commands.specs.Held.{line_seen};
 ghost use Rattle.term_commands.specs.TurnsHeld.{turns_seen, records_of};
@@ -14,8 +15,8 @@ use crate::input::lines::{TakesLines, take_lines};
 use crate::input::reading::read_lines;
 use crate::input::records::{Line, MOST_RECORD_BYTES, MOST_RECORDS, line_told};
 use crate::input::sizes::SizeLine;
+use crate::streams::GivesBytes;
 use std::alloc::Global;
-use std::io::Read;
 use std::mem::replace;
 
 /// The records that lines tell, turn by turn.
@@ -116,17 +117,26 @@ pub fn turns_in(alloc: Global, text: &[u8]) -> Result<Vec<Vec<Vec<u8>>>, Command
 }
 
 /// The turns that the lines of an input tell, or their first fault.
-fn read_added<R: Read>(alloc: Global, reader: &mut R, none: Turns) -> Result<Turns, CommandError>
-    ensures { IfSome (R.remaining reader.old) (λ input. GivesOrFails turns_seen result
+fn read_added<R: GivesBytes>(
+    alloc: Global,
+    reader: &mut R,
+    none: Turns,
+) -> Result<Turns, CommandError>
+    ensures added { IfSome (R.remaining reader.old) (λ input. GivesOrFails turns_seen result
         (taken_in take_turn_line (turns_seen none) input)) }
+    ensures cause { ToldBy (R.failures reader.old) (R.failures reader.new) result }
 {
     read_lines(alloc, reader, none)
 }
 
 /// The records of each turn of an input, or the first fault of its lines.
-pub fn read_turns<R: Read>(alloc: Global, reader: &mut R) -> Result<Vec<Vec<Vec<u8>>>, CommandError>
-    ensures { IfSome (R.remaining reader.old)
+pub fn read_turns<R: GivesBytes>(
+    alloc: Global,
+    reader: &mut R,
+) -> Result<Vec<Vec<Vec<u8>>>, CommandError>
+    ensures turns { IfSome (R.remaining reader.old)
         (λ input. GivesOrFails records_of result (turns_in input)) }
+    ensures cause { ToldBy (R.failures reader.old) (R.failures reader.new) result }
 {
     all_turns(read_added(alloc, reader, no_turns(alloc))?)
 }

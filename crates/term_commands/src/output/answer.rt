@@ -4,6 +4,7 @@ ghost use Rattle.std.specs.Prelude.{◌≡◌, IfOk, Err, Result};
 ghost use Rattle.std.specs.Bool.{OnTrue};
 ghost use Rattle.std.specs.Io.KnownBytes.{Appends};
 ghost use Rattle.std.specs.String.{string_bytes};
+ghost use Rattle.term_commands.specs.Causes.{FinishesBy, SendsBy, WritesBy};
 ghost use Rattle.term_commands.specs.Fault.{fault_line, GivesOrFails};
 ghost use Rattle.term_commands.specs.Held.{answer_seen};
 ghost use Rattle.term_commands.specs.Printed.{Printed, printed, printed_or_fault};
@@ -14,8 +15,8 @@ ghost use Rattle.term_commands.specs.declared.fault.CommandError.TheVariants.{Fa
 
 use crate::fault::{CommandError, Fault};
 use crate::status::Status;
+use crate::streams::TakesBytes;
 use std::alloc::{AllocError, Global};
-use std::io::Write;
 
 /// The whole text, and the status with which the program ends once it is written.
 #[derive(Debug, Drop)]
@@ -26,25 +27,30 @@ pub struct Answer {
 
 /// Writes a text and flushes, and answers whether every byte was taken. A write that takes no byte
 /// counts as failed.
-pub fn write_text<W: Write>(writer: &mut W, text: &[u8]) -> bool
+pub fn write_text<W: TakesBytes>(writer: &mut W, text: &[u8]) -> bool
     ensures all { OnTrue result (Appends (W.contents writer.old) (W.contents writer.new) text.now) }
     ensures front { AppendsFront (W.contents writer.old) (W.contents writer.new) text.now }
+    ensures cause { SendsBy (W.failures writer.old) (W.failures writer.new) result }
 {
     let mut rest = text;
     while !rest.is_empty() {
-        match writer.write(rest) {
-            Ok(0) => return false,
-            Ok(taken) => rest = &rest[taken..],
-            Err(_) => return false,
+        match writer.put(rest) {
+            Some(taken) => rest = &rest[taken..],
+            None => return false,
         }
     }
-    writer.flush().is_ok()
+    match writer.pass_on() {
+        Some(()) => true,
+        None => false,
+    }
 }
 
 /// Writes an answer, and tells its status, or `Failed` where a write failed.
-fn write_answer<W: Write>(writer: &mut W, answer: &Answer) -> Status
-    ensures { IsWritten (W.contents writer.old) (W.contents writer.new)
+fn write_answer<W: TakesBytes>(writer: &mut W, answer: &Answer) -> Status
+    ensures writes { IsWritten (W.contents writer.old) (W.contents writer.new)
         (answer_seen answer.now) result }
+    ensures cause { WritesBy (W.failures writer.old) (W.failures writer.new) answer.now.status
+        result }
 {
     if write_text(writer, answer.text.as_bytes()) {
         answer.status
@@ -87,8 +93,10 @@ pub fn printed(alloc: Global, answer: Result<Answer, CommandError>) -> Result<An
 }
 
 /// Writes the line of a fault.
-fn write_fault<W: Write>(alloc: Global, writer: &mut W, fault: Fault) -> Status
-    ensures { Finishes (W.contents writer.old) (W.contents writer.new) (Err (Told fault)) result }
+fn write_fault<W: TakesBytes>(alloc: Global, writer: &mut W, fault: Fault) -> Status
+    ensures writes { Finishes (W.contents writer.old) (W.contents writer.new) (Err (Told fault)) result }
+    ensures cause { FinishesBy (W.failures writer.old) (W.failures writer.new)
+        (Err (Told fault)) result }
 {
     match fault_answer(alloc, fault) {
         Ok(answer) => write_answer(writer, &answer),
@@ -98,12 +106,13 @@ fn write_fault<W: Write>(alloc: Global, writer: &mut W, fault: Fault) -> Status
 
 /// Writes what a command answers, or the line of the fault, and tells the status: `Failed` where a read
 /// or a write failed, and `NoMemory`, with nothing written, where memory was refused.
-pub fn finish<W: Write>(
+pub fn finish<W: TakesBytes>(
     alloc: Global,
     writer: &mut W,
     answer: Result<Answer, CommandError>,
 ) -> Status
-    ensures { Finishes (W.contents writer.old) (W.contents writer.new) answer result }
+    ensures writes { Finishes (W.contents writer.old) (W.contents writer.new) answer result }
+    ensures cause { FinishesBy (W.failures writer.old) (W.failures writer.new) answer result }
 {
     match answer {
         Ok(answer) => write_answer(writer, &answer),

@@ -3,6 +3,7 @@
 ghost use Rattle.std.specs.Prelude.{◌≡◌, ◌++◌, List, ℕ, OnOk, IfOk, IfErr};
 ghost use Rattle.std.specs.List.{flat_map};
 ghost use Rattle.std.specs.String.{string_bytes};
+ghost use Rattle.term_commands.specs.Causes.{EndsBy};
 ghost use Rattle.term_commands.specs.Printed.{printed};
 ghost use Rattle.term_commands.specs.Pieces.{WritesOn, Stops};
 ghost use Rattle.term_commands.specs.Streams.{Prints};
@@ -10,8 +11,8 @@ ghost use Rattle.term_commands.specs.declared.status.Status.TheVariants.{Done};
 
 use crate::output::answer::write_text;
 use crate::status::Status;
+use crate::streams::TakesBytes;
 use std::alloc::{AllocError, Global};
-use std::io::Write;
 
 /// So many bytes are written at once.
 const PIECE: usize = 65_536;
@@ -40,7 +41,7 @@ pub fn lines_of<T: PrintsLines>(alloc: Global, all: &[T]) -> Result<String, Allo
 }
 
 /// Adds the lines of one more to a piece, which is written once it is long; or tells what failed.
-fn write_on<W: Write, T: PrintsLines>(
+fn write_on<W: TakesBytes, T: PrintsLines>(
     writer: &mut W,
     piece: &mut String,
     one: &T,
@@ -49,6 +50,9 @@ fn write_on<W: Write, T: PrintsLines>(
         (string_bytes piece.old ++ T.lines one.now) (string_bytes piece.new)) }
     ensures stops { IfErr result (λ status. Stops (W.contents writer.old) (W.contents writer.new)
         (string_bytes piece.old ++ T.lines one.now) status) }
+    ensures sent { OnOk result (W.failures writer.new ≡ W.failures writer.old) }
+    ensures cause { IfErr result (λ status. EndsBy (W.failures writer.old) (W.failures writer.new)
+        Done status) }
 {
     if one.push_lines(piece).is_err() {
         return Err(Status::NoMemory);
@@ -64,9 +68,14 @@ fn write_on<W: Write, T: PrintsLines>(
 }
 
 /// Writes the lines of all of them in pieces: `Done`, or `Failed` where a write failed, or `NoMemory`, after a front of them.
-pub fn write_lines<W: Write, T: PrintsLines>(alloc: Global, writer: &mut W, all: &[T]) -> Status
-    ensures { Prints (W.contents writer.old) (W.contents writer.new) result
+pub fn write_lines<W: TakesBytes, T: PrintsLines>(
+    alloc: Global,
+    writer: &mut W,
+    all: &[T],
+) -> Status
+    ensures prints { Prints (W.contents writer.old) (W.contents writer.new) result
         (printed (flat_map T.lines all.now) Done) }
+    ensures cause { EndsBy (W.failures writer.old) (W.failures writer.new) Done result }
 {
     let mut piece = String::new(alloc);
     for one in all {

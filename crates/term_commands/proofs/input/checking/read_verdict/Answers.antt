@@ -6,5 +6,5 @@ use Rattle.term_commands.proofs.input.checking.read_verdict.Goals as goal
 
 pub returns-clause-listed : goal.returns-clause-listed
 returns-clause-listed g c =
-    due_by findings_in (g.R.Read.remaining c.args.reader.now) (findings_beside c.args.layout.now) (findings_told c.args.layout.now) c.read_verdict_beside.result
+    due_by findings_in (g.R.GivesBytes.remaining c.args.reader.now) (findings_beside c.args.layout.now) (findings_told c.args.layout.now) c.read_verdict_beside.result
     (beside_told c.args.layout.now) c.read_verdict_beside.ensures.listed

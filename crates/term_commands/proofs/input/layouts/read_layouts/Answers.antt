@@ -1,61 +1,62 @@
-use Rattle.std.proofs.Common.{◌≡◌, ◌∙◌, ◌+◌, ℕ, suc, List, ◌∷◌, [], length, refl, ap, sym, arith}
-use Rattle.std.specs.Vec.Iter.{into_iter_items, into_iter_len}
+use Rattle.std.proofs.Common.{◌∙◌, ◌+◌, ◌<◌, ℕ, ◌∷◌, [], length, get_or, drop, refl, ap, sym, arith}
+use Rattle.std.proofs.lemmas.List.{drop_more, drop-set-lt, length-append}
 use Rattle.term_commands.specs.Talk.{layouts_from}
 use Rattle.term_commands.specs.TurnsHeld.{all_remaining}
-use Rattle.term_commands.proofs.Turned.{first_known, none_known, layout_read, layout_fails, layouts_end, into_some, if_some}
+use Rattle.term_commands.proofs.Causes.{set_same, set_fails, fails_on}
+use Rattle.term_commands.proofs.Turned.{first_known, layout_read, layout_fails, layouts_end, into_some, known_none}
 use Rattle.term_commands.proofs.input.layouts.read_layouts.Goals as goal
 
-counted : (m n : ℕ) → m + 1 ≡ suc n → m ≡ n
-counted m n e = omega (arith, e)
+pub loop-turn-init : goal.loop-turn-init
+loop-turn-init g c =
+    record {
+      cause = refl;
+      turn = ap length c.new-layouts.ensures.items;
+      so_far = λ texts known. (texts, known, ap (λ ls. layouts_from (length ls) ls texts) c.new-layouts.ensures.items);
+    }
 
-none_long : {A : Type 0} (xs : List A) → length xs ≡ 0 → xs ≡ []
-none_long [] e = refl
-none_long (x ∷ xs) e = absurd (omega (arith, e))
-
-pub loop-reader-init : goal.loop-reader-init
-loop-reader-init g c = (
-  tt,
-  tt,
-  c.into_iter-reader-iterator.ensures.into_iter_gives.1 ∙ c.args.readers.ok.0 ∙ sym (ap length c.into_iter-reader-iterator.ensures.into_iter_gives.0),
-  λ texts known. (
-    texts,
-    ap (all_remaining g.L.Read.remaining) c.into_iter-reader-iterator.ensures.into_iter_gives.0 ∙ known,
-    ap (λ ls. layouts_from (length ls) ls texts) c.new-layouts.ensures.items,
-  ),
-)
-
-pub loop-reader-preserved : goal.loop-reader-preserved
-loop-reader-preserved g c =
-    let items = c.in-Some.ensures.steps.0 in (
-      tt,
-      tt,
-      counted (into_iter_len c.next.new.self) (length (into_iter_items c.next.new.self)) (c.in-Some.ensures.steps.1 ∙ c.loop-reader.invariant.2 ∙ ap length items),
-      λ texts known.
-          let before = c.loop-reader.invariant.3 texts known in
-          let first = first_known g.L.Read.remaining c.in-Some.reader (into_iter_items c.next.new.self) before.0 (sym (ap (all_remaining g.L.Read.remaining) items) ∙ before.1) in
-          let turn = c.len.ensures ∙ c.loop-reader.layouts.ok.0 in (
+pub loop-turn-preserved : goal.loop-turn-preserved
+loop-turn-preserved g c =
+    let i : ℕ = c.loop-turn.turn in
+    let readers = c.loop-turn.readers in
+    let inside : i < length readers = omega (arith, c.loop-turn-test.true, c.loop-turn.auto.readers) in
+    let one = get_or readers i c.index-readers-turn.result in
+    let here = drop_more readers i c.index-readers-turn.result inside in
+    record {
+      cause = set_same g.L.GivesBytes.failures readers i c.index-readers-turn.result c.read_turn_layout.new.reader inside c.in-Ok.ensures.cause ∙ c.loop-turn.invariant.cause;
+      turn = ap length c.in_ok-push-in-Ok.ensures.items ∙ omega (arith, length-append c.loop-turn.layouts.items (c.in-Ok.layout ∷ []), c.loop-turn.invariant.turn);
+      so_far = λ texts known.
+          let before = c.loop-turn.invariant.so_far texts known in
+          let first = first_known g.L.GivesBytes.remaining one (drop (i + 1) readers) before.0 (sym (ap (all_remaining g.L.GivesBytes.remaining) here) ∙ before.1) in (
             first.1,
-            first.3,
-            layout_read g.L.Read.remaining c.in-Some.reader first.0 c.len.result first.1 c.loop-reader.layouts.items c.push.new.self.items c.in-Ok.layout first.2
-                (if_some (g.L.Read.remaining c.in-Some.reader) (λ input e. e) c.in-Ok.ensures) turn c.in_ok-push-in-Ok.ensures.items
-                ∙ ap (layouts_from (length c.loop-reader.layouts.items) c.loop-reader.layouts.items) (sym first.4) ∙ before.2,
-          ),
-    )
+            ap (all_remaining g.L.GivesBytes.remaining) (drop-set-lt (i + 1) readers i c.read_turn_layout.new.reader (omega arith)) ∙ first.3,
+            layout_read g.L.GivesBytes.remaining one first.0 i first.1 c.loop-turn.layouts.items c.push.new.self.items c.in-Ok.layout first.2
+                c.in-Ok.ensures.layout (sym c.loop-turn.invariant.turn) c.in_ok-push-in-Ok.ensures.items
+                ∙ ap (layouts_from (length c.loop-turn.layouts.items) c.loop-turn.layouts.items) (sym first.4) ∙ before.2,
+          );
+    }
 
-pub returns-in-Err : goal.returns-in-Err
-returns-in-Err g c =
-    let items = c.in-Some.ensures.steps.0 in
-    into_some (all_remaining g.L.Read.remaining c.args.readers.items) (λ texts known.
-    let before = c.loop-reader.invariant.3 texts known in
-    let first = first_known g.L.Read.remaining c.in-Some.reader (into_iter_items c.next.new.self) before.0 (sym (ap (all_remaining g.L.Read.remaining) items) ∙ before.1) in
-    let turn = c.len.ensures ∙ c.loop-reader.layouts.ok.0 in
-    layout_fails g.L.Read.remaining c.in-Some.reader first.0 c.len.result first.1 texts c.loop-reader.layouts.items c.in-Err.error first.2
-    c.in-Err.ensures turn (ap (layouts_from (length c.loop-reader.layouts.items) c.loop-reader.layouts.items) (sym first.4) ∙ before.2))
+pub returns-in-Err-clause-layouts : goal.returns-in-Err-clause-layouts
+returns-in-Err-clause-layouts g c =
+    let i : ℕ = c.loop-turn.turn in
+    let readers = c.loop-turn.readers in
+    let inside : i < length readers = omega (arith, c.loop-turn-test.true, c.loop-turn.auto.readers) in
+    let one = get_or readers i c.index-readers-turn.result in
+    let here = drop_more readers i c.index-readers-turn.result inside in
+    into_some (all_remaining g.L.GivesBytes.remaining c.args.readers.now) (λ texts known.
+    let before = c.loop-turn.invariant.so_far texts known in
+    let first = first_known g.L.GivesBytes.remaining one (drop (i + 1) readers) before.0 (sym (ap (all_remaining g.L.GivesBytes.remaining) here) ∙ before.1) in
+    layout_fails g.L.GivesBytes.remaining one first.0 i first.1 texts c.loop-turn.layouts.items c.in-Err.error first.2
+    c.in-Err.ensures.layout (sym c.loop-turn.invariant.turn) (ap (layouts_from (length c.loop-turn.layouts.items) c.loop-turn.layouts.items) (sym first.4) ∙ before.2))
 
-pub returns : goal.returns
-returns g c =
-    into_some (all_remaining g.L.Read.remaining c.args.readers.items) (λ texts known.
-    let before = c.loop-reader.invariant.3 texts known in
-    let none = none_long (into_iter_items c.loop-reader.reader-iterator) (sym c.loop-reader.invariant.2 ∙ c.in-None.ensures.steps.0) in
-    let rest = none_known g.L.Read.remaining (into_iter_items c.loop-reader.reader-iterator) before.0 none before.1 in
-    sym before.2 ∙ layouts_end (length c.loop-reader.layouts.items) c.loop-reader.layouts.items before.0 rest)
+pub returns-in-Err-clause-cause : goal.returns-in-Err-clause-cause
+returns-in-Err-clause-cause g c =
+    let inside : c.loop-turn.turn < length c.loop-turn.readers = omega (arith, c.loop-turn-test.true, c.loop-turn.auto.readers) in
+    fails_on _ _ _ c.in-Err.error c.loop-turn.invariant.cause
+    (set_fails g.L.GivesBytes.failures c.loop-turn.readers c.loop-turn.turn c.index-readers-turn.result c.read_turn_layout.new.reader c.in-Err.error inside c.in-Err.ensures.cause)
+
+pub returns-clause-layouts : goal.returns-clause-layouts
+returns-clause-layouts g c =
+    into_some (all_remaining g.L.GivesBytes.remaining c.args.readers.now) (λ texts known.
+    let before = c.loop-turn.invariant.so_far texts known in
+    let rest = known_none g.L.GivesBytes.remaining c.loop-turn.readers c.loop-turn.turn before.0 (omega (arith, c.loop-turn-test.false, c.loop-turn.auto.readers)) before.1 in
+    sym before.2 ∙ layouts_end (length c.loop-turn.layouts.items) c.loop-turn.layouts.items before.0 rest)

@@ -1,24 +1,21 @@
-use Rattle.std.proofs.Common.{subst, take, length-take-le, [], refl}
-use Rattle.std.specs.Io.BufRead.{FillKeeps}
-use Rattle.term_commands.proofs.Parts.{whole_taken, none_taken}
-use Rattle.term_commands.proofs.InTurn.{takes_nothing}
+use Rattle.std.proofs.Common.{take, length, length-take-le, Some}
+use Rattle.std.specs.Io.KnownBytes.{prepend_known}
+use Rattle.term_commands.proofs.Ahead.{begins, empty_at_end, fits, drops}
+use Rattle.term_commands.proofs.Parts.{whole_taken}
 use Rattle.term_commands.proofs.input.reading.take_shown.Goals as goal
-
-pub returns-then-is_interrupted-clause-takes : goal.returns-then-is_interrupted-clause-takes
-returns-then-is_interrupted-clause-takes g c =
-    let rested = c.fill_buf.follows.lender-at-none in
-    let filled = subst (FillKeeps _ (g.R.Read.remaining rested) (g.R.BufRead.consumable_len rested)) c.in-Err.is c.fill_buf.follows.holds-at-none in
-    ([], refl, none_taken (g.R.Read.remaining c.args.reader.now) (g.R.Read.remaining rested) filled.0, takes_nothing g.T.TakesLines.takes c.args.number c.args.told)
 
 pub returns-clause-takes : goal.returns-clause-takes
 returns-clause-takes g c =
-    let rested = c.fill_buf.follows.lender-at-none in
-    let filled = subst (FillKeeps _ (g.R.Read.remaining rested) (g.R.BufRead.consumable_len rested)) c.in-Ok.is c.fill_buf.follows.holds-at-none in
+    let old = prepend_known c.args.ahead.now (g.R.GivesBytes.remaining c.args.reader.now) in
+    let rest = g.R.GivesBytes.remaining c.fill.new.reader in
+    let ahead = c.fill.new.self in
+    let shown = c.shown-shown.result.now in
     let seen = c.front-seen.result.now in (
       take c.whole_len-count.result seen,
       length-take-le c.whole_len-count.result seen c.whole_len-count.ensures.inside,
-      whole_taken (g.R.Read.remaining c.args.reader.now) (g.R.Read.remaining rested) (g.R.Read.remaining c.consume.new.self) (g.R.BufRead.consumable_len rested)
-          c.in-Ok.shown.now seen c.whole_len-count.result c.front-seen.ensures.front c.front-seen.ensures.inside c.whole_len-count.ensures.inside c.whole_len-count.ensures.last
-          c.in-Ok.ensures.front c.in-Ok.ensures.end filled.0 filled.1 c.consume.ensures.bytes,
+      whole_taken old (prepend_known ahead rest) (prepend_known c.consume.new.self rest) (Some (length ahead))
+          shown seen c.whole_len-count.result c.front-seen.ensures.front c.front-seen.ensures.inside c.whole_len-count.ensures.inside c.whole_len-count.ensures.last
+          (begins old rest ahead shown c.shown-shown.ensures c.in_ok-fill.ensures.bytes) (empty_at_end old rest ahead shown c.shown-shown.ensures c.in_ok-fill.ensures.bytes c.in_ok-fill.ensures.end) c.in_ok-fill.ensures.bytes
+          (fits old rest ahead shown c.shown-shown.ensures c.in_ok-fill.ensures.bytes) (drops rest ahead c.consume.new.self c.whole_len-count.result c.consume.ensures),
       c.take_numbered-taken.ensures.takes,
     )
