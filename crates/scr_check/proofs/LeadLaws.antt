@@ -180,7 +180,7 @@ opened_ready layout records opened is =
     (o.ready.free, (o.ready.whole, o.ready.formatted))
 
 -- ---- two pictures that take the same records
-abbrev with_keyboard : Picture → Lock → ℕ → Picture
+abbrev pub with_keyboard : Picture → Lock → ℕ → Picture
 with_keyboard a lock aid = record a { lock = lock; aid = aid }
 
 -- they differ in lock and attention identifier at most, and that only while the first one waits
@@ -241,7 +241,7 @@ agree_mode : (a b : Picture) → Agree a b → b.geometry ≡ a.geometry
 agree_mode a b agree = ap (λ (z : Picture). z.geometry) agree.same
 
 -- so do records in turn
-agree_along : (a b w : Picture) (records : List (List ℕ)) → Agree a b → RecordsLead a records w → (other : Picture) × RecordsLead b records other × Agree w other
+pub agree_along : (a b w : Picture) (records : List (List ℕ)) → Agree a b → RecordsLead a records w → (other : Picture) × RecordsLead b records other × Agree w other
 agree_along a b w [] agree same = (b, refl, subst (λ z. Agree z b) same agree)
 agree_along a b w (bytes ∷ others) agree (message, next, reads, shows, leads) =
     let step = step_agrees a b next message.command message.orders agree shows in
@@ -284,7 +284,7 @@ first_agrees a b next NoOperation orders geometry waits first is = absurd cc
 free_waits : (lock : Lock) → lock ≡ Free → lock ≡ Waiting → ⊥
 free_waits lock free waits = cc
 
-agree_free : (w other : Picture) → Agree w other → w.lock ≡ Free → other ≡ w
+pub agree_free : (w other : Picture) → Agree w other → w.lock ≡ Free → other ≡ w
 agree_free w other agree free =
     elim agree.until [ inl same ↦ same | inr waits ↦ absurd (free_waits w.lock free waits) ]
 

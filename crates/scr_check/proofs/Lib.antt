@@ -10,6 +10,7 @@ pub mod TouchedFields
 pub mod LeadLaws
 pub mod SentLaws
 pub mod PromiseLaws
+pub mod AnyLaws
 pub mod ListLaws
 pub mod DemoKeys
 pub mod DemoTyping
@@ -24,6 +25,10 @@ pub mod WalkLaws
 pub mod TalkLaws
 pub mod GeometryLaws
 pub mod TalkKeeps
+pub mod AnyKeys
+pub mod AnyTalk
+pub mod OwnTalk
+pub mod AnyRows
 pub mod OriginLaws
 pub mod Rows
 pub mod TracedLaws

@@ -6,7 +6,7 @@ use Rattle.std.proofs.lemmas.Bool.{cond-false, and_parts, not-true}
 use Rattle.std.proofs.lemmas.List.Kept.{IsStrictlyIncreasing-filter}
 use Rattle.ds_codec.specs.declared.cell.Cell.{Cell}
 use Rattle.ds_codec.specs.Aid.{long_aids, is_long_aid, is_aid, is_short_aid}
-use Rattle.ds_codec.specs.Character.{Glyph}
+use Rattle.ds_screen.specs.declared.lock.Lock.{Lock}
 use Rattle.ds_screen.specs.declared.lock.Lock.TheVariants.{Free, Waiting}
 use Rattle.ds_screen.specs.Picture.{Picture, IsSound, cell_at}
 use Rattle.ds_screen.specs.Fields.{is_attribute, attributes_from}
@@ -76,20 +76,27 @@ fields_are : (cells : List Cell) (places : List ℕ) → fields_sent cells place
 unfolding fields_sent
 fields_are cells places = refl
 
-due_record : (aid : ℕ) (v : Picture) (lead : List Glyph) (places : List ℕ) → lead_sent v.cells (attributes_from v.cells 0) ≡ []
-    → long_answer (sending v aid) ≡ due_answer aid v (sent_places v.cells)
-due_record aid v lead places none =
-    ap (λ l. record { aid = aid; cursor = Some v.cursor; lead = l; fields = fields_sent v.cells (attributes_from v.cells 0) }) none
-    ∙ ap (λ f. record { aid = aid; cursor = Some v.cursor; lead = []; fields = f }) (fields_are v.cells (attributes_from v.cells 0))
+due_record : (v : Picture) → lead_sent v.cells (attributes_from v.cells 0) ≡ [] → long_answer v ≡ due_answer v.aid v (sent_places v.cells)
+due_record v none =
+    ap (λ l. record { aid = v.aid; cursor = Some v.cursor; lead = l; fields = fields_sent v.cells (attributes_from v.cells 0) }) none
+    ∙ ap (λ f. record { aid = v.aid; cursor = Some v.cursor; lead = []; fields = f }) (fields_are v.cells (attributes_from v.cells 0))
 
-pub answers_due : (v : Picture) (aid : ℕ) → is_long_aid aid ≡ true → (attributes_from v.cells 0 ≡ [] → ⊥) → answer_of (sending v aid) false ≡ due_answer aid v (sent_places v.cells)
+-- what a picture with fields answers to Enter or a PF key
+pub long_due : (v : Picture) → is_long_aid v.aid ≡ true → (attributes_from v.cells 0 ≡ [] → ⊥) → answer_of v false ≡ due_answer v.aid v (sent_places v.cells)
 unfolding answer_of
-answers_due v aid long some =
-    ap (λ t. cond (t && true) (short_answer aid) (long_answer (sending v aid))) (long_parts aid long).long
-    ∙ due_record aid v [] [] (lead_none v.cells (attributes_from v.cells 0) some)
+long_due v long some =
+    ap (λ t. cond (t && true) (short_answer v.aid) (long_answer v)) (long_parts v.aid long).long
+    ∙ due_record v (lead_none v.cells (attributes_from v.cells 0) some)
 
-sending_sound : (v : Picture) (aid : ℕ) → IsLong aid → IsSound v → IsSound (sending v aid)
-sending_sound v aid long sound =
+pub long_said : (v : Picture) → IsSound v → is_long_aid v.aid ≡ true → (attributes_from v.cells 0 ≡ [] → ⊥)
+    → SaysOnly v.geometry.mode (length v.cells) (due_answer v.aid v (sent_places v.cells)) (bytes_sent v false)
+long_said v sound long some =
+    let P : Answer → Type 0 = λ a. SaysOnly v.geometry.mode (length v.cells) a (bytes_sent v false) in
+    subst P (long_due v long some) (answers_say v false sound)
+
+-- whatever the lock and the attention identifier
+pub keyboard_sound : (v : Picture) (lock : Lock) (aid : ℕ) → is_aid aid ≡ true → IsSound v → IsSound (record v { lock = lock; aid = aid })
+keyboard_sound v lock aid known sound =
     record {
       default_good = sound.default_good;
       alternate_good = sound.alternate_good;
@@ -97,16 +104,11 @@ sending_sound v aid long sound =
       whole = sound.whole;
       cursor_inside = sound.cursor_inside;
       characters = sound.characters;
-      attention = long.known;
+      attention = known;
     }
 
-pub due_said : (v : Picture) (aid : ℕ) → IsSound v → v.lock ≡ Free → is_long_aid aid ≡ true → (attributes_from v.cells 0 ≡ [] → ⊥)
-    → SaysOnly v.geometry.mode (length v.cells) (due_answer aid v (sent_places v.cells)) (bytes_sent (keyed.after_key v (Attention aid)) false)
-due_said v aid sound free long some =
-    let said = answers_say (sending v aid) false (sending_sound v aid (long_parts aid long) sound) in
-    let P : Answer → Type 0 = λ a. SaysOnly v.geometry.mode (length v.cells) a (bytes_sent (sending v aid) false) in
-    let Q : Picture → Type 0 = λ w. SaysOnly v.geometry.mode (length v.cells) (due_answer aid v (sent_places v.cells)) (bytes_sent w false) in
-    subst Q (sym (key_leaves v aid free long)) (subst P (answers_due v aid long some) said)
+pub long_known : (aid : ℕ) → is_long_aid aid ≡ true → is_aid aid ≡ true
+long_known aid long = (long_parts aid long).known
 
 -- ---- which fields are sent
 

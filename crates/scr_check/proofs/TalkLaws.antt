@@ -1,5 +1,5 @@
 -- What a yes promises of dialogues: each turn's records lead a terminal below the walk's picture, whatever the operator left.
-use Rattle.std.proofs.Common.{◌≡◌, ℕ, ◌+◌, ◌%◌, ◌&&◌, Bool, true, false, not, ◌==◌, cond, eqb, ltb, List, [], ◌∷◌, length, map, Some, None, Result, Ok, Err, refl, sym, ◌∙◌, ap, subst, arith, inl, inr}
+use Rattle.std.proofs.Common.{◌≡◌, ℕ, ◌+◌, ◌%◌, ◌⊎◌, ◌&&◌, Bool, true, false, not, ◌==◌, cond, eqb, ltb, List, [], ◌∷◌, length, map, Some, None, Result, Ok, Err, refl, sym, ◌∙◌, ap, subst, arith, inl, inr}
 use Rattle.std.proofs.lemmas.Bool.{cond-true, cond-false, cases_Bool, cases_lt, false≢true, lt-ltb, eqb-true, eq-eqb}
 use Rattle.std.proofs.lemmas.List.{get_or_past}
 use Rattle.ds_codec.specs.declared.cell.Cell.{Cell}
@@ -14,30 +14,27 @@ use Rattle.ds_screen.specs.Records.{unprotected_unmodified, erased}
 use Rattle.ds_screen.specs.Worst.{tagged, begins_input, worst_cell, worst_of}
 use Rattle.ds_screen.proofs.RuledLaws.{length-ruled, cell_at-ruled}
 use Rattle.ds_screen.proofs.WorstLaws.{worst_kind}
-use Rattle.ds_keys.specs.declared.key.Key.{Key}
 use Rattle.ds_keys.specs.declared.key.Key.TheVariants.{Attention}
 use Rattle.ds_keys.specs.KeyStep.{Step, is_sending, ignored, sent, attention_step, free_step, step_under, step_of}
 use Rattle.ds_keys.specs.KeyRuns as keyed
-use Rattle.ds_keys.specs.Touched.{IsTouched}
 use Rattle.ds_keys.specs.Laws.{Keeps, is_clear}
-use Rattle.ds_keys.proofs.CellLaws.{protected_kept, marked_so, protection_kept, same_kind}
-use Rattle.ds_keys.proofs.KeepLaws.{quiet_keys_keep}
-use Rattle.ds_keys.proofs.TouchLaws.{touched_law}
+use Rattle.ds_keys.proofs.CellLaws.{protected_kept, marked_so, protection_kept}
 use Rattle.scr_check.proofs.KeptLaws.{attribute_shut}
-use Rattle.scr_check.proofs.TouchedFields.{edit_shows}
 use Rattle.scr_check.proofs.UnderCells.{CellUnder, under_kind, under_protection, under_modified, AreUnder, same_span, same_attributes}
 use Rattle.scr_check.proofs.UnderOrders.{IsBelow, shown_below}
 use Rattle.scr_check.proofs.FewerTags.{fewer_tags_fewer_findings}
-use Rattle.scr_check.proofs.LeadLaws.{ok_is, bind_ok, unless_ok, applied_ok, ready_ok, leads_geometry}
+use Rattle.scr_check.proofs.LeadLaws.{ok_is, bind_ok, unless_ok, applied_ok, ready_ok, leads_geometry, with_keyboard, Agree, agree_along, agree_free}
 use Rattle.scr_check.proofs.LeadLaws.{IsOpened as IsReadied}
-use Rattle.scr_check.proofs.PromiseLaws.{IsOpened, keys_stay, keeps_promise}
+use Rattle.scr_check.proofs.PromiseLaws.{IsOpened}
+use Rattle.scr_check.proofs.AnyLaws.{protected_kept_so, answers_for_any}
+use Rattle.scr_check.specs.Any.{IsLeftOf, AnyTurnKeeps}
+use Rattle.ds_inbound.specs.Answer.{is_modified_at}
 use Rattle.scr_check.proofs.UserLaw.{leads_sound}
 use Rattle.scr_check.specs.declared.finding.Finding.TheVariants.{NotAWrite, CursorDependent}
 use Rattle.scr_check.specs.Opening.{writes, applied, is_free, is_size, is_none_of, ready}
 use Rattle.scr_check.specs.Findings.{findings_of}
 use Rattle.scr_check.specs.Leads.{RecordsLead}
 use Rattle.scr_check.specs.Walk.{Round, depends_on_cursor, later_fault, taken_later, later_from, opened_later, later_opening}
-use Rattle.scr_check.specs.Talk.{TurnKeeps}
 use Rattle.scr_layout.specs.Layout.{Declaration}
 use Rattle.ds_codec.specs.declared.refused.Refused as read
 use Rattle.ds_codec.specs.declared.command.Command.{Command}
@@ -49,12 +46,10 @@ use Rattle.ds_codec.specs.Reading.{read_of}
 use Rattle.ds_screen.specs.declared.field.FieldAt.{FieldAt}
 use Rattle.ds_screen.specs.Fields.{field_at, attributes_from, fields_of}
 use Rattle.ds_screen.specs.Records.{shown_of}
-use Rattle.ds_keys.proofs.SoundLaws.{keys_stay_sound}
-use Rattle.ds_keys.proofs.ShapeLaws.{quiet_sized}
 
 -- ---- one cell that an operator left, beside the worst one
 
-char_under : (x y : Cell) → is_attribute x ≡ false → is_attribute y ≡ false → CellUnder x y
+pub char_under : (x y : Cell) → is_attribute x ≡ false → is_attribute y ≡ false → CellUnder x y
 char_under (Field x) y one two = absurd cc
 char_under (Char c) (Field y) one two = absurd cc
 char_under (Char c) (Char d) one two = tt
@@ -115,7 +110,7 @@ fixed_same (Field x) (Char d) z there shut same u = absurd cc
 fixed_same (Field x) (Field y) (Char d) there shut same u = absurd u
 
 -- the cell of an attribute, after the operator
-attribute_under : (x y z : Cell) (t : Bool) → is_attribute x ≡ true → is_attribute y ≡ true → unprotected_unmodified x ≡ unprotected_unmodified y → CellUnder y z
+pub attribute_under : (x y z : Cell) (t : Bool) → is_attribute x ≡ true → is_attribute y ≡ true → unprotected_unmodified x ≡ unprotected_unmodified y → CellUnder y z
     → (is_modified (bits_of x) ≡ true → is_protected (bits_of y) ≡ false → is_modified (bits_of (cond (is_unprotected_attribute z && t) (tagged z) z)) ≡ true)
     → CellUnder x (cond (is_unprotected_attribute z && t) (tagged z) z)
 attribute_under (Char c) y z t one two same u more = absurd cc
@@ -141,21 +136,22 @@ attribute_under (Field x) (Field y) (Field z) t one two same u more =
     either_tag false x z loose bits more = bits_under x z loose bits more
 
 -- ---- what keys leave
--- a touched attribute is modified in the worst picture
-touched_worst : (v w : Picture) (keys : List Key) (q : ℕ) → IsSound v → keyed.IsQuiet v keys → AreUnder v.cells w.cells → is_attribute (cell_at v.cells q) ≡ true → is_protected (bits_of (cell_at v.cells q)) ≡ false
-    → IsTouched v keys q → is_modified (bits_of (worst_cell w.cells q)) ≡ true
+-- an unprotected attribute that was modified or governs a cell is modified in the worst picture
+pub marked_worst : (a b : List Cell) (q : ℕ) → AreUnder a b → is_attribute (cell_at a q) ≡ true → is_protected (bits_of (cell_at a q)) ≡ false
+    → (is_modified (bits_of (cell_at a q)) ≡ true) ⊎ (length (span_of a q) ≡ 0 → ⊥) → is_modified (bits_of (worst_cell b q)) ≡ true
 unfolding worst_cell
-touched_worst v w keys q sound quiet u there opens touched =
-    elim touched [
-      | inl was ↦ still (begins_input w.cells q) (cell_at w.cells q) (under_modified (cell_at v.cells q) (cell_at w.cells q) (u.each q) was.modified)
-      | inr edited ↦
-          let shows = edit_shows v keys q sound quiet there edited in
-          let some : ltb 0 (length (span_of w.cells q)) ≡ true = positive (length (span_of w.cells q)) (λ none. shows.governs_some (ap length (same_span v.cells w.cells q u) ∙ none)) in
-          let attribute : is_attribute (cell_at w.cells q) ≡ true = sym (under_kind (cell_at v.cells q) (cell_at w.cells q) (u.each q)) ∙ there in
-          let free : is_protected (bits_of (cell_at w.cells q)) ≡ false = sym (under_protection (cell_at v.cells q) (cell_at w.cells q) (u.each q)) ∙ opens in
-          let does : begins_input w.cells q ≡ true = ap (λ t. is_unprotected_attribute (cell_at w.cells q) && t) some ∙ and_yes (is_unprotected_attribute (cell_at w.cells q)) ∙ unprotected (cell_at w.cells q) attribute free in
-          ap (λ c. is_modified (bits_of c)) (cond-true (begins_input w.cells q) (tagged (cell_at w.cells q)) (cell_at w.cells q) does) ∙ tagged_so (cell_at w.cells q) attribute
-    ]
+marked_worst a b q u there opens (inl was) = still (begins_input b q) (cell_at b q) (under_modified (cell_at a q) (cell_at b q) (u.each q) was)
+  where
+    still : (t : Bool) (x : Cell) → is_modified (bits_of x) ≡ true → is_modified (bits_of (cond t (tagged x) x)) ≡ true
+    still true (Field bits) was = marked_so bits
+    still true (Char c) was = was
+    still false x was = was
+marked_worst a b q u there opens (inr governs_some) =
+    let some : ltb 0 (length (span_of b q)) ≡ true = positive (length (span_of b q)) (λ none. governs_some (ap length (same_span a b q u) ∙ none)) in
+    let attribute : is_attribute (cell_at b q) ≡ true = sym (under_kind (cell_at a q) (cell_at b q) (u.each q)) ∙ there in
+    let free : is_protected (bits_of (cell_at b q)) ≡ false = sym (under_protection (cell_at a q) (cell_at b q) (u.each q)) ∙ opens in
+    let does : begins_input b q ≡ true = ap (λ t. is_unprotected_attribute (cell_at b q) && t) some ∙ and_yes (is_unprotected_attribute (cell_at b q)) ∙ unprotected (cell_at b q) attribute free in
+    ap (λ c. is_modified (bits_of c)) (cond-true (begins_input b q) (tagged (cell_at b q)) (cell_at b q) does) ∙ tagged_so (cell_at b q) attribute
   where
     and_yes : (t : Bool) → (t && true) ≡ t
     and_yes true = refl
@@ -172,40 +168,52 @@ touched_worst v w keys q sound quiet u there opens touched =
     tagged_so (Field bits) attribute = marked_so bits
     tagged_so (Char c) attribute = absurd cc
 
-    still : (b : Bool) (x : Cell) → is_modified (bits_of x) ≡ true → is_modified (bits_of (cond b (tagged x) x)) ≡ true
-    still true (Field bits) was = marked_so bits
-    still true (Char c) was = was
-    still false x was = was
+-- ---- what was left lies below the worst
 
-one_under : (v w : Picture) (keys : List Key) (p : ℕ) → IsSound v → keyed.IsQuiet v keys → AreUnder v.cells w.cells → Keeps v.cells (keyed.after v keys).cells → CellUnder (cell_at (keyed.after v keys).cells p) (worst_cell w.cells p)
+left_worst : (opened v w : Picture) (q : ℕ) → IsLeftOf opened v → AreUnder opened.cells w.cells → is_attribute (cell_at opened.cells q) ≡ true → is_protected (bits_of (cell_at opened.cells q)) ≡ false
+    → is_modified_at v.cells q ≡ true → is_modified (bits_of (worst_cell w.cells q)) ≡ true
+left_worst opened v w q left u there opens set = marked_worst opened.cells w.cells q u there opens (by_span (span_of opened.cells q) refl)
+  where
+    by_span : (span : List ℕ) → span_of opened.cells q ≡ span → (is_modified (bits_of (cell_at opened.cells q)) ≡ true) ⊎ (length (span_of opened.cells q) ≡ 0 → ⊥)
+    by_span [] none = inl (left.empty q none set)
+    by_span (p ∷ ps) some = inr (λ none. let e : length (p ∷ ps) ≡ 0 = sym (ap length some) ∙ none in absurd (omega (arith, e)))
+
+left_cell : (opened v w : Picture) (p : ℕ) → IsLeftOf opened v → AreUnder opened.cells w.cells → CellUnder (cell_at v.cells p) (worst_cell w.cells p)
 unfolding worst_cell
-one_under v w keys p sound quiet u k =
-    let x : Cell = cell_at (keyed.after v keys).cells p in
-    let y : Cell = cell_at v.cells p in
-    let kind : is_attribute x ≡ is_attribute y = same_kind v.cells (keyed.after v keys).cells p k in
+left_cell opened v w p left u =
+    let k : Keeps opened.cells v.cells = protected_kept_so opened.cells v.cells left.kept in
+    let x : Cell = cell_at v.cells p in
+    let y : Cell = cell_at opened.cells p in
+    let kind : is_attribute x ≡ is_attribute y = left.kept.places p in
     elim (cases_Bool (is_attribute y)) [
       | inl there ↦
-          attribute_under x y (cell_at w.cells p) (ltb 0 (length (span_of w.cells p))) (kind ∙ there) there (k.closed p (attribute_shut v.cells p there)) (u.each p)
-          (λ set opens. touched_worst v w keys p sound quiet u there opens ((touched_law v keys p quiet there).0 set))
+          attribute_under x y (cell_at w.cells p) (ltb 0 (length (span_of w.cells p))) (kind ∙ there) there (k.closed p (attribute_shut opened.cells p there)) (u.each p)
+          (λ set opens. left_worst opened v w p left u there opens set)
       | inr none ↦
           char_under x (worst_cell w.cells p) (kind ∙ none) (worst_kind w.cells p ∙ sym (under_kind y (cell_at w.cells p) (u.each p)) ∙ none)
     ]
 
--- the cells that keys leave, beside the worst of the picture above
-keys_under : (v w : Picture) (keys : List Key) → IsSound v → keyed.IsQuiet v keys → AreUnder v.cells w.cells → AreUnder (keyed.after v keys).cells (ruled (length w.cells) (worst_cell w.cells))
-keys_under v w keys sound quiet u =
-    let after : Picture = keyed.after v keys in
-    let k : Keeps v.cells after.cells = quiet_keys_keep v keys quiet in
+left_under : (opened v w : Picture) → IsLeftOf opened v → AreUnder opened.cells w.cells → AreUnder v.cells (ruled (length w.cells) (worst_cell w.cells))
+left_under opened v w left u =
+    let n : ℕ = length w.cells in
     record {
-      whole = k.whole ∙ u.whole ∙ sym (length-ruled (length w.cells) (worst_cell w.cells));
-      each = λ p. elim (cases_lt p (length w.cells)) [
-        | inl lt ↦ subst (CellUnder (cell_at after.cells p)) (sym (cell_at-ruled (length w.cells) (worst_cell w.cells) p lt)) (one_under v w keys p sound quiet u k)
+      whole = left.kept.whole ∙ u.whole ∙ sym (length-ruled n (worst_cell w.cells));
+      each = λ p. elim (cases_lt p n) [
+        | inl lt ↦ subst (CellUnder (cell_at v.cells p)) (sym (cell_at-ruled n (worst_cell w.cells) p lt)) (left_cell opened v w p left u)
         | inr past ↦
-            let x : cell_at after.cells p ≡ blank = get_or_past after.cells p blank (omega (arith, k.whole, u.whole)) in
-            let y : cell_at (ruled (length w.cells) (worst_cell w.cells)) p ≡ blank = get_or_past (ruled (length w.cells) (worst_cell w.cells)) p blank (omega (arith, length-ruled (length w.cells) (worst_cell w.cells))) in
-            char_under (cell_at after.cells p) (cell_at (ruled (length w.cells) (worst_cell w.cells)) p) (ap is_attribute x) (ap is_attribute y)
+            let x : cell_at v.cells p ≡ blank = get_or_past v.cells p blank (omega (arith, left.kept.whole, u.whole)) in
+            let y : cell_at (ruled n (worst_cell w.cells)) p ≡ blank = get_or_past (ruled n (worst_cell w.cells)) p blank (omega (arith, length-ruled n (worst_cell w.cells))) in
+            char_under (cell_at v.cells p) (cell_at (ruled n (worst_cell w.cells)) p) (ap is_attribute x) (ap is_attribute y)
       ];
     }
+
+-- the same picture, with the keyboard waiting and no attention key
+abbrev pub waiting : Picture → Picture
+waiting v = with_keyboard v Waiting 0x60
+
+pub waits_below : (opened v w : Picture) → IsLeftOf opened v → IsBelow opened w → IsBelow (waiting v) (worst_of w)
+waits_below opened v w left below =
+    record { geometry = left.geometry ∙ below.geometry; size = left.size ∙ below.size; lock = refl; cells = left_under opened v w left below.cells }
 
 -- ---- the attention key
 waits_not : (aid : ℕ) (v : Picture) → keyed.is_accepted (ignored v).pressed ≡ true → ⊥
@@ -226,26 +234,9 @@ under_leaves Free v aid other accepted = attention_leaves v aid other accepted
 under_leaves Waiting v aid other accepted = absurd (false≢true accepted)
 under_leaves Error v aid other accepted = absurd (false≢true accepted)
 
-key_leaves : (v : Picture) (aid : ℕ) → is_clear (Attention aid) ≡ false → keyed.IsAccepted v (Attention aid) → keyed.after_key v (Attention aid) ≡ (sent v aid).after
+pub key_leaves : (v : Picture) (aid : ℕ) → is_clear (Attention aid) ≡ false → keyed.IsAccepted v (Attention aid) → keyed.after_key v (Attention aid) ≡ (sent v aid).after
 unfolding step_of
 key_leaves v aid other accepted = under_leaves v.lock v aid other accepted
-
--- what a turn leaves of a picture lies below the worst of what the walk has
-pub left_below : (v w : Picture) (keys : List Key) (aid : ℕ) → IsSound v → IsBelow v w → keyed.IsQuiet v keys → is_clear (Attention aid) ≡ false
-    → keyed.IsAccepted (keyed.after v keys) (Attention aid) → IsBelow (keyed.after_key (keyed.after v keys) (Attention aid)) (worst_of w)
-left_below v w keys aid sound below quiet other accepted =
-    let after : Picture = keyed.after v keys in
-    subst (λ z. IsBelow z (worst_of w)) (sym (key_leaves after aid other accepted))
-    (record {
-      geometry = keys_stay v keys ∙ below.geometry;
-      size = quiet_sized v keys quiet ∙ below.size;
-      lock = refl;
-      cells = keys_under v w keys sound quiet below.cells;
-    })
-
-pub left_sound : (v : Picture) (keys : List Key) (aid : ℕ) → IsSound v → IsSound (keyed.after_key (keyed.after v keys) (Attention aid))
-unfolding keyed.after
-left_sound v keys aid sound = keys_stay_sound (keyed.after v keys) (Attention aid ∷ []) (keys_stay_sound v keys sound)
 
 -- ---- records
 taken_later_ok : (index : ℕ) (v w : Picture) (r : Result Message read.Refused) → taken_later index v r ≡ Ok w
@@ -275,12 +266,6 @@ records_below index (bytes ∷ others) a b w below is =
     (rest.0, (message, step.0, ap (λ (g : Sizes). read_of g.mode bytes) below.geometry ∙ parts.1, step.1, rest.1), rest.2)
 
 -- ---- one turn
--- a picture on which the operator can type, with no finding, and from which the promise holds
-pub record IsGood (layout : Declaration) (v : Picture) : Type 0 where
-  pub opened : IsOpened layout v
-  pub usable : ready layout.size v ≡ Ok v
-  pub clean : findings_of layout v ≡ []
-
 pub ready_so : (size : Size) (v : Picture) → v.lock ≡ Free → v.size ≡ size → (fields_of v.cells ≡ [] → ⊥) → ready size v ≡ Ok v
 ready_so size v free same some =
     cond-false (not (is_free v.lock)) _ _ (ap (λ l. not (is_free l)) free)
@@ -294,13 +279,13 @@ ready_so size v free same some =
     not_none [] some = absurd (some refl)
     not_none (field ∷ fields) some = refl
 
--- what a turn comes to: the records lead the actual picture below the walk's
+-- what a later turn comes to: the records lead the actual picture below the walk's
 pub record TurnBelow (a : Picture) (round : Round) (w : Picture) : Type 0 where
   pub opened : Picture
   pub leads : RecordsLead a round.records opened
   pub below : IsBelow opened w
   pub sound : IsSound opened
-  pub keeps : TurnKeeps a round
+  pub keeps : AnyTurnKeeps a round
 
 later_led : (b : Picture) (layout : Declaration) (records : List (List ℕ)) (w : Picture) → opened_later b layout records ≡ Ok w → (later_from 0 (worst_of b) records ≡ Ok w) × IsReadied layout.size w
 later_led b layout [] w opens = absurd cc
@@ -316,22 +301,30 @@ no_fields a b u none = ap (map (field_at b)) (sym (same_attributes a b 0 u) ∙ 
     unmapped f [] none = refl
     unmapped f (x ∷ xs) none = absurd cc
 
-pub turn_below : (a b w : Picture) (round : Round) → IsSound a → IsBelow a (worst_of b) → a.geometry ≡ round.layout.geometry
+-- a picture that does not wait is led to the same one
+leads_unlocked : (a x : Picture) (records : List (List ℕ)) → RecordsLead (waiting a) records x → x.lock ≡ Free → RecordsLead a records x
+leads_unlocked a x records leads free =
+    let agree : Agree (waiting a) a = record { lock = a.lock; aid = a.aid; same = refl; until = inr refl } in
+    let along = agree_along (waiting a) a x records agree leads in
+    subst (RecordsLead a records) (agree_free x along.0 along.2 free) along.1
+
+pub turn_below : (a b w : Picture) (round : Round) → IsSound (waiting a) → IsBelow (waiting a) (worst_of b) → a.geometry ≡ round.layout.geometry
     → later_opening b round ≡ Ok w → findings_of round.layout w ≡ [] → TurnBelow a round w
 turn_below a b w round sound below geometry opens clean =
     let led = later_led b round.layout round.records w opens in
-    let made = records_below 0 round.records a (worst_of b) w below led.0 in
+    let made = records_below 0 round.records (waiting a) (worst_of b) w below led.0 in
     let x : Picture = made.0 in
-    let good : IsSound x = leads_sound a x round.records sound made.1 in
+    let good : IsSound x = leads_sound (waiting a) x round.records sound made.1 in
     let free : x.lock ≡ Free = made.2.lock ∙ led.1.free in
     let sized : x.size ≡ round.layout.size = made.2.size ∙ led.1.whole in
     let some : fields_of x.cells ≡ [] → ⊥ = λ none. led.1.formatted (no_fields x.cells w.cells made.2.cells none) in
     let fewer : findings_of round.layout x ≡ [] = fewer_tags_fewer_findings round.layout x w made.2.cells clean in
-    let opened : IsOpened round.layout x = record { sound = good; geometry = leads_geometry a x round.records made.1 ∙ geometry; size = sized; some = some } in
+    let leads : RecordsLead a round.records x = leads_unlocked a x round.records made.1 free in
+    let is : IsOpened round.layout x = record { sound = good; geometry = leads_geometry a x round.records leads ∙ geometry; size = sized; some = some } in
     record {
       opened = x;
-      leads = made.1;
+      leads = leads;
       below = made.2;
       sound = good;
-      keeps = record { opened = x; leads = made.1; usable = ready_so round.layout.size x free sized some; clean = fewer; promise = keeps_promise round.layout x opened fewer };
+      keeps = record { opened = x; leads = leads; sound = good; usable = ready_so round.layout.size x free sized some; clean = fewer; promise = answers_for_any round.layout x is fewer };
     }

@@ -13,7 +13,7 @@ use Rattle.ds_screen.proofs.RingLaws.{distance_cases}
 use Rattle.ds_screen.proofs.RuledLaws.{on_distance}
 use Rattle.ds_keys.specs.declared.key.Key.{Key}
 use Rattle.ds_keys.specs.KeyRuns as keyed
-use Rattle.ds_keys.specs.Touched.{edits, IsEdited, IsTouched, is_edit}
+use Rattle.ds_keys.specs.Touched.{edits, IsEdited, is_edit}
 use Rattle.ds_keys.specs.Laws.{Keeps}
 use Rattle.ds_keys.proofs.CellLaws.{same_governs, same_protection}
 use Rattle.ds_keys.proofs.KeepLaws.{quiet_keys_keep}
@@ -158,23 +158,6 @@ field_clean layout v q clean there =
     among_filter (λ p. is_attribute (cell_at v.cells p)) (range_with_len 0 (n - 0)) q
     ∙ ap (λ t. t && is_among (range_with_len 0 (n - 0)) q) there ∙ among_range 0 (n - 0) q (omega arith) (omega arith) in
     none_found (field_finding layout.entries v) (field_at v.cells) (attributes_from v.cells 0) q among (append_none _ _ clean)
-
--- ---- a touched field
-
--- a field that was touched has an entry, of its kind, that declares no fewer cells
-pub touched_entry : (layout : Declaration) (v : Picture) (keys : List Key) (q : ℕ) → IsSound v → findings_of layout v ≡ [] → keyed.IsQuiet v keys
-    → is_attribute (cell_at v.cells q) ≡ true → IsTouched v keys q → HasEntry layout.entries (field_at v.cells q)
-touched_entry layout v keys q sound clean quiet there touched =
-    let none = field_clean layout v q clean there in
-    let unmodified_none : (is_modified (bits_of (cell_at v.cells q)) ≡ false) → EditShows v.cells q = λ un. elim touched [
-      | inl was ↦ absurd (false≢true (sym un ∙ was.modified))
-      | inr ed ↦ edit_shows v keys q sound quiet there ed
-    ] in
-    let some : length (span_of v.cells q) ≡ 0 → ⊥ = λ empty. (unmodified_none (field_empty layout.entries v (field_at v.cells q) empty none)).governs_some empty in
-    elim (field_good layout.entries v (field_at v.cells q) some none) [
-      | inl has ↦ has
-      | inr shut ↦ absurd (false≢true (sym (unmodified_none shut.1).unprotected ∙ shut.0))
-    ]
 
 -- ---- its characters
 

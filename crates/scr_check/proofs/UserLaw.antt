@@ -16,8 +16,10 @@ use Rattle.scr_check.specs.Opening.{opening_of}
 use Rattle.scr_check.specs.Findings.{findings_of}
 use Rattle.scr_check.specs.Promise.{IsProtectedSame, SendsTouched, Promise}
 use Rattle.scr_check.specs.Leads.{RecordsLead, KeysLead, YesMeans}
+use Rattle.scr_check.specs.Any.{YesMeansForAny}
 use Rattle.scr_check.proofs.LeadLaws.{leads_once, leads_from_every, opened_leads}
-use Rattle.scr_check.proofs.VerdictLaws.{promise_of}
+use Rattle.scr_check.proofs.AnyLaws.{answers_for_any}
+use Rattle.scr_check.proofs.VerdictLaws.{opened_so, promise_of}
 
 -- keys of which none sends, and where they lead
 record IsLed (before : Picture) (keys : List Key) (v : Picture) : Type 0 where
@@ -65,3 +67,10 @@ yes_means layout records law conforms before opened v keys geometry leads presse
     let P : Picture → Type 0 = λ w. IsProtectedSame opened.cells w.cells in
     let Q : Picture → Type 0 = λ w. (aid : ℕ) → is_long_aid aid ≡ true → w.lock ≡ Free → SendsTouched layout opened keys w aid in
     (subst P (sym went.ends) holds.kept, subst Q (sym went.ends) holds.sends)
+
+pub yes_means_for_any : YesMeansForAny
+yes_means_for_any layout records law conforms before opened v aid geometry leads left long =
+    let same : opened ≡ conforms.picture = leads_once before opened conforms.picture records leads (leads_from_every layout records conforms.picture conforms.opens before geometry) in
+    let opens : opening_of layout records ≡ Ok opened = conforms.opens ∙ ap (λ w. Ok w) (sym same) in
+    let sound : IsSound opened = leads_sound (new_picture layout.geometry) opened records (new_sound layout law) (opened_leads layout records opened opens) in
+    answers_for_any layout opened (opened_so layout records opened opens sound) (ap (findings_of layout) same ∙ conforms.clean) v left aid long

@@ -11,12 +11,15 @@ use Rattle.scr_check.specs.Findings.{findings_of, told, answer_of, Conforms}
 use Rattle.scr_check.specs.Seen.{findings_in}
 use Rattle.scr_check.specs.Promise.{KeepsPromise}
 use Rattle.scr_check.specs.Leads.{IsPromised}
+use Rattle.scr_check.specs.Any.{IsPromisedForAny}
 use Rattle.scr_check.specs.Demos.{IsShown, AreShown}
 use Rattle.scr_check.proofs.LeadLaws.{ok_is, opened_geometry, opened_ready, leads_from_every}
-use Rattle.scr_check.proofs.PromiseLaws.{IsOpened, keeps_promise}
+use Rattle.scr_check.proofs.PromiseLaws.{IsOpened}
+use Rattle.scr_check.proofs.AnyKeys.{keeps_promise}
+use Rattle.scr_check.proofs.AnyLaws.{answers_for_any}
 use Rattle.scr_check.proofs.DemoLaws.{findings_shown}
 
-opened_so : (layout : Declaration) (records : List (List ℕ)) (opened : Picture) → opening_of layout records ≡ Ok opened → IsSound opened → IsOpened layout opened
+pub opened_so : (layout : Declaration) (records : List (List ℕ)) (opened : Picture) → opening_of layout records ≡ Ok opened → IsSound opened → IsOpened layout opened
 opened_so layout records opened opens sound =
     let ready = opened_ready layout records opened opens in
     record {
@@ -49,6 +52,22 @@ pub yes_promised : (layout : Declaration) (records : List (List ℕ)) (r : Resul
     → findings_in verdict ≡ told layout r → verdict ≡ Yes → IsPromised layout records
 yes_promised layout records r verdict opens sound listed is =
     told_promised layout records r (sym opens) sound (sym listed ∙ ap findings_in is)
+
+told_for_any : (layout : Declaration) (records : List (List ℕ)) (r : Result Picture Finding) → opening_of layout records ≡ r → IfOk r IsSound → told layout r ≡ [] → IsPromisedForAny layout records
+told_for_any layout records (Err finding) opens sound none = absurd cc
+told_for_any layout records (Ok opened) opens sound none =
+    record {
+      opened = opened;
+      opens = opens;
+      anywhere = leads_from_every layout records opened opens;
+      sound = sound;
+      promise = answers_for_any layout opened (opened_so layout records opened opens sound) none;
+    }
+
+pub yes_for_any : (layout : Declaration) (records : List (List ℕ)) (r : Result Picture Finding) (verdict : Verdict) → r ≡ opening_of layout records → IfOk r IsSound
+    → findings_in verdict ≡ told layout r → verdict ≡ Yes → IsPromisedForAny layout records
+yes_for_any layout records r verdict opens sound listed is =
+    told_for_any layout records r (sym opens) sound (sym listed ∙ ap findings_in is)
 
 pub opened_size : (layout : Declaration) (records : List (List ℕ)) (v : Picture) → opening_of layout records ≡ Ok v → v.size ≡ layout.size
 opened_size layout records v opens = (opened_ready layout records v opens).1.0

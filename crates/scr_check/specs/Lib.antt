@@ -7,6 +7,7 @@ pub mod Bound
 pub mod Bindable
 pub mod Promise
 pub mod Leads
+pub mod Any
 pub mod Demos
 pub mod FindingText
 pub mod BindFaultText

@@ -1,6 +1,7 @@
 //! Laws on binding. These functions do nothing: their contracts are the laws.
 
 ghost use Rattle.scr_check.specs.Bindable.{BindsExactly};
+ghost use Rattle.scr_check.specs.Any.{LeavesInSteps, OwnKeysArePromised, OwnKeysLeave, YesMeansForAny};
 ghost use Rattle.scr_check.specs.Leads.{YesMeans};
 
 /// An answer is bound exactly where no characters stand before its first field, each field's place is an
@@ -15,4 +16,19 @@ pub fn bind_law()
 /// keyboard sends the touched fields, each as it is declared.
 pub fn yes_law()
     ensures { YesMeans }
+{}
+
+/// What a yes means for any terminal, whatever its keys: the records led from a picture of the layout's geometry to one,
+/// and the operator left a picture on which what is protected stands as in that one. Then Enter and each PF key send the
+/// modified fields, each as it is declared.
+pub fn any_terminal_law()
+    ensures { YesMeansForAny }
+{}
+
+/// What an operator leaves in several steps is left in one, so it is enough that each key of a terminal leaves what is
+/// protected. Those of this terminal do, and what is promised of any terminal holds of them.
+pub fn own_keys_law()
+    ensures steps { LeavesInSteps }
+    ensures keys { OwnKeysLeave }
+    ensures promised { OwnKeysArePromised }
 {}

@@ -24,7 +24,7 @@ pub use checker::Checker;
 pub use ds_screen::Outline;
 pub use finding::{Demo, Finding, Overlong};
 pub use finding_text::name_at;
-pub use laws::{bind_law, yes_law};
+pub use laws::{any_terminal_law, bind_law, own_keys_law, yes_law};
 pub use opening::{FirstTurn, ready_for};
 pub use origins::{Origin, Origins, find_origins};
 pub use taking::{TurnRule, take_by};

@@ -6,6 +6,7 @@ ghost use Rattle.ds_screen.specs.Picture.{Picture};
 ghost use Rattle.scr_check.specs.Findings.{findings_of};
 ghost use Rattle.scr_check.specs.Walk.{stops_or, walk_from, walk_of};
 ghost use Rattle.scr_check.specs.Talk.{TalksKeep};
+ghost use Rattle.scr_check.specs.Any.{TalksKeepForAny};
 ghost use Rattle.scr_check.specs.TalkSeen.{rounds_of, stop_in, AreOfGeometry, HaveOneGeometry};
 
 use crate::checker::open;
@@ -122,6 +123,8 @@ pub fn check_talk(alloc: Global, turns: &[Turn<'_, '_>]) -> Result<TalkVerdict, 
     ensures exact { IfOk result (λ verdict. stop_in verdict ≡ walk_of (rounds_of turns.now)) }
     ensures yes { IfOk result
         (λ verdict. verdict ≡ TalkVerdict.Yes → TalksKeep (rounds_of turns.now)) }
+    ensures any { IfOk result
+        (λ verdict. verdict ≡ TalkVerdict.Yes → TalksKeepForAny (rounds_of turns.now)) }
 {
     let Some((first, others)) = turns.split_first() else {
         return Ok(TalkVerdict::Yes);

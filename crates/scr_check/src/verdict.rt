@@ -4,6 +4,7 @@ ghost use Rattle.std.specs.Prelude.{◌≡◌, ◌↔◌, [], map, IfOk};
 ghost use Rattle.scr_check.specs.Findings.{answer_of, Conforms};
 ghost use Rattle.scr_check.specs.Seen.{findings_in, TellsSome};
 ghost use Rattle.scr_check.specs.Leads.{IsPromised};
+ghost use Rattle.scr_check.specs.Any.{IsPromisedForAny};
 ghost use Rattle.scr_check.specs.Demos.{AreShown};
 
 use crate::checker::{Checker, checker_of};
@@ -48,6 +49,8 @@ impl Checker<'_> {
         ensures some { IfOk result TellsSome }
         ensures promise { IfOk result (λ verdict. verdict
             ≡ Verdict.Yes → IsPromised self.entry.layout self.entry.records) }
+        ensures any { IfOk result (λ verdict. verdict
+            ≡ Verdict.Yes → IsPromisedForAny self.entry.layout self.entry.records) }
         ensures shown { IfOk result (λ verdict. AreShown self.entry.layout self.entry.records
             (findings_in verdict)) }
     {
@@ -76,6 +79,9 @@ pub fn check(alloc: Global, records: &[&[u8]], layout: &Layout) -> Result<Verdic
     ensures some { IfOk result TellsSome }
     ensures promise { IfOk result
         (λ verdict. verdict ≡ Verdict.Yes → IsPromised layout.now
+        (map (λ bytes. bytes.now) records.now)) }
+    ensures any { IfOk result
+        (λ verdict. verdict ≡ Verdict.Yes → IsPromisedForAny layout.now
         (map (λ bytes. bytes.now) records.now)) }
     ensures shown { IfOk result
         (λ verdict. AreShown layout.now (map (λ bytes. bytes.now) records.now)

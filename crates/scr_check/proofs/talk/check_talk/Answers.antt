@@ -4,6 +4,7 @@ use Rattle.ds_screen.specs.Picture.{Picture, IsSound}
 use Rattle.scr_check.specs.declared.finding.Finding.{Finding}
 use Rattle.scr_check.specs.declared.talk.TalkVerdict.TheVariants.{Yes}
 use Rattle.scr_check.specs.Talk.{TalksKeep}
+use Rattle.scr_check.specs.Any.{TalksKeepForAny}
 use Rattle.scr_check.specs.declared.talk.Turn.{Turn}
 use Rattle.scr_check.specs.Seen.{IsOpening}
 use Rattle.std.specs.Prelude.{IfOk}
@@ -15,7 +16,8 @@ use Rattle.scr_check.specs.Findings.{findings_of}
 use Rattle.scr_check.specs.Walk.{Round, stops_or, walk_from, walk_of}
 use Rattle.scr_check.specs.TalkSeen.{round_of, rounds_of, stop_in, HaveOneGeometry}
 use Rattle.scr_check.proofs.VerdictLaws.{opened_size}
-use Rattle.scr_check.proofs.TalkKeeps.{none_keep, talks_keep}
+use Rattle.scr_check.proofs.OwnTalk.{own_talks}
+use Rattle.scr_check.proofs.AnyTalk.{none_for_any, talks_keep_for_any}
 use Rattle.scr_check.proofs.WalkLaws.{starts_open, starts_stands, starts_empty}
 use Rattle.scr_check.proofs.talk.check_talk.Goals as goal
 
@@ -28,7 +30,8 @@ returns-in_default c =
     let none = none_there c.args.turns.now c.in_default.ensures.cases in
     record {
       exact = starts_empty (rounds_of c.args.turns.now) none;
-      yes = λ is. subst TalksKeep (sym none) none_keep;
+      yes = λ is. subst TalksKeep (sym none) (own_talks [] tt none_for_any);
+      any = λ is. subst TalksKeepForAny (sym none) none_for_any;
     }
 
 -- a verdict that stops at a turn is no yes
@@ -44,6 +47,7 @@ returns-in-Stands c =
       exact = subst (λ (turns : List Turn). IfOk c.stopped_first.result (λ verdict. stop_in verdict ≡ walk_of (rounds_of turns))) (sym c.in-Some.ensures.cases.0)
           (IfOk-weaker c.stopped_first.result _ _ (λ verdict is. starts_stands (round_of first) (rounds_of c.in-Some.others.now) finding (stop_in verdict) stands is) c.stopped_first.ensures);
       yes = IfOk-weaker c.stopped_first.result _ _ (λ verdict. stands_yes verdict (finding ∷ []) (TalksKeep (rounds_of c.args.turns.now))) c.stopped_first.ensures;
+      any = IfOk-weaker c.stopped_first.result _ _ (λ verdict. stands_yes verdict (finding ∷ []) (TalksKeepForAny (rounds_of c.args.turns.now))) c.stopped_first.ensures;
     }
 
 -- the later turns decide, where the first is opened
@@ -58,8 +62,16 @@ opened_yes : (r : Result TalkVerdict AllocError) (turns : List Turn) (first : Tu
     → IfOk r (λ verdict. stop_in verdict ≡ walk_of (rounds_of (first ∷ others))) → IfOk r (λ verdict. verdict ≡ Yes → TalksKeep (rounds_of turns))
 opened_yes (Ok verdict) turns first others v parts opens sound one exact = λ is.
     subst (λ l. TalksKeep (rounds_of l)) (sym parts)
-    (talks_keep (round_of first) (rounds_of others) v opens sound (subst (λ l. HaveOneGeometry (rounds_of l)) parts one) (sym exact ∙ ap stop_in is))
+    (let here : HaveOneGeometry (rounds_of (first ∷ others)) = subst (λ l. HaveOneGeometry (rounds_of l)) parts one in own_talks (rounds_of (first ∷ others)) here (talks_keep_for_any (round_of first) (rounds_of others) v opens sound here (sym exact ∙ ap stop_in is)))
 opened_yes (Err e) turns first others v parts opens sound one exact = exact
+
+opened_any : (r : Result TalkVerdict AllocError) (turns : List Turn) (first : Turn) (others : List Turn) (v : Picture) → turns ≡ first ∷ others
+    → opening_of (round_of first).layout (round_of first).records ≡ Ok v → IsSound v → HaveOneGeometry (rounds_of turns)
+    → IfOk r (λ verdict. stop_in verdict ≡ walk_of (rounds_of (first ∷ others))) → IfOk r (λ verdict. verdict ≡ Yes → TalksKeepForAny (rounds_of turns))
+opened_any (Ok verdict) turns first others v parts opens sound one exact = λ is.
+    subst (λ l. TalksKeepForAny (rounds_of l)) (sym parts)
+    (talks_keep_for_any (round_of first) (rounds_of others) v opens sound (subst (λ l. HaveOneGeometry (rounds_of l)) parts one) (sym exact ∙ ap stop_in is))
+opened_any (Err e) turns first others v parts opens sound one exact = exact
 
 pub returns-in-Leads : goal.returns-in-Leads
 returns-in-Leads c =
@@ -71,4 +83,5 @@ returns-in-Leads c =
     record {
       exact = subst P (sym c.in-Some.ensures.cases.0) exact;
       yes = opened_yes c.check_opened.result c.args.turns.now first c.in-Some.others.now opened.0 c.in-Some.ensures.cases.0 opened.1 opened.2.sound c.requires exact;
+      any = opened_any c.check_opened.result c.args.turns.now first c.in-Some.others.now opened.0 c.in-Some.ensures.cases.0 opened.1 opened.2.sound c.requires exact;
     }
