@@ -128,11 +128,12 @@ fn run(alloc: Global, asked: &Asked, line: Script) -> Ran {
     }
 }
 
-/// What a run wrote and told.
+/// What a run wrote and told, and whether it read with room for other than 4,096 bytes.
 fn push_ran(row: &mut Row, ran: &Ran) {
     row.bytes(ran.line.written.as_slice());
     row.word(" ");
     row.join(&ran.told);
+    row.word_if(ran.line.other_rooms > 0, " but other rooms");
 }
 
 fn copied(row: &mut Row, pieces: &[Vec<u8>]) -> Vec<Vec<u8>> {

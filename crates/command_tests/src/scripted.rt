@@ -30,6 +30,8 @@ pub(crate) struct Script {
     pub(crate) calls: usize,
     pub(crate) fails_at: usize,
     pub(crate) read_failed: bool,
+    /// How many reads had room for other than 4,096 bytes.
+    pub(crate) other_rooms: usize,
 }
 
 impl Script {
@@ -96,6 +98,7 @@ pub(crate) fn script_of(
         calls: 0,
         fails_at,
         read_failed: false,
+        other_rooms: 0,
     }
 }
 
@@ -105,6 +108,9 @@ fn failure() -> io::Error {
 
 impl Read for Script {
     fn read(&mut self, buf: &mut [u8]) -> io::Result<usize> {
+        if buf.len() != 4_096 {
+            self.other_rooms = self.other_rooms.saturating_add(1);
+        }
         if self.fails() || self.is_early() {
             self.read_failed = true;
             return Err(failure());

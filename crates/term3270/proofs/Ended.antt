@@ -12,6 +12,7 @@ use Rattle.term_commands.specs.Printed.{Printed, printed}
 use Rattle.term_commands.specs.Streams.{AppendsFront, Finishes, IsStopped, IsWantOrFailure, IsWritten, Prints}
 use Rattle.tn_cores.specs.declared.device.Device.{Device}
 use Rattle.term_sessions.specs.Prepare.{Prepared, ready, stops}
+use Rattle.term_sessions.specs.Printing.{Printing}
 use Rattle.term_sessions.proofs.Serving.{appends_none}
 use Rattle.term3270.specs.Sessions.{AttachesNamed, HasFailed, ServesPrepared}
 
@@ -29,10 +30,10 @@ failed_prints old new status due stopped = subst (λ s. Prints old new s due) (s
 wanting_prints : (old new : Option (List ℕ)) (status : Status) (due : Printed) → IsStopped old new NoMemory status → Prints old new status due
 wanting_prints old new status due stopped = subst (λ s. Prints old new s due) (sym stopped.0) (nothing old new due.text stopped.1)
 
-failed_fails : (old new : Option (List ℕ)) (status : Status) → IsStopped old new Failed status → HasFailed old new status
+failed_fails : (old new : Printing) (status : Status) → IsStopped old.written new.written Failed status → HasFailed old new status
 failed_fails old new status stopped = (subst IsWantOrFailure (sym stopped.0) tt, stopped.1)
 
-wanting_fails : (old new : Option (List ℕ)) (status : Status) → IsStopped old new NoMemory status → HasFailed old new status
+wanting_fails : (old new : Printing) (status : Status) → IsStopped old.written new.written NoMemory status → HasFailed old new status
 wanting_fails old new status stopped = (subst IsWantOrFailure (sym stopped.0) tt, stopped.1)
 
 -- the line of a fault
@@ -42,22 +43,22 @@ told_prints old new status text (inl (inl whole)) = subst (λ s. Prints old new 
 told_prints old new status text (inl (inr part)) = subst (λ s. Prints old new s (printed text BadInput)) (sym part.0) part.1
 told_prints old new status text (inr stopped) = wanting_prints old new status (printed text BadInput) stopped
 
-pub serve_ends : {H : Type 0} (view : H → Prepared) (count : ℕ) (old new : Option (List ℕ)) (status : Status) (error : CommandError) (due : Result Prepared Fault)
-    → GivesOrFails view (Err error) due → Finishes old new (Err error) status → ServesPrepared count old new status due
+pub serve_ends : {H : Type 0} (view : H → Prepared) (count : ℕ) (old new : Printing) (status : Status) (error : CommandError) (due : Result Prepared Fault)
+    → GivesOrFails view (Err error) due → Finishes old.written new.written (Err error) status → ServesPrepared count old new status due
 serve_ends view count old new status (Told fault) due gives ends =
-    subst (ServesPrepared count old new status) (sym gives) (told_prints old new status (fault_line fault) ends)
-serve_ends view count old new status ReadFailed (Err fault) gives ends = failed_prints old new status (printed (fault_line fault) BadInput) ends
-serve_ends view count old new status ReadFailed (Ok (stops answer)) gives ends = failed_prints old new status answer ends
+    subst (ServesPrepared count old new status) (sym gives) (told_prints old.written new.written status (fault_line fault) ends)
+serve_ends view count old new status ReadFailed (Err fault) gives ends = failed_prints old.written new.written status (printed (fault_line fault) BadInput) ends
+serve_ends view count old new status ReadFailed (Ok (stops answer)) gives ends = failed_prints old.written new.written status answer ends
 serve_ends view count old new status ReadFailed (Ok (ready layout records)) gives ends = inr (failed_fails old new status ends)
-serve_ends view count old new status OutOfMemory (Err fault) gives ends = wanting_prints old new status (printed (fault_line fault) BadInput) ends
-serve_ends view count old new status OutOfMemory (Ok (stops answer)) gives ends = wanting_prints old new status answer ends
+serve_ends view count old new status OutOfMemory (Err fault) gives ends = wanting_prints old.written new.written status (printed (fault_line fault) BadInput) ends
+serve_ends view count old new status OutOfMemory (Ok (stops answer)) gives ends = wanting_prints old.written new.written status answer ends
 serve_ends view count old new status OutOfMemory (Ok (ready layout records)) gives ends = inr (wanting_fails old new status ends)
 
-pub attach_ends : {H : Type 0} (view : H → List Key) (device : Device) (old new : Option (List ℕ)) (status : Status) (error : CommandError) (due : Result (List Key) Fault)
-    → GivesOrFails view (Err error) due → Finishes old new (Err error) status → AttachesNamed device old new status due
+pub attach_ends : {H : Type 0} (view : H → List Key) (device : Device) (old new : Printing) (status : Status) (error : CommandError) (due : Result (List Key) Fault)
+    → GivesOrFails view (Err error) due → Finishes old.written new.written (Err error) status → AttachesNamed device old new status due
 attach_ends view device old new status (Told fault) due gives ends =
-    subst (AttachesNamed device old new status) (sym gives) (told_prints old new status (fault_line fault) ends)
-attach_ends view device old new status ReadFailed (Err fault) gives ends = failed_prints old new status (printed (fault_line fault) BadInput) ends
+    subst (AttachesNamed device old new status) (sym gives) (told_prints old.written new.written status (fault_line fault) ends)
+attach_ends view device old new status ReadFailed (Err fault) gives ends = failed_prints old.written new.written status (printed (fault_line fault) BadInput) ends
 attach_ends view device old new status ReadFailed (Ok keys) gives ends = inr (failed_fails old new status ends)
-attach_ends view device old new status OutOfMemory (Err fault) gives ends = wanting_prints old new status (printed (fault_line fault) BadInput) ends
+attach_ends view device old new status OutOfMemory (Err fault) gives ends = wanting_prints old.written new.written status (printed (fault_line fault) BadInput) ends
 attach_ends view device old new status OutOfMemory (Ok keys) gives ends = inr (wanting_fails old new status ends)

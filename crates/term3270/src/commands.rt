@@ -17,6 +17,7 @@ use term_commands::{
 use term_drafts::run_draft;
 use term_findings::{Paths, Report, run_report};
 use term_pictures::{Annotated, Drawing, run_annotated, run_picture};
+use term_sessions::Output;
 use term_traces::{Asked, Source, run_records};
 use tn_traces::Side;
 
@@ -142,14 +143,14 @@ pub(crate) fn serve(rt: &HostRuntime, layout: &str, place: Place<'_>, count: u16
         &mut input(rt),
         place,
         count,
-        &mut output(rt),
+        &mut Output::new(output(rt)),
     )
 }
 
 /// `attach`, with the keys of a file.
 pub(crate) fn attach(rt: &HostRuntime, place: Place<'_>, keys: &str, device: &str) -> Status {
     let mut keys = file_at(rt, keys);
-    run_attach(rt, place, &mut keys, device, &mut output(rt))
+    run_attach(rt, place, &mut keys, device, &mut Output::new(output(rt)))
 }
 
 /// Runs `check` on a layout's file and these records.

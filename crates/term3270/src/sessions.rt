@@ -1,21 +1,20 @@
 //! The commands `serve` and `attach`, from their inputs to the net.
 
-ghost use Rattle.std.specs.Prelude.{◌≡◌, ◌⊎◌, List, [], IfSome, None, Some};
+ghost use Rattle.std.specs.Prelude.{◌≡◌, ◌⊎◌, IfSome, None, Some};
 ghost use Rattle.tn_cores.specs.declared.device.Device.{Device};
 ghost use Rattle.term_commands.specs.declared.status.Status.TheVariants.{BadInput};
 ghost use Rattle.term_commands.specs.Held.{records_held};
 ghost use Rattle.term_commands.specs.Keys.{keys_in};
 ghost use Rattle.tn_cores.specs.Devices.{device_of};
-ghost use Rattle.tn_session.specs.Wire.{WireState};
 ghost use Rattle.term_sessions.specs.Prepare.{prepare};
-ghost use Rattle.term_sessions.specs.Serve.{Serves, serving};
-ghost use Rattle.term3270.specs.Sessions.{sockets, AttachesNamed, AttachesSocket, HasFailed, ServesPrepared};
+ghost use Rattle.term_sessions.specs.Serve.{ServesAnew};
+ghost use Rattle.term3270.specs.Sessions.{AttachesNamed, AttachesSocket, HasFailed, ServesPrepared};
 
 use crate::tcp::{Listening, Place, TcpLine};
 use ds_keys::Key;
 use std::io::{Read, Write};
 use term_commands::{Status, finish, read_keys};
-use term_sessions::{Prepared, Screen, Visits, attach_on, prepare_serve, serve_on};
+use term_sessions::{Output, Prepared, Screen, Visits, attach_on, prepare_serve, serve_on};
 use tn_session::Device;
 
 /// Serves a layout's screen at a place to so many terminals. The port is bound once the screen is found fit.
@@ -25,10 +24,10 @@ pub(crate) fn run_serve<L: Read, R: Read, W: Write>(
     records: &mut R,
     place: Place<'_>,
     count: u16,
-    output: &mut W,
+    output: &mut Output<W>,
 ) -> Status
     ensures { IfSome (L.remaining layout.old) (λ text. IfSome (R.remaining records.old) (λ input.
-        ServesPrepared count (W.contents output.old) (W.contents output.new) result (prepare text input))) }
+        ServesPrepared count output.old output.new result (prepare text input))) }
 {
     match prepare_serve(rt.alloc(), layout, records) {
         Ok(Prepared::Ready(screen)) => serve_at(rt, place, &screen, count, output),
@@ -42,12 +41,11 @@ fn serve_at<W: Write>(
     place: Place<'_>,
     screen: &Screen,
     count: u16,
-    output: &mut W,
+    output: &mut Output<W>,
 ) -> Status
-    ensures { ((gone : List WireState) × Serves screen.now.layout
-        (records_held screen.now.records.items) count (serving (sockets []) (W.contents output.old))
-        (serving (sockets gone) (W.contents output.new)) result)
-        ⊎ HasFailed (W.contents output.old) (W.contents output.new) result }
+    ensures { ServesAnew screen.now.layout (records_held screen.now.records.items) count
+        output.old output.new result
+        ⊎ HasFailed output.old output.new result }
 {
     match Listening::at(rt, place) {
         Ok(listening) => {
@@ -65,13 +63,13 @@ pub(crate) fn run_attach<K: Read, W: Write>(
     place: Place<'_>,
     keys: &mut K,
     device: &str,
-    output: &mut W,
+    output: &mut Output<W>,
 ) -> Status
     ensures unknown { device_of device.now ≡ None
         → (result ≡ BadInput) × (keys.new ≡ keys.old) × (output.new ≡ output.old) }
     ensures attaches { (known : Device) → device_of device.now ≡ Some known
-        → IfSome (K.remaining keys.old) (λ lines. AttachesNamed known (W.contents output.old)
-        (W.contents output.new) result (keys_in lines)) }
+        → IfSome (K.remaining keys.old) (λ lines. AttachesNamed known output.old
+        output.new result (keys_in lines)) }
 {
     let Some(device) = Device::from_name(device.as_bytes()) else {
         let _ = eprintln!(rt; "unknown device");
@@ -88,10 +86,10 @@ fn attach_at<W: Write>(
     place: Place<'_>,
     device: Device,
     keys: &[Key],
-    output: &mut W,
+    output: &mut Output<W>,
 ) -> Status
-    ensures { AttachesSocket device keys.now (W.contents output.old) (W.contents output.new) result
-        ⊎ HasFailed (W.contents output.old) (W.contents output.new) result }
+    ensures { AttachesSocket device keys.now output.old output.new result
+        ⊎ HasFailed output.old output.new result }
 {
     match TcpLine::to(rt, place) {
         Ok(line) => {

@@ -124,6 +124,13 @@ Serves layout records count old new Failed = ServesAll layout records 1 count ol
 Serves layout records count old new NoMemory = (new ≡ old) ⊎ ServesSome layout records count old new NoMemory
 Serves layout records count old new status = ⊥
 
+-- terminals that come from the first on, of which none is known before
+abbrev pub ServesAnew : Declaration → List (List ℕ) → ℕ → Printing → Printing → Status → Type 0
+ServesAnew layout records count old new status =
+    (gone : List WireState) × (missing : List ErrorKind)
+    × Serves layout records count (serving (record { coming = None; gone = []; missing = [] }) old)
+    (serving (record { coming = None; gone = gone; missing = missing }) new) status
+
 -- ---- as the program goes on
 
 -- so many terminals: whether a session failed, or the status with which the command ends early

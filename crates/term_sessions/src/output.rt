@@ -5,13 +5,14 @@ ghost use Rattle.std.specs.String.{string_bytes};
 ghost use Rattle.term_sessions.specs.Printing.{IsPrinted};
 
 use std::alloc::Global;
+use std::io;
 use std::io::Write;
 use std::marker::Model;
 use term_commands::{Answer, Status, finish};
 use tn_session::History;
 
-/// A writer, with how many texts it couldn't take, for contracts to see. It is written to here alone, so where a command says
-/// that a write failed, one did.
+/// A writer, with how many of the texts that were printed to it it couldn't take, for contracts to see: where a command says
+/// that a write failed, one did. Only this file counts them.
 #[derive(Drop)]
 pub struct Output<W: Write> {
     writer: W,
@@ -63,5 +64,17 @@ impl<W: Write> Output<W> {
     {
         let Output { writer, .. } = self;
         writer
+    }
+}
+
+impl<W: Write> Write for Output<W> {
+    ghost contents = { λ o. o.written };
+
+    fn write(&mut self, buf: &[u8]) -> io::Result<usize> {
+        self.writer.write(buf)
+    }
+
+    fn flush(&mut self) -> io::Result<()> {
+        self.writer.flush()
     }
 }
