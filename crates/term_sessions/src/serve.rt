@@ -10,8 +10,7 @@ use crate::session::{host_session, session_text};
 use crate::terminals::{Terminals, Visits};
 use scr_layout::Layout;
 use std::alloc::{AllocError, Global};
-use std::io::Write;
-use term_commands::{Answer, Status, failure, finish};
+use term_commands::{Answer, Status, TakesBytes, failure, finish};
 use tn_session::{HostOutcome, RunFault, Wire};
 
 /// The records as slices.
@@ -26,7 +25,7 @@ fn lent<'a>(alloc: Global, records: &'a [Vec<u8>]) -> Result<Vec<&'a [u8]>, Allo
 }
 
 /// Writes the lines of the terminal of this number, and flushes. Else the status with which the command ends.
-fn write_session<W: Write>(
+fn write_session<W: TakesBytes>(
     alloc: Global,
     writer: &mut W,
     layout: &Layout,
@@ -57,7 +56,7 @@ fn is_failed(session: &Result<HostOutcome, RunFault>) -> bool
 }
 
 /// Serves the next terminal, and writes its lines: whether its session failed. Else the status with which the command ends.
-fn serve_next<T: Terminals, W: Write>(
+fn serve_next<T: Terminals, W: TakesBytes>(
     alloc: Global,
     terminals: &mut Visits<T>,
     layout: &Layout,
@@ -87,7 +86,7 @@ fn serve_next<T: Terminals, W: Write>(
 
 /// Serves so many terminals, one after the other: whether the session of any failed. Else the status with which the command
 /// ends.
-fn serve_each<T: Terminals, W: Write>(
+fn serve_each<T: Terminals, W: TakesBytes>(
     alloc: Global,
     terminals: &mut Visits<T>,
     layout: &Layout,
@@ -114,7 +113,7 @@ fn serve_each<T: Terminals, W: Write>(
 /// of its answer; or `terminal K fault` and the fault's number. Its lines are written and flushed before the next terminal is
 /// waited for. The status is `Failed` where any session failed, a terminal can't be had, or a write failed, `NoMemory` where
 /// memory was refused; the last three end the command, and a front of the text was written.
-pub fn serve_on<T: Terminals, W: Write>(
+pub fn serve_on<T: Terminals, W: TakesBytes>(
     alloc: Global,
     terminals: &mut Visits<T>,
     screen: &Screen,
