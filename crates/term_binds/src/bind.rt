@@ -1,7 +1,8 @@
 //! The command `bind`: answers read back into the fields of a layout.
 
-ghost use Rattle.std.specs.Prelude.{◌≡◌, ◌++◌, IfErr, IfOk, IfSome, OnOk};
+ghost use Rattle.std.specs.Prelude.{◌≡◌, ◌+◌, ◌++◌, IfErr, IfOk, IfSome, OnOk};
 ghost use Rattle.std.specs.String.{string_bytes};
+ghost use Rattle.term_commands.specs.Causes.{EndsBy, ToldBy};
 ghost use Rattle.term_commands.specs.Fault.{Gives, GivesOrFails};
 ghost use Rattle.term_commands.specs.Held.{answer_seen, records_held};
 ghost use Rattle.term_commands.specs.LayoutText.{layout_in};
@@ -12,10 +13,9 @@ use crate::fields::Form;
 use crate::lines::push_answer;
 use scr_layout::Layout;
 use std::alloc::{AllocError, Global};
-use std::io::{Read, Write};
 use term_commands::{
-    Answer, CommandError, SizeLine, Status, finish, layout_in, read_layout, read_records,
-    records_in,
+    Answer, CommandError, GivesBytes, SizeLine, Status, TakesBytes, finish, layout_in, read_layout,
+    read_records, records_in,
 };
 
 /// The lines of answers in turn; whether all of them are bound.
@@ -76,14 +76,15 @@ fn bind_answers(
 }
 
 /// What `bind` answers to a layout and to answers that are read.
-fn bind_read_answers<R: Read>(
+fn bind_read_answers<R: GivesBytes>(
     alloc: Global,
     layout: &Layout,
     reader: &mut R,
     form: Form,
 ) -> Result<Answer, CommandError>
-    ensures { IfSome (R.remaining reader.old)
+    ensures answer { IfSome (R.remaining reader.old)
         (λ input. GivesOrFails answer_seen result (bind_answers form layout.now input)) }
+    ensures cause { ToldBy (R.failures reader.old) (R.failures reader.new) result }
 {
     let told = read_records(alloc, reader, SizeLine::Refused)?;
     Ok(answers_text(alloc, form, layout, told.records.as_slice())?)
@@ -106,7 +107,7 @@ pub fn bind_texts(
     bind_answers(alloc, &layout, answers, form)
 }
 
-fn bind_read<L: Read, R: Read>(
+fn bind_read<L: GivesBytes, R: GivesBytes>(
     alloc: Global,
     layout: &mut L,
     reader: &mut R,
@@ -114,6 +115,8 @@ fn bind_read<L: Read, R: Read>(
 ) -> Result<Answer, CommandError>
     ensures answer { IfSome (L.remaining layout.old) (λ text. IfSome (R.remaining
         reader.old) (λ input. GivesOrFails answer_seen result (bind form text input))) }
+    ensures cause { ToldBy (L.failures layout.old + R.failures reader.old)
+        (L.failures layout.new + R.failures reader.new) result }
     ensures unread { IfSome (L.remaining layout.old) (λ text. IfErr (layout_in text) (λ fault.
         reader.new ≡ reader.old)) }
 {
@@ -128,7 +131,7 @@ fn bind_read<L: Read, R: Read>(
 /// first alone is printed. Answers aren't read where the layout has a fault. The sizes are the layout's, so a line of
 /// sizes is bad. At most 16,777,216 bytes of either, 1,000 answers of 32,768 bytes. After a read or a write that
 /// failed the status is `Failed`, where memory was refused `NoMemory`, and a front of the text was written.
-pub fn run_bind<L: Read, R: Read, W: Write>(
+pub fn run_bind<L: GivesBytes, R: GivesBytes, W: TakesBytes>(
     alloc: Global,
     layout: &mut L,
     reader: &mut R,
@@ -138,6 +141,11 @@ pub fn run_bind<L: Read, R: Read, W: Write>(
     ensures prints { IfSome (L.remaining layout.old) (λ text. IfSome (R.remaining
         reader.old) (λ input.
         Prints (W.contents writer.old) (W.contents writer.new) result (printed_bind form text input))) }
+    ensures cause { IfSome (L.remaining layout.old) (λ text. IfSome (R.remaining
+        reader.old) (λ input.
+        EndsBy (L.failures layout.old + R.failures reader.old + W.failures writer.old)
+        (L.failures layout.new + R.failures reader.new + W.failures writer.new)
+        (printed_bind form text input).status result)) }
     ensures unread { IfSome (L.remaining layout.old) (λ text. IfErr (layout_in text) (λ fault.
         reader.new ≡ reader.old)) }
 {

@@ -1,7 +1,8 @@
 //! The command `show` with a layout.
 
-ghost use Rattle.std.specs.Prelude.{◌≡◌, IfErr, IfOk, IfSome, string_bytes};
+ghost use Rattle.std.specs.Prelude.{◌≡◌, ◌+◌, IfErr, IfOk, IfSome, string_bytes};
 ghost use Rattle.scr_check.specs.Findings.{answer_of};
+ghost use Rattle.term_commands.specs.Causes.{EndsBy, ToldBy};
 ghost use Rattle.term_commands.specs.Fault.{Gives, GivesOrFails};
 ghost use Rattle.term_commands.specs.Held.{answer_seen, records_held};
 ghost use Rattle.term_commands.specs.LayoutText.{layout_in};
@@ -16,10 +17,9 @@ use ds_screen::{PlaneCells, Screen};
 use scr_check::{Finding, Verdict, check};
 use scr_layout::{Entry, Layout};
 use std::alloc::{AllocError, Global};
-use std::io::{Read, Write};
 use term_commands::{
-    Answer, CommandError, SizeLine, Status, finish, layout_in, lent, read_layout, read_records,
-    records_in, shown_on,
+    Answer, CommandError, GivesBytes, SizeLine, Status, TakesBytes, finish, layout_in, lent,
+    read_layout, read_records, records_in, shown_on,
 };
 
 /// In which form a screen is drawn with its layout.
@@ -113,14 +113,15 @@ fn annotated_records(
 }
 
 /// The same of records that are read.
-fn annotated_read_records<R: Read>(
+fn annotated_read_records<R: GivesBytes>(
     alloc: Global,
     form: Annotated,
     layout: &Layout,
     reader: &mut R,
 ) -> Result<Answer, CommandError>
-    ensures { IfSome (R.remaining reader.old) (λ input. GivesOrFails answer_seen result
+    ensures answer { IfSome (R.remaining reader.old) (λ input. GivesOrFails answer_seen result
         (annotated_records form layout.now input)) }
+    ensures cause { ToldBy (R.failures reader.old) (R.failures reader.new) result }
 {
     let told = read_records(alloc, reader, SizeLine::Refused)?;
     annotated_told(alloc, form, layout, told.records.as_slice())
@@ -144,7 +145,7 @@ pub fn annotated_text(
     annotated_records(alloc, form, &layout, records)
 }
 
-fn annotated_read<L: Read, R: Read>(
+fn annotated_read<L: GivesBytes, R: GivesBytes>(
     alloc: Global,
     form: Annotated,
     layout: &mut L,
@@ -152,6 +153,8 @@ fn annotated_read<L: Read, R: Read>(
 ) -> Result<Answer, CommandError>
     ensures answer { IfSome (L.remaining layout.old) (λ text. IfSome (R.remaining
         reader.old) (λ input. GivesOrFails answer_seen result (annotated form text input))) }
+    ensures cause { ToldBy (L.failures layout.old + R.failures reader.old)
+        (L.failures layout.new + R.failures reader.new) result }
     ensures unread { IfSome (L.remaining layout.old) (λ text. IfErr (layout_in text) (λ fault.
         reader.new ≡ reader.old)) }
 {
@@ -165,7 +168,7 @@ fn annotated_read<L: Read, R: Read>(
 /// Records aren't read where the layout has a fault. The sizes are the layout's, so a line of sizes is bad. At most
 /// 16,777,216 bytes of either, 1,000 records of 32,768 bytes. After a read or a write that failed the status is `Failed`,
 /// where memory was refused `NoMemory`, and a front of the text was written.
-pub fn run_annotated<L: Read, R: Read, W: Write>(
+pub fn run_annotated<L: GivesBytes, R: GivesBytes, W: TakesBytes>(
     alloc: Global,
     form: Annotated,
     layout: &mut L,
@@ -176,6 +179,11 @@ pub fn run_annotated<L: Read, R: Read, W: Write>(
         reader.old) (λ input.
         Prints (W.contents writer.old) (W.contents writer.new) result
         (printed_annotated form text input))) }
+    ensures cause { IfSome (L.remaining layout.old) (λ text. IfSome (R.remaining
+        reader.old) (λ input.
+        EndsBy (L.failures layout.old + R.failures reader.old + W.failures writer.old)
+        (L.failures layout.new + R.failures reader.new + W.failures writer.new)
+        (printed_annotated form text input).status result)) }
     ensures unread { IfSome (L.remaining layout.old) (λ text. IfErr (layout_in text) (λ fault.
         reader.new ≡ reader.old)) }
 {

@@ -1,6 +1,7 @@
 //! The command `show` in the further forms.
 
-ghost use Rattle.std.specs.Prelude.{◌≡◌, IfOk, IfSome, string_bytes};
+ghost use Rattle.std.specs.Prelude.{◌≡◌, ◌+◌, IfOk, IfSome, string_bytes};
+ghost use Rattle.term_commands.specs.Causes.{EndsBy, ToldBy};
 ghost use Rattle.term_commands.specs.Fault.{Gives, GivesOrFails};
 ghost use Rattle.term_commands.specs.Held.{answer_seen, records_seen};
 ghost use Rattle.term_commands.specs.Printed.{printed};
@@ -15,9 +16,9 @@ use crate::json::push_json;
 use crate::svg::push_svg;
 use ds_screen::{PlaneCells, Screen};
 use std::alloc::{AllocError, Global};
-use std::io::{Read, Write};
 use term_commands::{
-    Answer, CommandError, Records, SizeLine, Status, finish, read_records, records_in, shown_on,
+    Answer, CommandError, GivesBytes, Records, SizeLine, Status, TakesBytes, finish, read_records,
+    records_in, shown_on,
 };
 
 /// The text of a screen in a form.
@@ -69,13 +70,14 @@ pub fn picture_text(alloc: Global, drawing: Drawing, records: &[u8]) -> Result<A
     picture_told(alloc, drawing, &told)
 }
 
-fn picture_records<R: Read>(
+fn picture_records<R: GivesBytes>(
     alloc: Global,
     drawing: Drawing,
     reader: &mut R,
 ) -> Result<Answer, CommandError>
-    ensures { IfSome (R.remaining reader.old) (λ input.
+    ensures answer { IfSome (R.remaining reader.old) (λ input.
         GivesOrFails answer_seen result (pictured drawing input)) }
+    ensures cause { ToldBy (R.failures reader.old) (R.failures reader.new) result }
 {
     let told = read_records(alloc, reader, SizeLine::Allowed)?;
     picture_told(alloc, drawing, &told)
@@ -85,15 +87,18 @@ fn picture_records<R: Read>(
 /// fault of the lines, or the first record that is refused. At most 16,777,216 bytes, 1,000 records of 32,768 bytes. After
 /// a read or a write that failed the status is `Failed`, where memory was refused `NoMemory`, and a front of the text was
 /// written.
-pub fn run_picture<R: Read, W: Write>(
+pub fn run_picture<R: GivesBytes, W: TakesBytes>(
     alloc: Global,
     drawing: Drawing,
     reader: &mut R,
     writer: &mut W,
 ) -> Status
-    ensures { IfSome (R.remaining reader.old) (λ input.
+    ensures prints { IfSome (R.remaining reader.old) (λ input.
         Prints (W.contents writer.old) (W.contents writer.new) result
         (printed_picture drawing input)) }
+    ensures cause { IfSome (R.remaining reader.old) (λ input.
+        EndsBy (R.failures reader.old + W.failures writer.old)
+        (R.failures reader.new + W.failures writer.new) (printed_picture drawing input).status result) }
 {
     let answer = picture_records(alloc, drawing, reader);
     finish(alloc, writer, answer)

@@ -13,7 +13,7 @@ use crate::session::flushed;
 use ds_keys::Key;
 use std::alloc::{AllocError, Global};
 use std::io::{Read, Write};
-use term_commands::{Answer, Status};
+use term_commands::{Answer, Status, TakesBytes};
 use tn_session::{Device, Report, RunEnd, RunFault, Wire, terminal_run};
 
 /// A terminal's session over a wire: TN3270E with RESPONSES where the host asks for it, else classic TN3270.
@@ -86,7 +86,7 @@ fn session_answer(alloc: Global, session: Result<Report, RunFault>) -> Result<An
     }
 }
 
-fn print_session<W: Write>(
+fn print_session<W: TakesBytes>(
     alloc: Global,
     session: Result<Report, RunFault>,
     output: &mut Output<W>,
@@ -110,7 +110,7 @@ fn print_session<W: Write>(
 /// the keys; prints `answers A passed B refused C end E`, where E is `keys` or `closed`, or `fault` and the fault's number.
 /// The status is `Done`, or `Failed` where the session or a write failed, or `NoMemory` where memory was refused. With it
 /// comes the wire that was made of the line, by which a caller sees what passed and why the line stopped.
-pub fn attach_on<L: Read + Write, W: Write>(
+pub fn attach_on<L: Read + Write, W: TakesBytes>(
     alloc: Global,
     line: L,
     device: Device,

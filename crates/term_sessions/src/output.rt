@@ -5,21 +5,19 @@ ghost use Rattle.std.specs.String.{string_bytes};
 ghost use Rattle.term_sessions.specs.Printing.{IsPrinted};
 
 use std::alloc::Global;
-use std::io;
-use std::io::Write;
 use std::marker::Model;
-use term_commands::{Answer, Status, finish};
+use term_commands::{Answer, Status, TakesBytes, finish};
 use tn_session::History;
 
 /// A writer, with how many of the texts that were printed to it it couldn't take, for contracts to see: where a command says
 /// that a write failed, one did. Only this file counts them.
 #[derive(Drop)]
-pub struct Output<W: Write> {
+pub struct Output<W: TakesBytes> {
     writer: W,
     failures: History<()>,
 }
 
-impl<W: Write> Model for Output<W> {
+impl<W: TakesBytes> Model for Output<W> {
     ghost use Rattle.std.specs.Prelude.{length};
     ghost use Rattle.term_sessions.specs.Printing.{Printing};
 
@@ -31,7 +29,7 @@ impl<W: Write> Model for Output<W> {
     } };
 }
 
-impl<W: Write> Output<W> {
+impl<W: TakesBytes> Output<W> {
     ghost use Rattle.term_sessions.specs.Printing.{printing};
 
     /// A writer to which nothing was printed.
@@ -67,14 +65,24 @@ impl<W: Write> Output<W> {
     }
 }
 
-impl<W: Write> Write for Output<W> {
+impl<W: TakesBytes> TakesBytes for Output<W> {
     ghost contents = { λ o. o.written };
 
-    fn write(&mut self, buf: &[u8]) -> io::Result<usize> {
-        self.writer.write(buf)
+    ghost failures = { λ o. o.failures };
+
+    fn put(&mut self, bytes: &[u8]) -> Option<usize> {
+        let taken = self.writer.put(bytes);
+        if taken.is_none() {
+            self.failures = self.failures.and(&());
+        }
+        taken
     }
 
-    fn flush(&mut self) -> io::Result<()> {
-        self.writer.flush()
+    fn pass_on(&mut self) -> Option<()> {
+        let passed = self.writer.pass_on();
+        if passed.is_none() {
+            self.failures = self.failures.and(&());
+        }
+        passed
     }
 }

@@ -9,9 +9,9 @@ ghost use Rattle.term_sessions.specs.Held.{prepared_seen};
 
 use scr_layout::Layout;
 use std::alloc::{AllocError, Global};
-use std::io::Read;
 use term_commands::{
-    Answer, CommandError, Demos, SizeLine, Status, check_answer, read_layout, read_records,
+    Answer, CommandError, Demos, GivesBytes, SizeLine, Status, check_answer, read_layout,
+    read_records,
 };
 use tn_session::HostCore;
 
@@ -71,7 +71,7 @@ fn judge(alloc: Global, layout: Layout, records: Vec<Vec<u8>>) -> Result<Prepare
 /// # Errors
 ///
 /// The first fault of the layout, then of the records' lines; a read that failed; out of memory.
-pub fn prepare_serve<L: Read, R: Read>(
+pub fn prepare_serve<L: GivesBytes, R: GivesBytes>(
     alloc: Global,
     layout: &mut L,
     reader: &mut R,

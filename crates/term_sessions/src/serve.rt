@@ -11,8 +11,7 @@ use crate::session::{host_session, session_text};
 use crate::terminals::{Terminals, Visits};
 use scr_layout::Layout;
 use std::alloc::{AllocError, Global};
-use std::io::Write;
-use term_commands::{Status, failure};
+use term_commands::{Status, TakesBytes, failure};
 use tn_session::{HostOutcome, RunFault, Wire};
 
 /// The records as slices.
@@ -27,7 +26,7 @@ fn lent<'a>(alloc: Global, records: &'a [Vec<u8>]) -> Result<Vec<&'a [u8]>, Allo
 }
 
 /// Writes the lines of the terminal of this number, and flushes. Else the status with which the command ends.
-fn write_session<W: Write>(
+fn write_session<W: TakesBytes>(
     alloc: Global,
     output: &mut Output<W>,
     layout: &Layout,
@@ -67,7 +66,7 @@ fn is_told(session: &Result<HostOutcome, RunFault>) -> bool
 }
 
 /// Serves the next terminal, and writes its lines: whether its session failed. Else the status with which the command ends.
-fn serve_next<T: Terminals, W: Write>(
+fn serve_next<T: Terminals, W: TakesBytes>(
     alloc: Global,
     terminals: &mut Visits<T>,
     layout: &Layout,
@@ -97,7 +96,7 @@ fn serve_next<T: Terminals, W: Write>(
 
 /// Serves so many terminals, one after the other: whether the session of any failed. Else the status with which the command
 /// ends.
-fn serve_each<T: Terminals, W: Write>(
+fn serve_each<T: Terminals, W: TakesBytes>(
     alloc: Global,
     terminals: &mut Visits<T>,
     layout: &Layout,
@@ -125,7 +124,7 @@ fn serve_each<T: Terminals, W: Write>(
 /// waited for. The status is `Failed` where any session failed, a terminal can't be had, or a write failed, `NoMemory` where
 /// memory was refused; the last three end the command, and a front of the text was written.
 #[tactic(auto, using(crate::proofs::Serving::serves_early))]
-pub fn serve_on<T: Terminals, W: Write>(
+pub fn serve_on<T: Terminals, W: TakesBytes>(
     alloc: Global,
     terminals: &mut Visits<T>,
     screen: &Screen,

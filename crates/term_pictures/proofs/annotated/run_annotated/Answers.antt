@@ -4,5 +4,5 @@ use Rattle.term_pictures.proofs.annotated.run_annotated.Goals as goal
 
 pub returns-clause-prints : goal.returns-clause-prints
 returns-clause-prints g c =
-    both_finished (annotated c.args.form) (g.L.Read.remaining c.args.layout.now) (g.R.Read.remaining c.args.reader.now) (g.W.Write.contents c.args.writer.now) _
-    c.annotated_read-answer.result c.finish.result c.annotated_read-answer.ensures.answer c.finish.ensures
+    both_finished (annotated c.args.form) (g.L.GivesBytes.remaining c.args.layout.now) (g.R.GivesBytes.remaining c.args.reader.now) (g.W.TakesBytes.contents c.args.writer.now) _
+    c.annotated_read-answer.result c.finish.result c.annotated_read-answer.ensures.answer c.finish.ensures.writes
