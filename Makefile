@@ -9,7 +9,7 @@
 # make install PREFIX=/usr/local   puts the program, the C library with its header, the manual page and the completions
 #             below PREFIX; with DESTDIR=FOLDER below that folder, for a package
 # make dist   packs what make install puts, with the documents and examples: dist/takvorn-VERSION-linux-x86_64.tar.gz and,
-#             where dpkg-deb is installed, dist/takvorn_VERSION_amd64.deb
+#             where dpkg-dev is installed, dist/takvorn_VERSION_amd64.deb
 RT := $(shell command -v rt 2>/dev/null)
 BUILT := crates/term3270/out/term3270
 WIRE := crates/parts_tests/out/parts_tests

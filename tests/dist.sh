@@ -55,7 +55,7 @@ try_tree() { # WHAT PREFIX LIBDIR
 mkdir "$work/tree" && tar -C "$work/tree" -xzf "$work"/one/*.tar.gz
 try_tree "the archive" "$work/tree" lib
 cd "$root" || exit 1
-if has dpkg-deb "the package"; then
+if has dpkg-deb "the package" && has dpkg-shlibdeps "the package"; then
   dpkg-deb -x "$work"/one/*.deb "$work/system"
   try_tree "the package" "$work/system/usr" lib/x86_64-linux-gnu "--define-variable=prefix=$work/system/usr"
   if has lintian "what Debian says of the package"; then
