@@ -196,6 +196,9 @@ fn push_findings(row: &mut Row, findings: &[Finding]) {
 fn push_laws(row: &mut Row) {
     scr_check::bind_law();
     scr_check::yes_law();
+    scr_draft::drafts_law();
+    scr_draft::free_name_law();
+    scr_draft::label_law();
     ds_keys::shape_law();
     order_lines::line_law();
     order_lines::record_law();

@@ -4,12 +4,12 @@ ghost use Rattle.scr_draft.specs.Laws.{DraftsAreLayouts, NamesAreFree, LabelsAre
 
 /// Of a screen with at most 1,000 fields to declare a draft is printed. Its text says a layout: each name is lawful, and none
 /// comes twice.
-pub fn draft_law()
+pub fn drafts_law()
     ensures { DraftsAreLayouts }
 {}
 
 /// Whatever a field's label and the names before it, one form of its name is none of these, and it gets the first.
-pub fn names_law()
+pub fn free_name_law()
     ensures { NamesAreFree }
 {}
 

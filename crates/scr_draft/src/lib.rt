@@ -12,5 +12,5 @@ mod opening;
 mod text;
 
 pub use drafting::draft;
-pub use laws::{draft_law, label_law, names_law};
+pub use laws::{drafts_law, free_name_law, label_law};
 pub use opening::{Opened, open};
