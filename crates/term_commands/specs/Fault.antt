@@ -34,7 +34,12 @@ Gives view (Err (Told fault)) due = due ≡ Err fault
 Gives view (Err ReadFailed) due = ⊥
 Gives view (Err OutOfMemory) due = Unit {0}
 
--- the same of what reads: a read may fail too
+-- the same of what asks for no memory before it finds a fault: where one is due it is told, and nothing in its place
+abbrev pub Finds : {A B : Type 0} → (A → B) → Result A CommandError → Result B Fault → Type 0
+Finds view result (Ok found) = Gives view result (Ok found)
+Finds view result (Err fault) = result ≡ Err (Told fault)
+
+-- what reads gives the same: a read may fail too
 abbrev pub GivesOrFails : {A B : Type 0} → (A → B) → Result A CommandError → Result B Fault → Type 0
 GivesOrFails view (Err ReadFailed) due = Unit {0}
 GivesOrFails view result due = Gives view result due

@@ -3,6 +3,7 @@ use Rattle.std.specs.Prelude.{ℕ, List, [], ◌∷◌, ◌++◌, codes, Result,
 use Rattle.std.specs.Fmt.{decimal}
 use Rattle.ds_codec.specs.Reading.{◌>>=◌}
 use Rattle.ds_screen.specs.Picture.{Picture}
+use Rattle.ds_screen.specs.Records.{new_picture}
 use Rattle.ds_keys.specs.declared.key.Key.{Key}
 use Rattle.ds_terminal.specs.Terminal.{KeyReply, done, inhibited, ignored, sent, KeyTurn, pressed}
 use Rattle.term_commands.specs.declared.fault.Fault.{Fault}
@@ -12,7 +13,7 @@ use Rattle.term_commands.specs.Keys.{keys_in}
 use Rattle.term_commands.specs.Printed.{Printed, printed, printed_or_fault}
 use Rattle.term_commands.specs.Records.{Records, records_in}
 use Rattle.term_commands.specs.Screen.{sent_line}
-use Rattle.term_commands.specs.Shown.{shown_on}
+use Rattle.term_commands.specs.Shown.{shown_from}
 
 -- a reply's line: where the key leaves the cursor, or the bytes that are sent
 abbrev pub reply_line : ℕ → KeyReply → List ℕ
@@ -29,8 +30,13 @@ abbrev pub pressed_text : Picture → List Key → List ℕ
 pressed_text v [] = []
 pressed_text v (key ∷ keys) = turn_line (pressed v key) ++ pressed_text (pressed v key).after keys
 
+-- the keys on the screen that records leave of a picture
+abbrev pub press_from : Picture → List (List ℕ) → List Key → Result Printed Fault
+press_from first records keys = shown_from first records >>= λ v. Ok (printed (pressed_text v keys) Done)
+
+-- the same of a new terminal's
 abbrev pub press_told : Records → List Key → Result Printed Fault
-press_told told keys = shown_on told.geometry told.records >>= λ v. Ok (printed (pressed_text v keys) Done)
+press_told told keys = press_from (new_picture told.geometry) told.records keys
 
 abbrev pub press_keys : Records → List ℕ → Result Printed Fault
 press_keys told lines = keys_in lines >>= press_told told

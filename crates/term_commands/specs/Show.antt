@@ -1,17 +1,23 @@
 -- What `show` prints, as a function of its input.
 use Rattle.std.specs.Prelude.{ℕ, List, Result, Ok}
 use Rattle.ds_codec.specs.Reading.{◌>>=◌}
+use Rattle.ds_screen.specs.Picture.{Picture}
+use Rattle.ds_screen.specs.Records.{new_picture}
 use Rattle.term_commands.specs.declared.fault.Fault.{Fault}
 use Rattle.term_commands.specs.declared.input.sizes.SizeLine.TheVariants.{Allowed}
 use Rattle.term_commands.specs.declared.status.Status.TheVariants.{Done}
 use Rattle.term_commands.specs.Printed.{Printed, printed, printed_or_fault}
 use Rattle.term_commands.specs.Records.{Records, records_in}
 use Rattle.term_commands.specs.Screen.{screen_text}
-use Rattle.term_commands.specs.Shown.{shown_on}
+use Rattle.term_commands.specs.Shown.{shown_from}
 
--- the screen that records leave
+-- the screen that records leave of a picture
+abbrev pub show_from : Picture → List (List ℕ) → Result Printed Fault
+show_from first records = shown_from first records >>= λ v. Ok (printed (screen_text v) Done)
+
+-- the same of a new terminal's
 abbrev pub show_told : Records → Result Printed Fault
-show_told told = shown_on told.geometry told.records >>= λ v. Ok (printed (screen_text v) Done)
+show_told told = show_from (new_picture told.geometry) told.records
 
 abbrev pub show : List ℕ → Result Printed Fault
 show input = records_in Allowed input >>= show_told

@@ -11,6 +11,10 @@ abbrev pub record_fault : {A : Type 0} → Result A RefusedRecord → Result A F
 record_fault (Ok v) = Ok v
 record_fault (Err e) = Err (RecordRefused e.index e.why)
 
--- the picture after all records, or the first that is refused
+-- the picture after all records from one on, or the first that is refused
+abbrev pub shown_from : Picture → List (List ℕ) → Result Picture Fault
+shown_from v records = record_fault (all_shown 0 v records)
+
+-- the same from a new terminal's
 abbrev pub shown_on : Sizes → List (List ℕ) → Result Picture Fault
-shown_on geometry records = record_fault (all_shown 0 (new_picture geometry) records)
+shown_on geometry records = shown_from (new_picture geometry) records

@@ -27,6 +27,6 @@ pub use law::{convert_law, lines_law};
 pub use output::answer::{Answer, finish, printed};
 pub use output::demo::{Demos, demo_sends, demo_terminal};
 pub use output::screen::{lock_word, push_field_lines, push_screen_line};
-pub use shown::shown_on;
+pub use shown::{show_all, shown_on};
 pub use status::Status;
 pub use streams::{GivesBytes, TakesBytes, Watched};

@@ -11,10 +11,11 @@ use ds_terminal::Terminal;
 use std::alloc::Global;
 
 /// Shows the records in turn, up to the first that is refused.
-pub(crate) fn show_all(
-    terminal: &mut Terminal<PlaneCells>,
-    records: &[Vec<u8>],
-) -> Result<(), Fault>
+///
+/// # Errors
+///
+/// The first record that is refused. It asks for no memory.
+pub fn show_all(terminal: &mut Terminal<PlaneCells>, records: &[Vec<u8>]) -> Result<(), Fault>
     ensures { ShowsAll terminal.old terminal.new records.now result }
 {
     for (index, bytes) in records.iter().enumerate() {

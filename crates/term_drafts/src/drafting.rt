@@ -1,6 +1,7 @@
 //! The command `draft`.
 
-ghost use Rattle.std.specs.Prelude.{◌≡◌, IfSome};
+ghost use Rattle.std.specs.Prelude.{◌≡◌, ◌+◌, IfSome};
+ghost use Rattle.term_commands.specs.Causes.{EndsBy, ToldBy};
 ghost use Rattle.term_commands.specs.Fault.{Gives, GivesOrFails};
 ghost use Rattle.term_commands.specs.Held.{answer_seen, records_seen};
 ghost use Rattle.term_commands.specs.Streams.{Prints};
@@ -11,9 +12,9 @@ use crate::stop::stop_line;
 use ds_screen::{PlaneCells, Screen};
 use scr_draft::{Opened, draft, open};
 use std::alloc::Global;
-use std::io::{Read, Write};
 use term_commands::{
-    Answer, CommandError, Records, SizeLine, Status, finish, read_records, records_in,
+    Answer, CommandError, GivesBytes, Records, SizeLine, Status, TakesBytes, finish, read_records,
+    records_in,
 };
 
 /// What `draft` answers to a screen.
@@ -52,9 +53,10 @@ pub fn draft_text(alloc: Global, records: &[u8]) -> Result<Answer, CommandError>
     draft_told(alloc, &told)
 }
 
-fn draft_records<R: Read>(alloc: Global, reader: &mut R) -> Result<Answer, CommandError>
-    ensures { IfSome (R.remaining reader.old)
+fn draft_records<R: GivesBytes>(alloc: Global, reader: &mut R) -> Result<Answer, CommandError>
+    ensures answer { IfSome (R.remaining reader.old)
         (λ input. GivesOrFails answer_seen result (draft input)) }
+    ensures cause { ToldBy (R.failures reader.old) (R.failures reader.new) result }
 {
     let told = read_records(alloc, reader, SizeLine::Allowed)?;
     draft_told(alloc, &told)
@@ -67,9 +69,16 @@ fn draft_records<R: Read>(alloc: Global, reader: &mut R) -> Result<Answer, Comma
 /// screen, as L11 with more than 1,000 fields, the first fault, with the status `BadInput`. At most 16,777,216 bytes, 1,000
 /// records of 32,768 bytes. After a read or a write that failed the status is `Failed`, where memory was refused
 /// `NoMemory`, and a front of the text was written.
-pub fn run_draft<R: Read, W: Write>(alloc: Global, reader: &mut R, writer: &mut W) -> Status
-    ensures { IfSome (R.remaining reader.old) (λ input.
+pub fn run_draft<R: GivesBytes, W: TakesBytes>(
+    alloc: Global,
+    reader: &mut R,
+    writer: &mut W,
+) -> Status
+    ensures prints { IfSome (R.remaining reader.old) (λ input.
         Prints (W.contents writer.old) (W.contents writer.new) result (printed_draft input)) }
+    ensures cause { IfSome (R.remaining reader.old) (λ input.
+        EndsBy (R.failures reader.old + W.failures writer.old)
+        (R.failures reader.new + W.failures writer.new) (printed_draft input).status result) }
 {
     let answer = draft_records(alloc, reader);
     finish(alloc, writer, answer)

@@ -1,6 +1,7 @@
 //! The command `check`, reported as a log.
 
-ghost use Rattle.std.specs.Prelude.{◌≡◌, IfErr, IfOk, IfSome, Ok};
+ghost use Rattle.std.specs.Prelude.{◌≡◌, ◌+◌, IfErr, IfOk, IfSome, Ok};
+ghost use Rattle.term_commands.specs.Causes.{ToldBy};
 ghost use Rattle.term_commands.specs.Fault.{Gives, GivesOrFails};
 ghost use Rattle.term_commands.specs.Held.{answer_seen, records_held};
 ghost use Rattle.term_commands.specs.LayoutText.{layout_in};
@@ -16,9 +17,9 @@ use crate::sarif::{findings_log, refusal_log};
 use scr_check::Traced;
 use scr_layout::Layout;
 use std::alloc::{AllocError, Global};
-use std::io::Read;
 use term_commands::{
-    Answer, CommandError, Fault, SizeLine, Status, layout_in, read_text, records_in, within_limit,
+    Answer, CommandError, Fault, GivesBytes, SizeLine, Status, layout_in, read_text, records_in,
+    within_limit,
 };
 
 /// The log of findings.
@@ -118,21 +119,22 @@ fn log_records(
 }
 
 /// The log of a layout, and of records that are read.
-fn log_with<R: Read>(
+fn log_with<R: GivesBytes>(
     alloc: Global,
     paths: Paths<'_>,
     layout: &Layout,
     reader: &mut R,
 ) -> Result<Answer, CommandError>
-    ensures { IfSome (R.remaining reader.old) (λ input. GivesOrFails answer_seen result
+    ensures answer { IfSome (R.remaining reader.old) (λ input. GivesOrFails answer_seen result
         (Ok (or_refused paths.entry.records.now (log_records paths.entry layout.now (within_limit input))))) }
+    ensures cause { ToldBy (R.failures reader.old) (R.failures reader.new) result }
 {
     let input = read_text(alloc, reader)?;
     log_records(alloc, paths, layout, input.as_slice())
 }
 
 /// The log of a layout's text and of records that are read, unless the layout has a fault.
-fn log_over<R: Read>(
+fn log_over<R: GivesBytes>(
     alloc: Global,
     paths: Paths<'_>,
     text: &[u8],
@@ -140,6 +142,7 @@ fn log_over<R: Read>(
 ) -> Result<Answer, CommandError>
     ensures answer { IfSome (R.remaining reader.old) (λ input. GivesOrFails answer_seen result
         (Ok (log_layout paths.entry (within_limit text.now) (layout_in text.now) (within_limit input)))) }
+    ensures cause { ToldBy (R.failures reader.old) (R.failures reader.new) result }
     ensures unread { IfErr (layout_in text.now) (λ fault. reader.new ≡ reader.old) }
 {
     match layout_in(alloc, text) {
@@ -153,7 +156,7 @@ fn log_over<R: Read>(
 }
 
 /// The log of a layout and records that are read.
-pub(crate) fn log_read<L: Read, R: Read>(
+pub(crate) fn log_read<L: GivesBytes, R: GivesBytes>(
     alloc: Global,
     paths: Paths<'_>,
     layout: &mut L,
@@ -161,6 +164,8 @@ pub(crate) fn log_read<L: Read, R: Read>(
 ) -> Result<Answer, CommandError>
     ensures answer { IfSome (L.remaining layout.old) (λ text. IfSome (R.remaining
         reader.old) (λ input. GivesOrFails answer_seen result (Ok (printed_log paths.entry text input)))) }
+    ensures cause { ToldBy (L.failures layout.old + R.failures reader.old)
+        (L.failures layout.new + R.failures reader.new) result }
     ensures unread { IfSome (L.remaining layout.old) (λ text. IfErr (layout_in text) (λ fault.
         reader.new ≡ reader.old)) }
 {

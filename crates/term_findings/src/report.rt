@@ -1,6 +1,7 @@
 //! The command `check`, reported for tools.
 
-ghost use Rattle.std.specs.Prelude.{◌≡◌, Ok, Result, IfErr, IfOk, IfSome};
+ghost use Rattle.std.specs.Prelude.{◌≡◌, ◌+◌, ℕ, Ok, Result, IfErr, IfOk, IfSome};
+ghost use Rattle.term_commands.specs.Causes.{EndsBy, ToldBy};
 ghost use Rattle.term_commands.specs.Fault.{Gives, GivesOrFails};
 ghost use Rattle.term_commands.specs.Held.{answer_seen, records_held};
 ghost use Rattle.term_commands.specs.LayoutText.{layout_in};
@@ -16,10 +17,9 @@ use crate::log::{log_read, log_texts};
 use crate::paths::Paths;
 use scr_layout::Layout;
 use std::alloc::{AllocError, Global};
-use std::io::{Read, Write};
 use term_commands::{
-    Answer, CommandError, SizeLine, Status, finish, layout_in, read_layout, read_text, records_in,
-    within_limit,
+    Answer, CommandError, GivesBytes, SizeLine, Status, TakesBytes, finish, layout_in, read_layout,
+    read_text, records_in, within_limit,
 };
 
 /// The form of a report.
@@ -72,6 +72,7 @@ fn or_refusal(alloc: Global, answer: Result<Answer, CommandError>) -> Result<Ans
         → Gives answer_seen result (Ok (or_refusal due)) }
     ensures readers { (due : Result Printed AFault) → GivesOrFails answer_seen answer due
         → GivesOrFails answer_seen result (Ok (or_refusal due)) }
+    ensures cause { (old : ℕ) (new : ℕ) → ToldBy old new answer → ToldBy old new result }
 {
     match answer {
         Ok(answer) => Ok(answer),
@@ -101,13 +102,15 @@ pub fn report_texts(
     }
 }
 
-fn report_read<L: Read, R: Read>(
+fn report_read<L: GivesBytes, R: GivesBytes>(
     alloc: Global,
     layout: &mut L,
     reader: &mut R,
 ) -> Result<Answer, CommandError>
     ensures answer { IfSome (L.remaining layout.old) (λ text. IfSome (R.remaining
         reader.old) (λ input. GivesOrFails answer_seen result (report text input))) }
+    ensures cause { ToldBy (L.failures layout.old + R.failures reader.old)
+        (L.failures layout.new + R.failures reader.new) result }
     ensures unread { IfSome (L.remaining layout.old) (λ text. IfErr (layout_in text) (λ fault.
         reader.new ≡ reader.old)) }
 {
@@ -116,13 +119,15 @@ fn report_read<L: Read, R: Read>(
     report_records(alloc, &layout, records.as_slice())
 }
 
-fn report_lines<L: Read, R: Read>(
+fn report_lines<L: GivesBytes, R: GivesBytes>(
     alloc: Global,
     layout: &mut L,
     reader: &mut R,
 ) -> Result<Answer, CommandError>
     ensures answer { IfSome (L.remaining layout.old) (λ text. IfSome (R.remaining
         reader.old) (λ input. GivesOrFails answer_seen result (Ok (or_refusal (report text input))))) }
+    ensures cause { ToldBy (L.failures layout.old + R.failures reader.old)
+        (L.failures layout.new + R.failures reader.new) result }
     ensures unread { IfSome (L.remaining layout.old) (λ text. IfErr (layout_in text) (λ fault.
         reader.new ≡ reader.old)) }
 {
@@ -131,7 +136,7 @@ fn report_lines<L: Read, R: Read>(
 }
 
 /// What is reported of a layout and records that are read.
-fn report_streams<L: Read, R: Read>(
+fn report_streams<L: GivesBytes, R: GivesBytes>(
     alloc: Global,
     report: Report<'_>,
     layout: &mut L,
@@ -139,6 +144,8 @@ fn report_streams<L: Read, R: Read>(
 ) -> Result<Answer, CommandError>
     ensures answer { IfSome (L.remaining layout.old) (λ text. IfSome (R.remaining
         reader.old) (λ input. GivesOrFails answer_seen result (Ok (printed_report report.entry text input)))) }
+    ensures cause { ToldBy (L.failures layout.old + R.failures reader.old)
+        (L.failures layout.new + R.failures reader.new) result }
     ensures unread { IfSome (L.remaining layout.old) (λ text. IfErr (layout_in text) (λ fault.
         reader.new ≡ reader.old)) }
 {
@@ -152,7 +159,7 @@ fn report_streams<L: Read, R: Read>(
 /// of a finding send; or what is wrong with an input. Records aren't read where the layout has a fault. The sizes are the
 /// layout's, so a line of sizes is bad. At most 16,777,216 bytes of either, 1,000 records of 32,768 bytes. After a read or a
 /// write that failed the status is `Failed`, where memory was refused `NoMemory`, and a front of the text was written.
-pub fn run_report<L: Read, R: Read, W: Write>(
+pub fn run_report<L: GivesBytes, R: GivesBytes, W: TakesBytes>(
     alloc: Global,
     report: Report<'_>,
     layout: &mut L,
@@ -162,6 +169,11 @@ pub fn run_report<L: Read, R: Read, W: Write>(
     ensures prints { IfSome (L.remaining layout.old) (λ text. IfSome (R.remaining
         reader.old) (λ input.
         Prints (W.contents writer.old) (W.contents writer.new) result (printed_report report.entry text input))) }
+    ensures cause { IfSome (L.remaining layout.old) (λ text. IfSome (R.remaining
+        reader.old) (λ input.
+        EndsBy (L.failures layout.old + R.failures reader.old + W.failures writer.old)
+        (L.failures layout.new + R.failures reader.new + W.failures writer.new)
+        (printed_report report.entry text input).status result)) }
     ensures unread { IfSome (L.remaining layout.old) (λ text. IfErr (layout_in text) (λ fault.
         reader.new ≡ reader.old)) }
 {

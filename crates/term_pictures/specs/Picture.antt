@@ -2,12 +2,13 @@
 use Rattle.std.specs.Prelude.{ℕ, List, Result, Ok}
 use Rattle.ds_codec.specs.Reading.{◌>>=◌}
 use Rattle.ds_screen.specs.Picture.{Picture}
+use Rattle.ds_screen.specs.Records.{new_picture}
 use Rattle.term_commands.specs.declared.fault.Fault.{Fault}
 use Rattle.term_commands.specs.declared.input.sizes.SizeLine.TheVariants.{Allowed}
 use Rattle.term_commands.specs.declared.status.Status.TheVariants.{Done}
 use Rattle.term_commands.specs.Printed.{Printed, printed, printed_or_fault}
 use Rattle.term_commands.specs.Records.{Records, records_in}
-use Rattle.term_commands.specs.Shown.{shown_on}
+use Rattle.term_commands.specs.Shown.{shown_from}
 use Rattle.term_pictures.specs.declared.drawing.Drawing.{Drawing}
 use Rattle.term_pictures.specs.declared.drawing.Drawing.TheVariants.{Svg, Html, Colored, Json}
 use Rattle.term_pictures.specs.Svg.{svg_element}
@@ -22,8 +23,13 @@ drawn Html v = html_page v
 drawn Colored v = colored_text v
 drawn Json v = json_line v
 
+-- the screen that records leave of a picture
+abbrev pub pictured_from : Drawing → Picture → List (List ℕ) → Result Printed Fault
+pictured_from drawing first records = shown_from first records >>= λ v. Ok (printed (drawn drawing v) Done)
+
+-- the same of a new terminal's
 abbrev pub pictured_told : Drawing → Records → Result Printed Fault
-pictured_told drawing told = shown_on told.geometry told.records >>= λ v. Ok (printed (drawn drawing v) Done)
+pictured_told drawing told = pictured_from drawing (new_picture told.geometry) told.records
 
 abbrev pub pictured : Drawing → List ℕ → Result Printed Fault
 pictured drawing input = records_in Allowed input >>= pictured_told drawing

@@ -2,12 +2,12 @@
 
 ghost use Rattle.std.specs.Prelude.{◌≡◌, ◌+◌, IfOk, IfSome, string_bytes};
 ghost use Rattle.term_commands.specs.Causes.{EndsBy, ToldBy};
-ghost use Rattle.term_commands.specs.Fault.{Gives, GivesOrFails};
-ghost use Rattle.term_commands.specs.Held.{answer_seen, records_seen};
+ghost use Rattle.term_commands.specs.Fault.{Finds, Gives, GivesOrFails};
+ghost use Rattle.term_commands.specs.Held.{answer_seen, records_held, records_seen};
 ghost use Rattle.term_commands.specs.Printed.{printed};
 ghost use Rattle.term_commands.specs.Streams.{Prints};
 ghost use Rattle.term_commands.specs.declared.status.Status.TheVariants.{Done};
-ghost use Rattle.term_pictures.specs.Picture.{drawn, pictured_told, pictured, printed_picture};
+ghost use Rattle.term_pictures.specs.Picture.{drawn, pictured_from, pictured_told, pictured, printed_picture};
 
 use crate::colored::push_colored;
 use crate::drawing::Drawing;
@@ -15,10 +15,11 @@ use crate::html::push_page;
 use crate::json::push_json;
 use crate::svg::push_svg;
 use ds_screen::{PlaneCells, Screen};
+use ds_terminal::Terminal;
 use std::alloc::{AllocError, Global};
 use term_commands::{
     Answer, CommandError, GivesBytes, Records, SizeLine, Status, TakesBytes, finish, read_records,
-    records_in, shown_on,
+    records_in, show_all,
 };
 
 /// The text of a screen in a form.
@@ -50,12 +51,26 @@ fn drawn_answer(
     })
 }
 
+/// What is printed, in a form, of the screen that records leave on a terminal.
+fn picture_from(
+    alloc: Global,
+    drawing: Drawing,
+    terminal: &mut Terminal<PlaneCells>,
+    records: &[Vec<u8>],
+) -> Result<Answer, CommandError>
+    ensures { Finds answer_seen result
+        (pictured_from drawing terminal.old (records_held records.now)) }
+{
+    show_all(terminal, records)?;
+    Ok(drawn_answer(alloc, drawing, terminal.screen())?)
+}
+
 /// What is printed, in a form, of the screen that records leave.
 fn picture_told(alloc: Global, drawing: Drawing, told: &Records) -> Result<Answer, CommandError>
     ensures { Gives answer_seen result (pictured_told drawing (records_seen told.now)) }
 {
-    let terminal = shown_on(alloc, told.geometry, told.records.as_slice())?;
-    Ok(drawn_answer(alloc, drawing, terminal.screen())?)
+    let mut terminal = Terminal::new(alloc, told.geometry)?;
+    picture_from(alloc, drawing, &mut terminal, told.records.as_slice())
 }
 
 /// What is printed, in a form, of the screen that a text of records leaves, or its first fault.

@@ -7,9 +7,9 @@ ghost use Rattle.ds_terminal.specs.Seen.{key_reply_seen};
 ghost use Rattle.ds_terminal.specs.Terminal.{pressed};
 ghost use Rattle.term_commands.specs.declared.input.sizes.SizeLine.TheVariants.{Allowed};
 ghost use Rattle.term_commands.specs.Causes.{EndsBy, ToldBy};
-ghost use Rattle.term_commands.specs.Fault.{Gives, GivesOrFails};
-ghost use Rattle.term_commands.specs.Held.{answer_seen, records_seen, keys_seen};
-ghost use Rattle.term_commands.specs.Press.{reply_line, turn_line, pressed_text, press_told, press_keys, press, printed_press};
+ghost use Rattle.term_commands.specs.Fault.{Finds, Gives, GivesOrFails};
+ghost use Rattle.term_commands.specs.Held.{answer_seen, records_held, records_seen, keys_seen};
+ghost use Rattle.term_commands.specs.Press.{reply_line, turn_line, pressed_text, press_from, press_told, press_keys, press, printed_press};
 ghost use Rattle.term_commands.specs.Records.{records_in};
 ghost use Rattle.term_commands.specs.Streams.{Prints};
 
@@ -19,7 +19,7 @@ use crate::input::records::{Records, read_records, records_in};
 use crate::input::sizes::SizeLine;
 use crate::output::answer::{Answer, finish};
 use crate::output::bytes::push_sent;
-use crate::shown::shown_on;
+use crate::shown::show_all;
 use crate::status::Status;
 use crate::streams::{GivesBytes, TakesBytes};
 use ds_keys::Key;
@@ -83,17 +83,31 @@ fn push_keys(
     Ok(())
 }
 
-/// What `press` answers to records and keys.
-fn press_told(alloc: Global, told: &Records, named: &Keys) -> Result<Answer, CommandError>
-    ensures { Gives answer_seen result (press_told (records_seen told.now) (keys_seen named.now)) }
+/// What `press` answers to records that are shown on a terminal, and to keys.
+fn press_from(
+    alloc: Global,
+    terminal: &mut Terminal<PlaneCells>,
+    records: &[Vec<u8>],
+    named: &Keys,
+) -> Result<Answer, CommandError>
+    ensures { Finds answer_seen result
+        (press_from terminal.old (records_held records.now) (keys_seen named.now)) }
 {
-    let mut terminal = shown_on(alloc, told.geometry, told.records.as_slice())?;
+    show_all(terminal, records)?;
     let mut text = String::new(alloc);
-    push_keys(alloc, &mut text, &mut terminal, named.keys.as_slice())?;
+    push_keys(alloc, &mut text, terminal, named.keys.as_slice())?;
     Ok(Answer {
         text,
         status: Status::Done,
     })
+}
+
+/// What `press` answers to records and keys.
+fn press_told(alloc: Global, told: &Records, named: &Keys) -> Result<Answer, CommandError>
+    ensures { Gives answer_seen result (press_told (records_seen told.now) (keys_seen named.now)) }
+{
+    let mut terminal = Terminal::new(alloc, told.geometry)?;
+    press_from(alloc, &mut terminal, told.records.as_slice(), named)
 }
 
 /// What `press` answers to records and a text of keys.

@@ -2,9 +2,9 @@
 
 ghost use Rattle.std.specs.Prelude.{◌≡◌, ◌+◌, IfSome};
 ghost use Rattle.term_commands.specs.Causes.{EndsBy, ToldBy};
-ghost use Rattle.term_commands.specs.Fault.{Gives, GivesOrFails};
-ghost use Rattle.term_commands.specs.Held.{answer_seen, records_seen};
-ghost use Rattle.term_commands.specs.Show.{show_told, show, printed_show};
+ghost use Rattle.term_commands.specs.Fault.{Finds, Gives, GivesOrFails};
+ghost use Rattle.term_commands.specs.Held.{answer_seen, records_held, records_seen};
+ghost use Rattle.term_commands.specs.Show.{show_from, show_told, show, printed_show};
 ghost use Rattle.term_commands.specs.Streams.{Prints};
 
 use crate::fault::CommandError;
@@ -12,20 +12,34 @@ use crate::input::records::{Records, read_records, records_in};
 use crate::input::sizes::SizeLine;
 use crate::output::answer::{Answer, finish};
 use crate::output::screen::screen_text;
-use crate::shown::shown_on;
+use crate::shown::show_all;
 use crate::status::Status;
 use crate::streams::{GivesBytes, TakesBytes};
+use ds_screen::PlaneCells;
+use ds_terminal::Terminal;
 use std::alloc::Global;
+
+/// What `show` answers to records that are shown on a terminal.
+fn show_from(
+    alloc: Global,
+    terminal: &mut Terminal<PlaneCells>,
+    records: &[Vec<u8>],
+) -> Result<Answer, CommandError>
+    ensures { Finds answer_seen result (show_from terminal.old (records_held records.now)) }
+{
+    show_all(terminal, records)?;
+    Ok(Answer {
+        text: screen_text(alloc, terminal.screen())?,
+        status: Status::Done,
+    })
+}
 
 /// What `show` answers to records.
 fn show_told(alloc: Global, told: &Records) -> Result<Answer, CommandError>
     ensures { Gives answer_seen result (show_told (records_seen told.now)) }
 {
-    let terminal = shown_on(alloc, told.geometry, told.records.as_slice())?;
-    Ok(Answer {
-        text: screen_text(alloc, terminal.screen())?,
-        status: Status::Done,
-    })
+    let mut terminal = Terminal::new(alloc, told.geometry)?;
+    show_from(alloc, &mut terminal, told.records.as_slice())
 }
 
 /// What `show` answers to a text of records, or its first fault.
