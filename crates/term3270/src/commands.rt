@@ -9,10 +9,11 @@ use clap::ArgMatches;
 use std::alloc::AllocError;
 use std::env;
 use std::env::VarError;
-use std::io::{BufReader, IsTerminal, Read, Stdin, Stdout};
+use std::io::{IsTerminal, Stdin, Stdout};
 use term_binds::{Form, run_bind};
 use term_commands::{
-    Demos, Status, run_check, run_convert, run_convert_back, run_press, run_show, run_talk,
+    Demos, GivesBytes, Status, Watched, run_check, run_convert, run_convert_back, run_press,
+    run_show, run_talk,
 };
 use term_drafts::run_draft;
 use term_findings::{Paths, Report, run_report};
@@ -22,20 +23,20 @@ use term_traces::{Asked, Source, run_records};
 use tn_traces::Side;
 
 /// A stream, and what people call it.
-fn named<'a, S>(rt: &'a HostRuntime, name: &'a str, stream: S) -> Named<'a, S> {
-    Named { rt, name, stream }
+fn named<'a, S>(rt: &'a HostRuntime, name: &'a str, stream: S) -> Watched<Named<'a, S>> {
+    Watched::new(Named { rt, name, stream })
 }
 
-fn input(rt: &HostRuntime) -> Named<'_, Stdin> {
+fn input(rt: &HostRuntime) -> Watched<Named<'_, Stdin>> {
     named(rt, "standard input", rt.stdin())
 }
 
-fn output(rt: &HostRuntime) -> Named<'_, Stdout> {
+fn output(rt: &HostRuntime) -> Watched<Named<'_, Stdout>> {
     named(rt, "standard output", rt.stdout())
 }
 
 /// The file of a path, not yet opened.
-fn file_at<'a>(rt: &'a HostRuntime, path: &'a str) -> Named<'a, FileAt<'a>> {
+fn file_at<'a>(rt: &'a HostRuntime, path: &'a str) -> Watched<Named<'a, FileAt<'a>>> {
     let stream = FileAt {
         rt,
         path,
@@ -125,13 +126,8 @@ pub(crate) fn bind(rt: &HostRuntime, layout: &str, form: Form) -> Status {
 
 /// `records`.
 pub(crate) fn records(rt: &HostRuntime, source: Source, side: Side) -> Status {
-    match BufReader::new(rt.alloc(), input(rt)) {
-        Ok(mut lines) => {
-            let asked = Asked { source, side };
-            run_records(rt.alloc(), asked, &mut lines, &mut output(rt))
-        }
-        Err(_) => Status::NoMemory,
-    }
+    let asked = Asked { source, side };
+    run_records(rt.alloc(), asked, &mut input(rt), &mut output(rt))
 }
 
 /// `serve`, with the layout of a file.
@@ -154,13 +150,18 @@ pub(crate) fn attach(rt: &HostRuntime, place: Place<'_>, keys: &str, device: &st
 }
 
 /// Runs `check` on a layout's file and these records.
-fn check_over<R: Read>(rt: &HostRuntime, layout: &str, records: &mut R, demos: Demos) -> Status {
+fn check_over<R: GivesBytes>(
+    rt: &HostRuntime,
+    layout: &str,
+    records: &mut R,
+    demos: Demos,
+) -> Status {
     let mut layout = file_at(rt, layout);
     run_check(rt.alloc(), &mut layout, records, &mut output(rt), demos)
 }
 
 /// Runs `check` for tools on a layout's file and the records of this path.
-fn report_over<R: Read>(
+fn report_over<R: GivesBytes>(
     rt: &HostRuntime,
     layout: &str,
     path: &str,
@@ -216,7 +217,12 @@ pub(crate) fn talk(rt: &HostRuntime, matches: &ArgMatches<'_>) -> Status {
 /// Runs `talk` on these files and the standard streams.
 fn talk_over(rt: &HostRuntime, paths: &[&str]) -> Status {
     match files_at(rt, paths) {
-        Ok(layouts) => run_talk(rt.alloc(), layouts, &mut input(rt), &mut output(rt)),
+        Ok(mut layouts) => run_talk(
+            rt.alloc(),
+            layouts.as_mut_slice(),
+            &mut input(rt),
+            &mut output(rt),
+        ),
         Err(_) => Status::NoMemory,
     }
 }
@@ -225,7 +231,7 @@ fn talk_over(rt: &HostRuntime, paths: &[&str]) -> Status {
 fn files_at<'a>(
     rt: &'a HostRuntime,
     paths: &'a [&'a str],
-) -> Result<Vec<Named<'a, FileAt<'a>>>, AllocError> {
+) -> Result<Vec<Watched<Named<'a, FileAt<'a>>>>, AllocError> {
     let mut files = Vec::new(rt.alloc());
     for path in paths {
         files.push(file_at(rt, path))?;

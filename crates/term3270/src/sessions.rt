@@ -12,13 +12,12 @@ ghost use Rattle.term3270.specs.Sessions.{AttachesNamed, AttachesSocket, HasFail
 
 use crate::tcp::{Listening, Place, TcpLine};
 use ds_keys::Key;
-use std::io::{Read, Write};
-use term_commands::{Status, finish, read_keys};
+use term_commands::{GivesBytes, Status, TakesBytes, finish, read_keys};
 use term_sessions::{Output, Prepared, Screen, Visits, attach_on, prepare_serve, serve_on};
 use tn_session::Device;
 
 /// Serves a layout's screen at a place to so many terminals. The port is bound once the screen is found fit.
-pub(crate) fn run_serve<L: Read, R: Read, W: Write>(
+pub(crate) fn run_serve<L: GivesBytes, R: GivesBytes, W: TakesBytes>(
     rt: &HostRuntime,
     layout: &mut L,
     records: &mut R,
@@ -36,7 +35,7 @@ pub(crate) fn run_serve<L: Read, R: Read, W: Write>(
     }
 }
 
-fn serve_at<W: Write>(
+fn serve_at<W: TakesBytes>(
     rt: &HostRuntime,
     place: Place<'_>,
     screen: &Screen,
@@ -58,7 +57,7 @@ fn serve_at<W: Write>(
 
 /// Attaches a terminal of the device of this name to the host at a place, and presses keys. The keys are read once the device
 /// is known, and the host is called once the keys are good.
-pub(crate) fn run_attach<K: Read, W: Write>(
+pub(crate) fn run_attach<K: GivesBytes, W: TakesBytes>(
     rt: &HostRuntime,
     place: Place<'_>,
     keys: &mut K,
@@ -81,7 +80,7 @@ pub(crate) fn run_attach<K: Read, W: Write>(
     }
 }
 
-fn attach_at<W: Write>(
+fn attach_at<W: TakesBytes>(
     rt: &HostRuntime,
     place: Place<'_>,
     device: Device,

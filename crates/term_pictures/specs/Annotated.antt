@@ -4,6 +4,7 @@ use Rattle.std.specs.Fmt.{decimal}
 use Rattle.std.specs.List.{flat_map}
 use Rattle.ds_codec.specs.Reading.{◌>>=◌}
 use Rattle.ds_screen.specs.Picture.{Picture}
+use Rattle.ds_screen.specs.Records.{new_picture}
 use Rattle.scr_layout.specs.Entry.{Declared}
 use Rattle.scr_layout.specs.Layout.{Declaration}
 use Rattle.scr_check.specs.declared.finding.Finding.{Finding}
@@ -15,7 +16,7 @@ use Rattle.term_commands.specs.declared.status.Status.TheVariants.{Done}
 use Rattle.term_commands.specs.LayoutText.{layout_in}
 use Rattle.term_commands.specs.Printed.{Printed, printed, printed_or_fault}
 use Rattle.term_commands.specs.Records.{records_in}
-use Rattle.term_commands.specs.Shown.{shown_on}
+use Rattle.term_commands.specs.Shown.{shown_from}
 use Rattle.term_pictures.specs.declared.annotated.Annotated.{Annotated}
 use Rattle.term_pictures.specs.declared.annotated.Annotated.TheVariants.{Svg, Html}
 use Rattle.term_pictures.specs.declared.marks.Frame.{Frame}
@@ -87,10 +88,14 @@ annotated_drawn Html entries findings v = annotated_page entries findings v
 
 -- ---- what is printed
 
--- the screen that the records leave on the layout's terminal, with all that is found
+-- the screen that the records leave of a picture, with all that is found of them and a layout
+abbrev pub annotated_from : Annotated → Declaration → Picture → List (List ℕ) → Result Printed Fault
+annotated_from form layout first records =
+    shown_from first records >>= λ v. Ok (printed (annotated_drawn form layout.entries (answer_of layout records) v) Done)
+
+-- the same of a new terminal's, of the layout's sizes
 abbrev pub annotated_told : Annotated → Declaration → List (List ℕ) → Result Printed Fault
-annotated_told form layout records =
-    shown_on layout.geometry records >>= λ v. Ok (printed (annotated_drawn form layout.entries (answer_of layout records) v) Done)
+annotated_told form layout records = annotated_from form layout (new_picture layout.geometry) records
 
 abbrev pub annotated_records : Annotated → Declaration → List ℕ → Result Printed Fault
 annotated_records form layout input = records_in Refused input >>= λ told. annotated_told form layout told.records

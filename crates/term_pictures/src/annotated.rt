@@ -3,23 +3,24 @@
 ghost use Rattle.std.specs.Prelude.{◌≡◌, ◌+◌, IfErr, IfOk, IfSome, string_bytes};
 ghost use Rattle.scr_check.specs.Findings.{answer_of};
 ghost use Rattle.term_commands.specs.Causes.{EndsBy, ToldBy};
-ghost use Rattle.term_commands.specs.Fault.{Gives, GivesOrFails};
+ghost use Rattle.term_commands.specs.Fault.{Finds, Gives, GivesOrFails};
 ghost use Rattle.term_commands.specs.Held.{answer_seen, records_held};
 ghost use Rattle.term_commands.specs.LayoutText.{layout_in};
 ghost use Rattle.term_commands.specs.Printed.{printed};
 ghost use Rattle.term_commands.specs.Streams.{Prints};
 ghost use Rattle.term_commands.specs.declared.status.Status.TheVariants.{Done};
-ghost use Rattle.term_pictures.specs.Annotated.{annotated_drawn, annotated_told, annotated_records, annotated, printed_annotated};
+ghost use Rattle.term_pictures.specs.Annotated.{annotated_drawn, annotated_from, annotated_told, annotated_records, annotated, printed_annotated};
 
 use crate::html::push_annotated_page;
 use crate::notes::push_annotated_svg;
 use ds_screen::{PlaneCells, Screen};
+use ds_terminal::Terminal;
 use scr_check::{Finding, Verdict, check};
 use scr_layout::{Entry, Layout};
 use std::alloc::{AllocError, Global};
 use term_commands::{
     Answer, CommandError, GivesBytes, SizeLine, Status, TakesBytes, finish, layout_in, lent,
-    read_layout, read_records, records_in, shown_on,
+    read_layout, read_records, records_in, show_all,
 };
 
 /// In which form a screen is drawn with its layout.
@@ -85,6 +86,22 @@ fn annotated_screen(
     })
 }
 
+/// What is printed of a layout and records that are shown on a terminal.
+fn annotated_from(
+    alloc: Global,
+    form: Annotated,
+    layout: &Layout,
+    terminal: &mut Terminal<PlaneCells>,
+    records: &[Vec<u8>],
+) -> Result<Answer, CommandError>
+    ensures { Finds answer_seen result
+        (annotated_from form layout.now terminal.old (records_held records.now)) }
+{
+    show_all(terminal, records)?;
+    let screen = terminal.screen();
+    Ok(annotated_screen(alloc, form, layout, records, screen)?)
+}
+
 /// What is printed of a layout and records that were told.
 fn annotated_told(
     alloc: Global,
@@ -95,9 +112,8 @@ fn annotated_told(
     ensures { Gives answer_seen result
         (annotated_told form layout.now (records_held records.now)) }
 {
-    let terminal = shown_on(alloc, layout.geometry(), records)?;
-    let screen = terminal.screen();
-    Ok(annotated_screen(alloc, form, layout, records, screen)?)
+    let mut terminal = Terminal::new(alloc, layout.geometry())?;
+    annotated_from(alloc, form, layout, &mut terminal, records)
 }
 
 fn annotated_records(

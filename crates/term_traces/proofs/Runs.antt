@@ -1,7 +1,7 @@
 -- What each turn of a run does to what holds between the turns.
-use Rattle.std.proofs.Common.{◌≡◌, ℕ, ◌+◌, ◌-◌, ◌<◌, Bool, length-append, List, [], ◌∷◌, ◌++◌, length, true, false, refl, sym, ◌∙◌, ap, subst, inl, inr, arith, append_assoc, append-nil}
+use Rattle.std.proofs.Common.{◌≡◌, ℕ, ◌+◌, ◌-◌, ◌<◌, ◌≤◌, Bool, length-append, List, [], ◌∷◌, ◌++◌, length, true, false, refl, sym, ◌∙◌, ap, subst, inl, inr, arith, append_assoc, append-nil}
 use Rattle.std.specs.Prelude.{nat_lt, Option, None, Some, Result, Ok, Err, IfSome}
-use Rattle.std.specs.Io.KnownBytes.{Appends}
+use Rattle.std.specs.Io.KnownBytes.{Appends, prepend_known}
 use Rattle.std.proofs.lemmas.Bool.{cond-true, lt-ltb}
 use Rattle.bstr.specs.Text.{without_terminator}
 use Rattle.term_commands.specs.declared.status.Status.{Status}
@@ -14,7 +14,8 @@ use Rattle.term_commands.specs.Lines.{lines_in}
 use Rattle.term_traces.specs.Following.{Following, Course, goes, stops, connection, most_line, said_from, said_of, Adds, AddsSaid, Leads, left_text, EndsEarly}
 use Rattle.term_traces.specs.Held.{course_seen}
 use Rattle.term_commands.specs.NextLine.{ReadsFirst, ReadsLine}
-use Rattle.term_traces.specs.Printed.{IsPart, PrintsRecords, PrintsLine, Writes, WritesEnd}
+use Rattle.term_commands.specs.Causes.{EndsBy}
+use Rattle.term_traces.specs.Printed.{TracesBy, IsPart, PrintsRecords, PrintsLine, Writes, WritesEnd}
 use Rattle.tn_traces.specs.Line.{bad}
 
 -- ---- what is written of a line
@@ -250,3 +251,52 @@ run_fails asked (Some xs) left old mid number now BadInput so fails = absurd fai
 
 pub no_memory : (asked : Asked) (input old : Option (List ℕ)) → IfSome input (λ xs. PrintsRecords asked xs old old NoMemory)
 no_memory asked input old = run_fails asked input input old old 1 (connection 0) NoMemory (begins asked input old (connection 0) refl) tt
+
+-- ---- why it ends
+
+pub nothing_ahead : (ahead : List ℕ) (input : Option (List ℕ)) → ahead ≡ [] → prepend_known ahead input ≡ input
+nothing_ahead ahead None is = refl
+nothing_ahead ahead (Some bytes) is = ap (λ z. Some (z ++ bytes)) is
+
+pub ends_traced : (old new : ℕ) (input : List ℕ) (status : Status) → EndsBy old new Done status → TracesBy old new input status
+ends_traced old new input Done (is, same) = same
+ends_traced old new input Findings (is, same) = same
+ends_traced old new input BadInput (is, same) = same
+ends_traced old new input Failed (inl (is, same)) = absurd (not_done is)
+  where
+    not_done : Done ≡ Failed → ⊥
+    not_done is = cc
+ends_traced old new input Failed (inr some) = inl some
+ends_traced old new input NoMemory ends = tt
+
+-- a read failed, and no write did; or the other way round
+pub read_ends : (a a' b b' : ℕ) (status : Status) → b' ≡ b → EndsBy a a' Done status → EndsBy (a + b) (a' + b') Done status
+read_ends a a' b b' Done same (is, none) = (is, omega arith)
+read_ends a a' b b' Findings same (is, none) = (is, omega arith)
+read_ends a a' b b' BadInput same (is, none) = (is, omega arith)
+read_ends a a' b b' Failed same (inl (is, none)) = inl (is, omega arith)
+read_ends a a' b b' Failed same (inr some) = inr (omega arith)
+read_ends a a' b b' NoMemory same ends = tt
+
+pub write_ends : (a a' b b' : ℕ) (status : Status) → a' ≡ a → EndsBy b b' Done status → EndsBy (a + b) (a' + b') Done status
+write_ends a a' b b' Done same (is, none) = (is, omega arith)
+write_ends a a' b b' Findings same (is, none) = (is, omega arith)
+write_ends a a' b b' BadInput same (is, none) = (is, omega arith)
+write_ends a a' b b' Failed same (inl (is, none)) = inl (is, omega arith)
+write_ends a a' b b' Failed same (inr some) = inr (omega arith)
+write_ends a a' b b' NoMemory same ends = tt
+
+pub traced_known : (known : Option (List ℕ)) (old new : ℕ) (status : Status) → EndsBy old new Done status → IfSome known (λ input. TracesBy old new input status)
+traced_known None old new status ends = tt
+traced_known (Some input) old new status ends = ends_traced old new input status ends
+
+pub stopped_known : (known : Option (List ℕ)) (old new : ℕ) → new ≡ old → IfSome known (λ input. TracesBy old new input BadInput)
+stopped_known None old new same = tt
+stopped_known (Some input) old new same = same
+
+-- as many lines were taken as can be counted
+pub counted_known : (asked : Asked) (input left old mid : Option (List ℕ)) (number before after : ℕ) (now : Following) → SoFar asked input left old mid number now
+    → 18446744073709551615 ≤ number → IfSome input (λ xs. TracesBy before after xs Failed)
+counted_known asked None left old mid number before after now so many = tt
+counted_known asked (Some xs) left old mid number before after now (rest, is, so) many =
+    inr (omega (arith, so.count, ap length so.whole, length-append so.front (lines_in rest)))

@@ -1,8 +1,9 @@
 -- What is written of an input, and the status; also where a read or a write fails, or memory is refused.
-use Rattle.std.specs.Prelude.{◌≡◌, ◌⊎◌, ℕ, List, Option, Result, Ok, Err}
+use Rattle.std.specs.Prelude.{◌≡◌, ◌⊎◌, ◌<◌, ◌≤◌, ℕ, List, length, Option, Result, Ok, Err}
 use Rattle.std.specs.Io.KnownBytes.{Appends}
 use Rattle.term_commands.specs.declared.status.Status.{Status}
 use Rattle.term_commands.specs.declared.status.Status.TheVariants.{Done, Findings, BadInput, Failed, NoMemory}
+use Rattle.term_commands.specs.Causes.{EndsBy}
 use Rattle.term_commands.specs.Streams.{AppendsFront}
 use Rattle.term_traces.specs.declared.asked.Asked.{Asked}
 use Rattle.term_traces.specs.declared.line.Next.{Next}
@@ -27,7 +28,19 @@ PrintsLines asked lines old new Findings = ⊥
 abbrev pub PrintsRecords : Asked → List ℕ → Option (List ℕ) → Option (List ℕ) → Status → Type 0
 PrintsRecords asked input old new status = PrintsLines asked (lines_in input) old new status
 
+-- The status is that of the lines, and no read and no write failed; or it is `Failed`, and one did, or the input has at least
+-- 2^64 - 2 lines; or memory was refused.
+abbrev pub TracesBy : ℕ → ℕ → List ℕ → Status → Type 0
+TracesBy old new input Failed = (0 < new) ⊎ (18446744073709551614 ≤ length (lines_in input))
+TracesBy old new input NoMemory = Unit {0}
+TracesBy old new input status = new ≡ old
+
 -- ---- one line, as the program takes it
+
+-- no write failed; or one did; or memory was refused
+abbrev pub AddsBy : ℕ → ℕ → Result Next Status → Type 0
+AddsBy old new (Ok next) = new ≡ old
+AddsBy old new (Err status) = EndsBy old new Done status
 
 -- the text of a line was written, or a front of it
 abbrev pub PrintsLine : Asked → ℕ → Following → List ℕ → Option (List ℕ) → Result Next Status → Following → Option (List ℕ) → Type 0

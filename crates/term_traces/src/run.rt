@@ -1,29 +1,38 @@
 //! The command `records`: the records of sessions that were traced or captured.
 
-ghost use Rattle.std.specs.Prelude.{◌≡◌, ◌==◌, ◌<◌, ◌-◌, Bool, ◌&&◌, nat_lt, slice_index, take, length, if◌then◌else◌, IfOk, IfErr, IfSome, OnOk, Ok, Err};
+ghost use Rattle.std.specs.Prelude.{ℕ, ◌≡◌, ◌==◌, ◌<◌, ◌+◌, ◌-◌, Bool, ◌&&◌, nat_lt, slice_index, take, length, if◌then◌else◌, IfOk, IfErr, IfSome, OnOk, Ok, Err};
 ghost use Rattle.std.specs.String.{string_bytes};
+ghost use Rattle.term_commands.specs.declared.status.Status.TheVariants.{Done};
+ghost use Rattle.term_commands.specs.Causes.{EndsBy, FailsBy};
+ghost use Rattle.term_commands.specs.Fault.{IsNoFault};
+ghost use Rattle.term_commands.specs.Streams.{IsWantOrFailure};
 ghost use Rattle.term_traces.specs.declared.line.Next.TheVariants.{Goes};
 ghost use Rattle.term_traces.specs.Held.{following_seen, IsReady};
 ghost use Rattle.term_traces.specs.Open.{open_text};
-ghost use Rattle.term_traces.specs.Printed.{PrintsLine, PrintsRecords, Writes, WritesEnd};
+ghost use Rattle.term_traces.specs.Printed.{AddsBy, PrintsLine, PrintsRecords, TracesBy, Writes, WritesEnd};
 
 use crate::asked::Asked;
 use crate::follower::Follower;
 use crate::line::{Next, take_line};
 use crate::text::push_open;
 use std::alloc::Global;
-use std::io::{BufRead, Write};
-use term_commands::{Answer, Status, failure, finish, next_line, without_end};
+use term_commands::{
+    Answer, CommandError, GivesBytes, ReadAhead, Status, TakesBytes, finish, next_line, without_end,
+};
+
+/// So many bytes are read at once.
+const PIECE: usize = 8_192;
 
 /// Writes what a line adds.
-fn write_added<W: Write>(
+fn write_added<W: TakesBytes>(
     alloc: Global,
     writer: &mut W,
     text: String,
     next: Next,
 ) -> Result<Next, Status>
-    ensures { Writes (string_bytes text) (W.contents writer.old) next result
+    ensures writes { Writes (string_bytes text) (W.contents writer.old) next result
         (W.contents writer.new) }
+    ensures cause { AddsBy (W.failures writer.old) (W.failures writer.new) result }
 {
     let answer = Answer {
         text,
@@ -36,7 +45,7 @@ fn write_added<W: Write>(
 }
 
 /// Takes the line of a number, from 1, and writes what it adds.
-fn print_line<W: Write>(
+fn print_line<W: TakesBytes>(
     alloc: Global,
     asked: Asked,
     follower: &mut Follower,
@@ -47,6 +56,7 @@ fn print_line<W: Write>(
     requires ready { IsReady follower.old }
     ensures prints { PrintsLine asked number (following_seen follower.old) line.now
         (W.contents writer.old) result (following_seen follower.new) (W.contents writer.new) }
+    ensures cause { AddsBy (W.failures writer.old) (W.failures writer.new) result }
     ensures ready { IfOk result (λ next. next ≡ Goes → IsReady follower.new) }
 {
     let mut out = String::new(alloc);
@@ -57,8 +67,10 @@ fn print_line<W: Write>(
 }
 
 /// Writes what is left open at the end.
-fn print_end<W: Write>(alloc: Global, writer: &mut W, count: usize) -> Status
-    ensures { WritesEnd (open_text count) (W.contents writer.old) result (W.contents writer.new) }
+fn print_end<W: TakesBytes>(alloc: Global, writer: &mut W, count: usize) -> Status
+    ensures writes { WritesEnd (open_text count) (W.contents writer.old) result
+        (W.contents writer.new) }
+    ensures cause { EndsBy (W.failures writer.old) (W.failures writer.new) Done result }
 {
     let mut text = String::new(alloc);
     match push_open(&mut text, count) {
@@ -73,6 +85,19 @@ fn print_end<W: Write>(alloc: Global, writer: &mut W, count: usize) -> Status
     }
 }
 
+/// The status where a line can't be read.
+fn status_of(error: CommandError) -> Status
+    requires { IsNoFault error }
+    ensures want { IsWantOrFailure result }
+    ensures cause { (old : ℕ) (new : ℕ) → FailsBy old new error → EndsBy old new Done result }
+{
+    match error {
+        CommandError::ReadFailed => Status::Failed,
+        CommandError::OutOfMemory => Status::NoMemory,
+        CommandError::Fault(_) => unreachable!(),
+    }
+}
+
 /// Reads the lines of a trace or of a captured stream, and prints the records of a side: each as a
 /// comment, and those of 3270 data as a line of hexadecimal after it; a comment where a connection
 /// begins, and one that tells how many bytes are open where one ends. A line whose hexadecimal is
@@ -82,24 +107,30 @@ fn print_end<W: Write>(alloc: Global, writer: &mut W, count: usize) -> Status
 /// each side. After a read
 /// or a write that failed, and after 2^64 - 2 lines, the status is `Failed`, where memory was
 /// refused `NoMemory`, and a front of the text was written.
-pub fn run_records<R: BufRead, W: Write>(
+pub fn run_records<R: GivesBytes, W: TakesBytes>(
     alloc: Global,
     asked: Asked,
     reader: &mut R,
     writer: &mut W,
 ) -> Status
-    ensures { IfSome (R.remaining reader.old) (λ input. PrintsRecords asked input
+    ensures prints { IfSome (R.remaining reader.old) (λ input. PrintsRecords asked input
         (W.contents writer.old) (W.contents writer.new) result) }
+    ensures cause { IfSome (R.remaining reader.old) (λ input.
+        TracesBy (R.failures reader.old + W.failures writer.old)
+        (R.failures reader.new + W.failures writer.new) input result) }
 {
+    let Ok(mut ahead) = ReadAhead::new(alloc, PIECE) else {
+        return Status::NoMemory;
+    };
     let Ok(mut follower) = Follower::new(alloc, 0) else {
         return Status::NoMemory;
     };
     let mut line = Vec::new(alloc);
     for number in 1..u64::MAX {
-        match next_line(reader, &mut line) {
+        match next_line(reader, &mut ahead, &mut line) {
             Ok(true) => {}
             Ok(false) => return print_end(alloc, writer, follower.open_count(asked.side)),
-            Err(error) => return failure(&error),
+            Err(error) => return status_of(error),
         }
         match print_line(
             alloc,

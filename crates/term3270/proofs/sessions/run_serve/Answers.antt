@@ -5,6 +5,6 @@ use Rattle.term3270.proofs.sessions.run_serve.Goals as goal
 
 pub returns-in-Err : goal.returns-in-Err
 returns-in-Err g c =
-    if_some (g.L.Read.remaining c.args.layout.now) (λ text. if_some (g.R.Read.remaining c.args.records.now) (λ input gives.
-    serve_ends prepared_seen c.args.count c.args.output.now c.finish-in-Err.new.writer c.finish-in-Err.result c.in-Err.error (prepare text input) gives c.finish-in-Err.ensures))
+    if_some (g.L.GivesBytes.remaining c.args.layout.now) (λ text. if_some (g.R.GivesBytes.remaining c.args.records.now) (λ input gives.
+    serve_ends prepared_seen c.args.count c.args.output.now c.finish-in-Err.new.writer c.finish-in-Err.result c.in-Err.error (prepare text input) gives c.finish-in-Err.ensures.writes))
     c.in-Err.ensures.prepared
