@@ -40,6 +40,10 @@ while [ $number -lt $drawn ]; do
   draw $number > "$work/drawn/$number/stdin"
 done
 
+# The most fields of a layout, each with the same label.
+mkdir "$work/drawn/most"
+{ echo size 62x160; printf F5C2; yes 1D60C11D4040 | head -n 1000 | tr -d '\n'; echo; } > "$work/drawn/most/stdin"
+
 for input in "$cases"/show/*/stdin "$cases"/check/*/stdin "$cases"/draft/*/stdin "$work"/drawn/*/stdin; do
   name=${input#"$cases"/}
   name=${name#"$work"/}
