@@ -64,8 +64,10 @@ fn take_part<R: GivesBytes>(
     requires { 0 < most }
     ensures took { IfOk result (λ ends. (part : List ℕ) × (line.new.items ≡ line.old.items ++ part)
         × (length part ≤ most)
-        × Consumes (prepend_known ahead.old (R.remaining reader.old)) (prepend_known ahead.new (R.remaining reader.new)) part
-        × EndsPart ends part (prepend_known ahead.old (R.remaining reader.old)) (prepend_known ahead.new (R.remaining reader.new))) }
+        × Consumes (prepend_known ahead.old (R.remaining reader.old))
+        (prepend_known ahead.new (R.remaining reader.new)) part
+        × EndsPart ends part (prepend_known ahead.old (R.remaining reader.old))
+        (prepend_known ahead.new (R.remaining reader.new))) }
     ensures more { IfOk result (λ ends. ends ≡ false
         → length line.old.items < length line.new.items) }
     ensures cause { ToldBy (R.failures reader.old) (R.failures reader.new) result }
@@ -93,10 +95,12 @@ pub fn next_line<R: GivesBytes>(
     ahead: &mut ReadAhead,
     line: &mut Vec<u8>,
 ) -> Result<bool, CommandError>
-    ensures line { IfSome (prepend_known ahead.old (R.remaining reader.old)) (λ bytes. IfOk result (λ more.
-        ReadsLine bytes more line.new.items (prepend_known ahead.new (R.remaining reader.new)))) }
-    ensures front { IfSome (prepend_known ahead.old (R.remaining reader.old)) (λ bytes. IfOk result (λ more.
-        ReadsSome bytes more line.new.items (prepend_known ahead.new (R.remaining reader.new)))) }
+    ensures line { IfSome (prepend_known ahead.old (R.remaining reader.old))
+        (λ bytes. IfOk result (λ more. ReadsLine bytes more line.new.items
+        (prepend_known ahead.new (R.remaining reader.new)))) }
+    ensures front { IfSome (prepend_known ahead.old (R.remaining reader.old))
+        (λ bytes. IfOk result (λ more. ReadsSome bytes more line.new.items
+        (prepend_known ahead.new (R.remaining reader.new)))) }
     ensures some { IfOk result (λ more. more ≡ true → 0 < length line.new.items) }
     ensures cause { ToldBy (R.failures reader.old) (R.failures reader.new) result }
     ensures failed { IfErr result IsNoFault }

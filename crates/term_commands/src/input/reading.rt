@@ -23,8 +23,8 @@ fn has_at_most<R: GivesBytes>(
     most: usize,
 ) -> Result<bool, CommandError>
     requires { most ≤ 16777216 }
-    ensures few { IfSome (prepend_known ahead.old (R.remaining reader.old)) (λ rest. IfOk result (λ few. few
-        ≡ nat_le (length rest) most)) }
+    ensures few { IfSome (prepend_known ahead.old (R.remaining reader.old))
+        (λ rest. IfOk result (λ few. few ≡ nat_le (length rest) most)) }
     ensures cause { ToldBy (R.failures reader.old) (R.failures reader.new) result }
     ensures failed { IfErr result IsNoFault }
 {
@@ -48,8 +48,8 @@ fn fault_before_the_end<R: GivesBytes>(
 ) -> CommandError
     requires left { left ≤ 16777216 }
     requires unread { ReadsNothing error }
-    ensures ends { IfSome (prepend_known ahead.old (R.remaining reader.old)) (λ rest. EndsAs (nat_le (length rest) left) error
-        result) }
+    ensures ends { IfSome (prepend_known ahead.old (R.remaining reader.old))
+        (λ rest. EndsAs (nat_le (length rest) left) error result) }
     ensures cause { FailsBy (R.failures reader.old) (R.failures reader.new) result }
 {
     match error {
@@ -109,7 +109,8 @@ fn take_left<R: GivesBytes, T: TakesLines>(
     ahead: &mut ReadAhead,
     none: T,
 ) -> Result<T, CommandError>
-    ensures takes { IfSome (prepend_known ahead.old (R.remaining reader.old)) (λ input. TakesInput T.takes none input result) }
+    ensures takes { IfSome (prepend_known ahead.old (R.remaining reader.old))
+        (λ input. TakesInput T.takes none input result) }
     ensures cause { ToldBy (R.failures reader.old) (R.failures reader.new) result }
 {
     let mut line = Vec::new(alloc);
@@ -144,7 +145,8 @@ pub fn read_lines<R: GivesBytes, T: TakesLines>(
     reader: &mut R,
     none: T,
 ) -> Result<T, CommandError>
-    ensures takes { IfSome (R.remaining reader.old) (λ input. TakesInput T.takes none input result) }
+    ensures takes { IfSome (R.remaining reader.old)
+        (λ input. TakesInput T.takes none input result) }
     ensures cause { ToldBy (R.failures reader.old) (R.failures reader.new) result }
 {
     let mut ahead = ReadAhead::new(alloc, PIECE)?;

@@ -94,7 +94,8 @@ pub fn printed(alloc: Global, answer: Result<Answer, CommandError>) -> Result<An
 
 /// Writes the line of a fault.
 fn write_fault<W: TakesBytes>(alloc: Global, writer: &mut W, fault: Fault) -> Status
-    ensures writes { Finishes (W.contents writer.old) (W.contents writer.new) (Err (Told fault)) result }
+    ensures writes { Finishes (W.contents writer.old) (W.contents writer.new)
+        (Err (Told fault)) result }
     ensures cause { FinishesBy (W.failures writer.old) (W.failures writer.new)
         (Err (Told fault)) result }
 {
