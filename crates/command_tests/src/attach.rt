@@ -4,7 +4,7 @@ use crate::commands::push_ran;
 use ds_keys::Key;
 use std::io;
 use std::io::{Read, Write};
-use term_commands::read_keys;
+use term_commands::{Watched, read_keys};
 use term_sessions::{Output, attach_on};
 use test_words::Row;
 use tn_session::{Device, ScreenModel, Stop};
@@ -57,9 +57,9 @@ fn push_session(row: &mut Row, host: Host<'_>, keys: &[Key]) {
         model: ScreenModel::Two,
         extended: false,
     };
-    let mut output = Output::new(Vec::new(row.alloc()));
+    let mut output = Output::new(Watched::new(Vec::new(row.alloc())));
     let (status, wire) = attach_on(row.alloc(), host, device, keys, &mut output);
-    push_ran(row, Some(status), output.into_writer().as_slice());
+    push_ran(row, Some(status), output.into_writer().stream.as_slice());
     let stop = wire.stop();
     row.word(" got ");
     row.bytes(wire.into_line().gets.as_slice());

@@ -2,12 +2,13 @@
 
 use crate::files::texts_of;
 use crate::notation::push_written;
-use anyhow::{Context, Result};
+use anyhow::{Context, Result, ensure};
 use std::alloc::Global;
 use std::io;
 use std::io::{Read, Write};
 use term_commands::{
-    Demos, Status, failure, run_check, run_convert, run_convert_back, run_press, run_show, run_talk,
+    Demos, GivesBytes, Status, TakesBytes, Watched, failure, run_check, run_convert,
+    run_convert_back, run_press, run_show, run_talk,
 };
 use test_words::{Row, push_word_number};
 
@@ -38,7 +39,7 @@ pub(crate) fn command_of(name: &str) -> Option<Command> {
 }
 
 /// Runs a command that reads at most one file.
-fn run_with_file<R: Read, F: Read, W: Write>(
+fn run_with_file<R: GivesBytes, F: GivesBytes, W: TakesBytes>(
     alloc: Global,
     command: Command,
     input: &mut R,
@@ -55,7 +56,40 @@ fn run_with_file<R: Read, F: Read, W: Write>(
     }
 }
 
-/// Runs a command; `files` are what it reads besides its input.
+/// Files that count the calls that failed.
+fn watched<F: Drop>(alloc: Global, files: Vec<F>) -> Result<Vec<Watched<F>>> {
+    let mut all = Vec::new(alloc);
+    for file in files {
+        all.push(Watched::new(file))?;
+    }
+    Ok(all)
+}
+
+/// Runs a command over files that count the calls that failed.
+fn run_watched<R: GivesBytes, F: GivesBytes + Drop, W: TakesBytes>(
+    alloc: Global,
+    command: Command,
+    input: &mut R,
+    files: &mut [F],
+    writer: &mut W,
+) -> Result<Status> {
+    if let Command::Talk = command {
+        return Ok(run_talk(alloc, files, input, writer));
+    }
+    let file = files.first_mut().context("a file")?;
+    Ok(run_with_file(alloc, command, input, file, writer))
+}
+
+fn failures<F>(files: &[Watched<F>]) -> u64 {
+    let mut all = 0u64;
+    for file in files {
+        all = all.saturating_add(file.failures);
+    }
+    all
+}
+
+/// Runs a command; `files` are what it reads besides its input. Its status is `Failed` exactly where a call of a stream
+/// failed.
 pub(crate) fn run<R: Read, F: Read + Drop, W: Write>(
     alloc: Global,
     command: Command,
@@ -63,12 +97,24 @@ pub(crate) fn run<R: Read, F: Read + Drop, W: Write>(
     files: Vec<F>,
     writer: &mut W,
 ) -> Result<Status> {
-    if let Command::Talk = command {
-        return Ok(run_talk(alloc, files, input, writer));
-    }
-    let mut files = files;
-    let mut file = files.pop().context("a file")?;
-    Ok(run_with_file(alloc, command, input, &mut file, writer))
+    let mut input = Watched::new(input);
+    let mut files = watched(alloc, files)?;
+    let mut writer = Watched::new(writer);
+    let status = run_watched(
+        alloc,
+        command,
+        &mut input,
+        files.as_mut_slice(),
+        &mut writer,
+    )?;
+    let failed = failures(files.as_slice())
+        .saturating_add(input.failures)
+        .saturating_add(writer.failures);
+    ensure!(
+        (status == Status::Failed) == (failed > 0),
+        "a failure without a cause"
+    );
+    Ok(status)
 }
 
 pub(crate) fn name_of(status: Status) -> &'static str {

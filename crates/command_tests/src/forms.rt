@@ -3,7 +3,7 @@
 use crate::commands::name_of;
 use crate::notation::read_text;
 use std::alloc::Global;
-use term_commands::{Answer, CommandError, Status, printed};
+use term_commands::{Answer, CommandError, Status, Watched, printed};
 use term_findings::{Paths, Report, report_texts, run_report};
 use term_pictures::{Annotated, annotated_text, run_annotated};
 use test_words::Row;
@@ -32,9 +32,10 @@ fn form_of(name: &str) -> Option<Form> {
 /// What is written from streams, and the status.
 fn written(alloc: Global, form: Form, layout: &[u8], records: &[u8], text: &mut Vec<u8>) -> Status {
     let (mut layout, mut records) = (layout, records);
+    let mut text = Watched::new(text);
     match form {
-        Form::Annotated(form) => run_annotated(alloc, form, &mut layout, &mut records, text),
-        Form::Reported(report) => run_report(alloc, report, &mut layout, &mut records, text),
+        Form::Annotated(form) => run_annotated(alloc, form, &mut layout, &mut records, &mut text),
+        Form::Reported(report) => run_report(alloc, report, &mut layout, &mut records, &mut text),
     }
 }
 

@@ -1,8 +1,7 @@
 //! Lines as they are read.
 
 use crate::notation::read_text;
-use std::io::{BufRead, BufReader};
-use term_commands::{next_line, without_end};
+use term_commands::{GivesBytes, ReadAhead, next_line, without_end};
 use test_words::Row;
 
 /// The most lines that are read of an input.
@@ -11,14 +10,19 @@ const MOST_LINES: usize = 64;
 const PIECE: usize = 3;
 
 /// Reads the next line; whether there is one.
-fn is_read<R: BufRead>(row: &mut Row, reader: &mut R, line: &mut Vec<u8>) -> bool {
-    row.take(next_line(reader, line)).unwrap_or(false)
+fn is_read<R: GivesBytes>(
+    row: &mut Row,
+    reader: &mut R,
+    ahead: &mut ReadAhead,
+    line: &mut Vec<u8>,
+) -> bool {
+    row.take(next_line(reader, ahead, line)).unwrap_or(false)
 }
 
-fn push_lines<R: BufRead>(row: &mut Row, reader: &mut R) {
+fn push_lines<R: GivesBytes>(row: &mut Row, reader: &mut R, ahead: &mut ReadAhead) {
     let mut line = Vec::new(row.alloc());
     for _ in 0..MOST_LINES {
-        if !is_read(row, reader, &mut line) {
+        if !is_read(row, reader, ahead, &mut line) {
             return;
         }
         row.word("[");
@@ -31,8 +35,8 @@ fn push_lines<R: BufRead>(row: &mut Row, reader: &mut R) {
 pub(crate) fn push_read(row: &mut Row, text: &str) {
     let input = read_text(row, text);
     let mut bytes = input.as_slice();
-    match BufReader::with_capacity(row.alloc(), PIECE, &mut bytes) {
-        Ok(mut reader) => push_lines(row, &mut reader),
+    match ReadAhead::new(row.alloc(), PIECE) {
+        Ok(mut ahead) => push_lines(row, &mut bytes, &mut ahead),
         Err(_) => row.spoil(),
     }
 }
