@@ -1,7 +1,8 @@
 //! The draft of a screen.
 
-ghost use Rattle.std.specs.Prelude.{◌≡◌, ◌≤◌, length, IfOk, Ok};
+ghost use Rattle.std.specs.Prelude.{◌≡◌, ◌≤◌, ◌<◌, length, IfOk, Ok, Err};
 ghost use Rattle.std.specs.String.{string_bytes};
+ghost use Rattle.scr_layout.specs.Fault.{at_key};
 ghost use Rattle.scr_layout.specs.Layout.{layout_of};
 ghost use Rattle.scr_layout.specs.Results.{Gives};
 ghost use Rattle.scr_draft.specs.Draft.{drafted};
@@ -23,11 +24,14 @@ use std::alloc::Global;
 ///
 /// # Errors
 ///
-/// L11 where there are more than 1,000 fields, or `OutOfMemory` where a request for memory was refused.
+/// L11 where there are more than 1,000 fields, for which it asks for no memory; or `OutOfMemory` where a request for memory
+/// was refused.
 pub fn draft(alloc: Global, screen: &Screen<PlaneCells>) -> Result<String, LayoutError>
     ensures exact { Gives string_bytes result (drafted screen.now) }
     ensures printed { length (drafted_fields screen.now.cells) ≤ 1000
         → drafted screen.now ≡ Ok (draft_text screen.now (drafts_of screen.now)) }
+    ensures refused { 1000 < length (drafted_fields screen.now.cells)
+        → result ≡ Err (LayoutError.Refused (at_key LayoutKey.Field Why.TooManyFields)) }
     ensures reads { IfOk result (λ text. layout_of (string_bytes text)
         ≡ Ok (declared_by screen.now)) }
     ensures best { IfOk result (λ text. SaysBest screen.now (string_bytes text)) }
@@ -38,7 +42,9 @@ pub fn draft(alloc: Global, screen: &Screen<PlaneCells>) -> Result<String, Layou
 
 #[tactic(auto, unfolding(crate::specs::Draft::drafted))]
 fn drafted(alloc: Global, screen: &Screen<PlaneCells>) -> Result<String, LayoutError>
-    ensures { Gives string_bytes result (drafted screen.now) }
+    ensures exact { Gives string_bytes result (drafted screen.now) }
+    ensures refused { 1000 < length (drafted_fields screen.now.cells)
+        → result ≡ Err (LayoutError.Refused (at_key LayoutKey.Field Why.TooManyFields)) }
 {
     if has_too_many(screen) {
         return Err(LayoutError::Refused(LayoutFault {

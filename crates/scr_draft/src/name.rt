@@ -17,8 +17,7 @@ const MOST_NAME: usize = 32;
 
 /// A letter in lower case.
 fn lower(byte: u8) -> u8
-    ensures value { result ≡ lower byte }
-    ensures ascii { is_word byte ≡ true → result < 128 }
+    ensures { result ≡ lower byte }
 {
     match byte {
         b'A'..=b'Z' => byte + 32,

@@ -1,6 +1,6 @@
 //! The screen that records open for an operator.
 
-ghost use Rattle.std.specs.Prelude.{◌≡◌, IfOk};
+ghost use Rattle.std.specs.Prelude.{◌≡◌, [], IfOk, Ok};
 ghost use Rattle.ds_codec.specs.Reading.{read_of};
 ghost use Rattle.scr_check.specs.Opening.{taken, taken_from, ready};
 ghost use Rattle.scr_draft.specs.Opened.{opened, held, LeadsTo, IsOpened};
@@ -55,12 +55,14 @@ fn ready(screen: &Screen<PlaneCells>) -> Result<(), Finding>
 pub fn open(alloc: Global, geometry: Geometry, records: &[Vec<u8>]) -> Result<Opened, AllocError>
     ensures opened { IfOk result (IsOpened (opened geometry (held records.now))) }
     ensures none { IfOk result (FitsNone geometry (held records.now)) }
+    ensures no_record { records.now ≡ [] → result ≡ Ok (Opened.Stands Finding.NoRecord) }
 {
     opened_by(alloc, geometry, records)
 }
 
 fn opened_by(alloc: Global, geometry: Geometry, records: &[Vec<u8>]) -> Result<Opened, AllocError>
-    ensures { IfOk result (IsOpened (opened geometry (held records.now))) }
+    ensures opened { IfOk result (IsOpened (opened geometry (held records.now))) }
+    ensures no_record { records.now ≡ [] → result ≡ Ok (Opened.Stands Finding.NoRecord) }
 {
     if records.is_empty() {
         return Ok(Opened::Stands(Finding::NoRecord));
