@@ -14,6 +14,7 @@ use Rattle.toml.proofs.Blanks.{skip_newline, skip_within}
 use Rattle.toml.proofs.ReadLines.{run, AllPrinted, line_turn}
 use Rattle.ds_codec.proofs.Below.{each_below}
 use Rattle.scr_layout.specs.Entry.{is_name_byte}
+use Rattle.scr_draft.proofs.NameLaws.{either_way, not_false}
 
 -- ---- comments
 skip_inside : (text rest : List ℕ) → list_all is_non_eol text ≡ true → skip_from true true (text ++ 10 ∷ rest) ≡ skip_blank rest
@@ -39,14 +40,6 @@ is_itself c = not (needs_escape false 0 c) && (not (is_control c) && (not (c == 
 
 small_byte : (c : ℕ) → is_name_byte c ≡ true → c < 128
 small_byte c named = grind (arith, nat_tests)
-
-either_way : (a b : Bool) → (not a || b) ≡ true → a ≡ true → b ≡ true
-either_way true b h is = h
-either_way false b h is = absurd cc
-
-not_false : (b : Bool) → not b ≡ true → b ≡ false
-not_false true h = absurd cc
-not_false false h = refl
 
 itself : (c : ℕ) → is_name_byte c ≡ true → is_itself c ≡ true
 unfolding needs_escape

@@ -67,7 +67,7 @@ some_free (name ∷ names) forms once =
           | inr other ↦ other
         ]
 
-not_false : (b : Bool) → not b ≡ true → b ≡ false
+pub not_false : (b : Bool) → not b ≡ true → b ≡ false
 not_false true h = absurd cc
 not_false false h = refl
 
@@ -183,7 +183,7 @@ small_word c word = grind (arith, nat_tests)
 small_digit : (c : ℕ) → is_ascii_digit c ≡ true → c < 128
 small_digit c digit = grind (arith, nat_tests)
 
-either_way : (a b : Bool) → (not a || b) ≡ true → a ≡ true → b ≡ true
+pub either_way : (a b : Bool) → (not a || b) ≡ true → a ≡ true → b ≡ true
 either_way true b h is = h
 either_way false b h is = absurd cc
 
