@@ -26,10 +26,14 @@ key_told line = if is_utf8 line then (if is_ignored line then ignored else key_o
 
 -- ---- lines in turn
 
--- what the line of this number adds; at most 100,000 keys
+-- one more key; at most 100,000
+abbrev pub one_more : List Key → Key → Result (List Key) Fault
+one_more keys key = at_most (length keys + 1) 100000 >>= λ few. Ok (keys ++ key ∷ [])
+
+-- what the line of this number adds
 abbrev pub after_key_line : ℕ → List Key → KeyLine → Result (List Key) Fault
 after_key_line number keys ignored = Ok keys
-after_key_line number keys (named key) = at_most (length keys + 1) 100000 >>= λ few. Ok (keys ++ key ∷ [])
+after_key_line number keys (named key) = one_more keys key
 after_key_line number keys bad = Err (BadKeyLine number)
 
 abbrev pub take_key : ℕ → List Key → List ℕ → Result (List Key) Fault

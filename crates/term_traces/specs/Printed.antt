@@ -1,6 +1,8 @@
 -- What is written of an input, and the status; also where a read or a write fails, or memory is refused.
 use Rattle.std.specs.Prelude.{◌≡◌, ◌⊎◌, ◌<◌, ◌≤◌, ℕ, List, length, Option, Result, Ok, Err}
 use Rattle.std.specs.Io.KnownBytes.{Appends}
+use Rattle.term_commands.specs.declared.fault.CommandError.{CommandError}
+use Rattle.term_commands.specs.declared.fault.CommandError.TheVariants.{Fault as Told, ReadFailed, OutOfMemory}
 use Rattle.term_commands.specs.declared.status.Status.{Status}
 use Rattle.term_commands.specs.declared.status.Status.TheVariants.{Done, Findings, BadInput, Failed, NoMemory}
 use Rattle.term_commands.specs.Causes.{EndsBy}
@@ -34,6 +36,12 @@ abbrev pub TracesBy : ℕ → ℕ → List ℕ → Status → Type 0
 TracesBy old new input Failed = (0 < new) ⊎ (18446744073709551614 ≤ length (lines_in input))
 TracesBy old new input NoMemory = Unit {0}
 TracesBy old new input status = new ≡ old
+
+-- the status where a line can't be read
+abbrev pub status_of : CommandError → Status
+status_of (Told fault) = BadInput
+status_of ReadFailed = Failed
+status_of OutOfMemory = NoMemory
 
 -- ---- one line, as the program takes it
 

@@ -9,7 +9,7 @@ ghost use Rattle.term_commands.specs.Streams.{IsWantOrFailure};
 ghost use Rattle.term_traces.specs.declared.line.Next.TheVariants.{Goes};
 ghost use Rattle.term_traces.specs.Held.{following_seen, IsReady};
 ghost use Rattle.term_traces.specs.Open.{open_text};
-ghost use Rattle.term_traces.specs.Printed.{AddsBy, PrintsLine, PrintsRecords, TracesBy, Writes, WritesEnd};
+ghost use Rattle.term_traces.specs.Printed.{AddsBy, PrintsLine, PrintsRecords, TracesBy, Writes, WritesEnd, status_of};
 
 use crate::asked::Asked;
 use crate::follower::Follower;
@@ -88,6 +88,7 @@ fn print_end<W: TakesBytes>(alloc: Global, writer: &mut W, count: usize) -> Stat
 /// The status where a line can't be read.
 fn status_of(error: CommandError) -> Status
     requires { IsNoFault error }
+    ensures exact { result ≡ status_of error }
     ensures want { IsWantOrFailure result }
     ensures cause { (old : ℕ) (new : ℕ) → FailsBy old new error → EndsBy old new Done result }
 {

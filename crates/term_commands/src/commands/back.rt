@@ -4,7 +4,7 @@ ghost use Rattle.std.specs.Prelude.{◌≡◌, ◌≤◌, ◌+◌, IfOk, IfSome,
 ghost use Rattle.std.specs.List.{flat_map};
 ghost use Rattle.ds_codec.specs.Geometry.{Sizes, IsGood, cells_of};
 ghost use Rattle.order_lines.specs.Draft.{begun as no_order};
-ghost use Rattle.term_commands.specs.Fault.{Gives, GivesOrFails};
+ghost use Rattle.term_commands.specs.Fault.{Finds, Gives, GivesOrFails};
 ghost use Rattle.order_lines.specs.Told.{item_held, told_held};
 ghost use Rattle.term_commands.specs.declared.input.sizes.SizeLine.TheVariants.{Refused};
 ghost use Rattle.term_commands.specs.Held.{answer_seen, size_in_use, backward_seen, order_line_seen, written_line, written_printed};
@@ -203,7 +203,7 @@ fn take_text(alloc: Global, text: &[u8], none: Backward) -> Result<Backward, Com
 
 /// The records, or the first that cannot be written.
 fn records_of(told: Backward) -> Result<Vec<WrittenRecord>, CommandError>
-    ensures { Gives (λ records. flat_map written_line records.items) result
+    ensures { Finds (λ records. flat_map written_line records.items) result
         (backward_seen told).text }
 {
     match told.flaw {

@@ -3,14 +3,14 @@
 ghost use Rattle.std.specs.Prelude.{◌≡◌, IfSome, ◌≤◌, length};
 ghost use Rattle.ds_keys.specs.Lines.{key_of};
 ghost use Rattle.term_commands.specs.Causes.{ToldBy};
-ghost use Rattle.term_commands.specs.Fault.{Gives, GivesOrFails};
-ghost use Rattle.term_commands.specs.Keys.{key_or_bad, key_told, after_key_line, take_key, keys_in};
+ghost use Rattle.term_commands.specs.Fault.{Finds, Gives, GivesOrFails};
+ghost use Rattle.term_commands.specs.Keys.{key_or_bad, key_told, one_more, after_key_line, take_key, keys_in};
 ghost use Rattle.term_commands.specs.Lines.{lines_in};
 ghost use Rattle.term_commands.specs.Taking.{taken, taken_in};
 ghost use Rattle.term_commands.specs.Held.{key_line_seen, keys_seen};
 
 use crate::fault::{CommandError, Fault};
-use crate::input::bytes::{at_most, within_limit};
+use crate::input::bytes::within_limit;
 use crate::input::lines::{TakesLines, is_ignored, take_lines, text_of};
 use crate::input::reading::read_lines;
 use crate::streams::GivesBytes;
@@ -55,17 +55,24 @@ fn line_told(line: &[u8]) -> KeyLine
     }
 }
 
+/// One more key.
+fn add(told: &mut Keys, key: Key) -> Result<(), CommandError>
+    ensures { Finds (λ done. keys_seen told.new) result (one_more (keys_seen told.old) key) }
+{
+    if told.keys.len() >= MOST_KEYS {
+        return Err(CommandError::Fault(Fault::TooLong));
+    }
+    Ok(told.keys.push(key)?)
+}
+
 /// What the line of a number adds.
 fn add_line(told: &mut Keys, number: usize, line: KeyLine) -> Result<(), CommandError>
-    ensures { Gives (λ done. keys_seen told.new) result
+    ensures { Finds (λ done. keys_seen told.new) result
         (after_key_line number (keys_seen told.old) (key_line_seen line)) }
 {
     match line {
         KeyLine::Ignored => Ok(()),
-        KeyLine::Named(key) => {
-            told.keys.push(key)?;
-            Ok(at_most(told.keys.len(), MOST_KEYS)?)
-        }
+        KeyLine::Named(key) => add(told, key),
         KeyLine::Bad => Err(CommandError::Fault(Fault::BadKeyLine(number))),
     }
 }
