@@ -52,10 +52,8 @@ IsOfEvents _ = ⊥
 
 -- ---- one event
 
--- An event may ask for memory where it isn't at fault: what is found at fault asks for none. Only the fields of an answer
--- take memory before the one that is at fault is found.
+-- An event may ask for memory where it isn't at fault: what is found at fault asks for none.
 abbrev pub MayAsk : {State : Type 0} → Course State → Type 0
-MayAsk (fails (faults.Bind why)) = Unit {0}
 MayAsk (fails why) = ⊥
 MayAsk course = Unit {0}
 
