@@ -61,16 +61,16 @@ returns-in_default-entry-clause-blocks g c = λ digits small.
 
 pub returns-in_default-entry-clause-missed : goal.returns-in_default-entry-clause-missed
 returns-in_default-entry-clause-missed g c = λ none. (
-    λ digits small.
-    let lists = lists_of c.self.inside.blocks.items in
-    let own = c.block.ensures ∙ ap (λ bs. list_at (lists_of bs) (c.args.place / 64)) c.deref.ensures.value in
-    c.last_below-own.ensures.missed c.in_default.is digits (omega (arith, small, ap length own, block_length g.T.Placed.place_of lists (c.args.place / 64), ap (λ (u : Paged g.row.T.Denot). length u.entries) c.self.view_is)),
-    λ digits small.
-    let lists = lists_of c.self.inside.blocks.items in
-    let used = used_few g.T.Placed.place_of lists c.self.inside.used.items c.self.invariant.0.rising c.self.invariant.0.listed in
-    let looks = c.last_below-earlier.ensures.missed c.in_default-entry.is digits (omega (arith, small, used, ap length c.deref-2.ensures.value, ap (λ (u : Paged g.row.T.Denot). length u.entries) c.self.view_is)) in
-    omega (arith, looks),
-  )
+  λ digits small.
+      let lists = lists_of c.self.inside.blocks.items in
+      let own = c.block.ensures ∙ ap (λ bs. list_at (lists_of bs) (c.args.place / 64)) c.deref.ensures.value in
+      c.last_below-own.ensures.missed c.in_default.is digits (omega (arith, small, ap length own, block_length g.T.Placed.place_of lists (c.args.place / 64), ap (λ (u : Paged g.row.T.Denot). length u.entries) c.self.view_is)),
+  λ digits small.
+      let lists = lists_of c.self.inside.blocks.items in
+      let used = used_few g.T.Placed.place_of lists c.self.inside.used.items c.self.invariant.0.rising c.self.invariant.0.listed in
+      let looks = c.last_below-earlier.ensures.missed c.in_default-entry.is digits (omega (arith, small, used, ap length c.deref-2.ensures.value, ap (λ (u : Paged g.row.T.Denot). length u.entries) c.self.view_is)) in
+      omega (arith, looks),
+)
 
 pub returns-clause-nearest : goal.returns-clause-nearest
 returns-clause-nearest g c =
