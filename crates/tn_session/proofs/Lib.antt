@@ -1,6 +1,7 @@
 pub mod Walks
 pub mod RunLaws
 pub mod RunStates
+pub mod PieceSteps
 pub mod RunSteps
 pub mod CoreFaults
 pub mod HostSteps

@@ -8,4 +8,8 @@ pub mod Wire
 pub mod Ran
 pub mod TerminalRuns
 pub mod OneLog
+pub mod Talk
+pub mod SessionView
+pub mod RanSession
 pub mod Outcomes
+pub mod HostTalk

@@ -1,5 +1,5 @@
 -- What a terminal does over a line at each event: what it sends, and how its run then stands.
-use Rattle.std.specs.Prelude.{ℕ, ◌+◌, ◌==◌, Bool, true, false, ◌&&◌, ◌||◌, List, [], ◌∷◌, ◌++◌, length, Option, Some, None, Result, Ok, Err, if◌then◌else◌}
+use Rattle.std.specs.Prelude.{ℕ, ◌+◌, ◌==◌, nat_lt, Bool, true, false, ◌&&◌, ◌||◌, List, [], ◌∷◌, ◌++◌, length, Option, Some, None, Result, Ok, Err, if◌then◌else◌}
 use Rattle.ds_codec.specs.declared.refused.Why as reading
 use Rattle.ds_codec.specs.declared.refused.Why.TheVariants as reading_why
 use Rattle.ds_screen.specs.declared.lock.Lock.{Lock}
@@ -45,12 +45,9 @@ new_terminal_state device enhanced responses = record {
   refused = 0;
 }
 
--- all that it counts
-abbrev pub counted : TerminalState → ℕ
-counted state = state.answers + (state.passed + state.refused)
-
-abbrev pub terminal_weight : TerminalRunning → ℕ
-terminal_weight running = counted running.state + length running.keys
+-- counts go up to 18,446,744,073,709,551,615 and stay there, which no run over a line comes to
+abbrev pub one_more : ℕ → ℕ
+one_more count = if nat_lt count 18446744073709551615 then count + 1 else count
 
 abbrev pub terminal_start : Device → Bool → Bool → List Key → TerminalRunning
 terminal_start device enhanced responses keys = record { state = new_terminal_state device enhanced responses; keys = keys }
@@ -112,7 +109,7 @@ abbrev pub answer_due : Agreed → TerminalState → List ℕ → List ℕ
 answer_due agreed state bytes = sent_data agreed 0 state.sequence bytes
 
 abbrev pub after_answer : TerminalState → TerminalState
-after_answer state = record state { sequence = next_sequence state.sequence; answers = state.answers + 1 }
+after_answer state = record state { sequence = next_sequence state.sequence; answers = one_more state.answers }
 
 -- what a record makes of the screen
 abbrev pub after_record : TerminalState → Picture → TerminalState
@@ -122,7 +119,7 @@ abbrev pub replied : Agreed → Header → TerminalState → Reply → Doing
 replied agreed header state (shown effect) = doing (positive agreed header) state
 replied agreed header state (answered bytes) = doing (positive agreed header ++ answer_due agreed state bytes) (after_answer state)
 replied agreed header state nothing = doing (positive agreed header) state
-replied agreed header state (refused why) = doing (negative agreed header why) (record state { refused = state.refused + 1 })
+replied agreed header state (refused why) = doing (negative agreed header why) (record state { refused = one_more state.refused })
 
 -- what a turn of the terminal makes of the run
 abbrev pub turned : Agreed → Header → TerminalState → Turn → Doing
@@ -173,7 +170,7 @@ taken_data agreed header running bytes = standing (then_typed agreed running.key
 
 -- records of other types are passed over
 abbrev pub passed_over : TerminalRunning → Log TerminalRunning
-passed_over running = going [] (record running { state = record running.state { passed = running.state.passed + 1 } })
+passed_over running = going [] (record running { state = record running.state { passed = one_more running.state.passed } })
 
 abbrev pub taken_typed : Agreed → Header → TerminalRunning → List ℕ → DataType → Log TerminalRunning
 taken_typed agreed header running bytes Data3270 = taken_data agreed header running bytes

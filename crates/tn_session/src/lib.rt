@@ -6,15 +6,18 @@
 
 mod fault;
 mod history;
+mod host_line;
 mod host_machine;
 mod host_session;
 mod laws;
 mod machine;
 mod outcome;
+mod progress;
 mod report;
 mod responses;
 mod run;
 mod sent;
+mod session;
 mod stop;
 mod terminal_events;
 mod terminal_line;
@@ -26,9 +29,11 @@ mod wire;
 
 pub use fault::RunFault;
 pub use history::History;
-pub use host_session::host_run;
+pub use host_line::host_run;
+pub use host_session::HostSession;
 pub use laws::{one_log, outcome_law};
 pub use outcome::HostOutcome;
+pub use progress::Progress;
 pub use report::{Report, RunEnd};
 pub use stop::Stop;
 pub use terminal_line::terminal_run;

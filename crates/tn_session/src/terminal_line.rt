@@ -10,6 +10,7 @@ ghost use Rattle.tn_session.specs.TerminalRuns.{TerminalRan, HasFailed};
 use crate::fault::RunFault;
 use crate::report::Report;
 use crate::run::run_over;
+use crate::session::Session;
 use crate::terminal_machine::TerminalRun;
 use crate::terminal_state::TerminalState;
 use crate::wire::Wire;
@@ -79,7 +80,7 @@ fn run_terminal<L: Read + Write>(
         passed: 0,
         refused: 0,
     };
-    let mut run = TerminalRun { state, keys };
-    let finish = run_over(alloc, wire, &mut run, &[])?;
-    Ok(run.report(finish))
+    let mut session = Session::new(alloc, TerminalRun { state, keys })?;
+    let finish = run_over(alloc, wire, &mut session, &[])?;
+    Ok(session.machine().report(finish))
 }

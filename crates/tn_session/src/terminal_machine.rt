@@ -27,11 +27,9 @@ impl<'a> Model for TerminalRun<'a> {
 }
 
 impl<'a> Machine for TerminalRun<'a> {
-    ghost use Rattle.tn_session.specs.TerminalLog.{terminal_act, terminal_weight};
+    ghost use Rattle.tn_session.specs.TerminalLog.{terminal_act};
 
     ghost act = { terminal_act };
-
-    ghost weight = { terminal_weight };
 
     fn take(
         &mut self,

@@ -1,7 +1,7 @@
 //! What a record and a key do to a terminal's run.
 
-ghost use Rattle.std.specs.Prelude.{◌≡◌, ◌+◌, ◌<◌, ◌≤◌, ◌^◌, ◌++◌, length, OnOk};
-ghost use Rattle.tn_session.specs.TerminalLog.{counted, is_free, is_waiting, answer_due, after_answer, replied, received_data, key_replied, typed_key, typing};
+ghost use Rattle.std.specs.Prelude.{◌≡◌, ◌++◌, OnOk};
+ghost use Rattle.tn_session.specs.TerminalLog.{one_more, is_free, is_waiting, answer_due, after_answer, replied, received_data, key_replied, typed_key, typing};
 ghost use Rattle.ds_terminal.specs.Seen.{reply_seen, key_reply_seen};
 
 use crate::responses::{push_negative, push_positive};
@@ -26,18 +26,23 @@ fn is_waiting(lock: Lock) -> bool
     matches!(lock, Lock::Waiting)
 }
 
+/// One more, up to the most that is counted.
+pub(crate) fn one_more(count: u64) -> u64
+    ensures { result ≡ one_more count }
+{
+    if count < u64::MAX { count + 1 } else { count }
+}
+
 impl TerminalState {
     /// Answers, as to Read Modified.
     fn answer(&mut self, due: &mut Vec<u8>, agreed: Agreed, bytes: &[u8]) -> Result<(), AllocError>
-        requires { counted self.old + 1 < 2 ^ 64 }
         ensures due { OnOk result
             (due.new.items ≡ due.old.items ++ answer_due agreed self.old bytes.now) }
         ensures after { OnOk result (self.new ≡ after_answer self.old) }
-        ensures light { OnOk result (counted self.new ≤ counted self.old + 1) }
     {
         push_data(due, agreed, 0, self.sequence, bytes)?;
         self.sequence = next_sequence(self.sequence);
-        self.answers += 1;
+        self.answers = one_more(self.answers);
         Ok(())
     }
 
@@ -50,12 +55,10 @@ impl TerminalState {
         header: Header,
         bytes: &[u8],
     ) -> Result<(), AllocError>
-        requires { counted self.old + 1 < 2 ^ 64 }
         ensures due { OnOk result (due.new.items
             ≡ due.old.items ++ (received_data agreed header self.old bytes.now).due) }
         ensures after { OnOk result
             (self.new ≡ (received_data agreed header self.old bytes.now).state) }
-        ensures light { OnOk result (counted self.new ≤ counted self.old + 1) }
     {
         let reply = self.terminal.receive(alloc, bytes)?;
         self.was_free = self.was_free || is_free(self.terminal.screen().lock());
@@ -70,12 +73,10 @@ impl TerminalState {
         header: Header,
         reply: RecordReply,
     ) -> Result<(), AllocError>
-        requires { counted self.old + 1 < 2 ^ 64 }
         ensures due { OnOk result (due.new.items
             ≡ due.old.items ++ (replied agreed header self.old (reply_seen reply)).due) }
         ensures after { OnOk result
             (self.new ≡ (replied agreed header self.old (reply_seen reply)).state) }
-        ensures light { OnOk result (counted self.new ≤ counted self.old + 1) }
     {
         match reply {
             RecordReply::Shown(_) | RecordReply::Nothing => {
@@ -89,7 +90,7 @@ impl TerminalState {
             }
             RecordReply::Refused(why) => {
                 push_negative(due, agreed, header, why)?;
-                self.refused += 1;
+                self.refused = one_more(self.refused);
                 Ok(())
             }
         }
@@ -103,11 +104,9 @@ impl TerminalState {
         agreed: Agreed,
         key: Key,
     ) -> Result<(), AllocError>
-        requires { counted self.old + 1 < 2 ^ 64 }
         ensures due { OnOk result
             (due.new.items ≡ due.old.items ++ (typed_key agreed self.old key).due) }
         ensures after { OnOk result (self.new ≡ (typed_key agreed self.old key).state) }
-        ensures light { OnOk result (counted self.new ≤ counted self.old + 1) }
     {
         let reply = self.terminal.press(alloc, key)?;
         self.key_reply(due, agreed, reply)
@@ -120,12 +119,10 @@ impl TerminalState {
         agreed: Agreed,
         reply: KeyReply,
     ) -> Result<(), AllocError>
-        requires { counted self.old + 1 < 2 ^ 64 }
         ensures due { OnOk result (due.new.items
             ≡ due.old.items ++ (key_replied agreed self.old (key_reply_seen reply)).due) }
         ensures after { OnOk result
             (self.new ≡ (key_replied agreed self.old (key_reply_seen reply)).state) }
-        ensures light { OnOk result (counted self.new ≤ counted self.old + 1) }
     {
         match reply {
             KeyReply::Sent(bytes) => self.answer(due, agreed, &bytes),
@@ -141,13 +138,10 @@ impl TerminalState {
         agreed: Agreed,
         keys: &mut &[Key],
     ) -> Result<(), AllocError>
-        requires { counted self.old + length keys.old.now < 2 ^ 64 }
         ensures due { OnOk result
             (due.new.items ≡ due.old.items ++ (typing agreed self.old keys.old.now).due) }
         ensures after { OnOk result (record { state = self.new; keys = keys.new.now }
             ≡ (typing agreed self.old keys.old.now).running) }
-        ensures light { OnOk result (counted self.new + length keys.new.now
-            ≤ counted self.old + length keys.old.now) }
     {
         'keys: while let Some((key, rest)) = keys.split_first() {
             if is_waiting(self.terminal.screen().lock()) {
