@@ -12,6 +12,10 @@ pub mod RunEnds
 pub mod TerminalEnds
 pub mod TerminalRunning
 pub mod OneLog
+pub mod Pieces
+pub mod Worked
+pub mod WorkLaws
+pub mod Heard
 pub mod TouchedPairs
 pub mod LayoutKept
 pub mod OutcomeLaws

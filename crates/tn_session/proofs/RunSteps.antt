@@ -15,11 +15,10 @@ use Rattle.tn_session.specs.declared.progress.Progress.TheVariants.{More, Done}
 use Rattle.tn_session.specs.declared.turn.Finish.{Finish}
 use Rattle.tn_session.specs.declared.turn.Finish.TheVariants as finish
 use Rattle.tn_session.specs.Wire.{WireState, Gave, IsRead, IsWrite}
-use Rattle.tn_session.specs.OneLog.{waits}
 use Rattle.tn_session.specs.Runs.{finishes, fails, Log, GoesOn, EndsBy, IsPartDue}
-use Rattle.tn_session.specs.Ran.{Cause, LacksMemory, ReadsInPieces, of_stream, of_memory, of_line, of_reads, of_end, of_events, cause_of, SentOn, SentPart, Sends, PassedOver, IsOpen, IsCutShort, RunFails, Ran, stopped_by}
+use Rattle.tn_session.specs.Ran.{Cause, ReadsInPieces, of_stream, of_memory, of_line, of_reads, of_end, of_events, cause_of, SentOn, SentPart, Sends, PassedOver, IsOpen, IsCutShort, RunFails, stopped_by}
 use Rattle.tn_session.specs.RanSession.{IsFresh, RanSession}
-use Rattle.tn_session.specs.Talk.{Talk, stands, IsDueBefore, EndsWith, PieceFails, Hears, Takes}
+use Rattle.tn_session.specs.Talk.{Talk, IsDueBefore, EndsWith, PieceFails, Hears, Takes}
 use Rattle.tn_session.proofs.OneLog.{still_ends}
 use Rattle.tn_session.proofs.RunLaws.{goes-goes, goes-ends, goes-fault, goes-part, goes-lacks, nothing_yet}
 use Rattle.tn_session.proofs.RunStates.{RunSoFar}
@@ -105,7 +104,7 @@ module _ {State : Type 0} (act : State → Told → Log State) where
   part_failed before state piece given part lost why of_end went cut = absurd went
 
   -- bytes that end a session end whatever begins with them
-  ends_piece : (before : List ℕ) (state end : State) (piece given : List ℕ) (taken : ℕ) → EndsWith act before state (take taken piece) given end
+  pub ends_piece : (before : List ℕ) (state end : State) (piece given : List ℕ) (taken : ℕ) → EndsWith act before state (take taken piece) given end
       → EndsBy act before state piece given (finishes end)
   ends_piece before state end piece given taken e =
       subst (λ z. EndsBy act before state z given (finishes end)) (take-append-drop taken piece)

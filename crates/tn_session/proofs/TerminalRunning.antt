@@ -1,5 +1,5 @@
 -- A terminal's run, from that of its machine.
-use Rattle.std.proofs.Common.{◌≡◌, Bool, false, List, [], Ok, Err, refl, sym, ◌∙◌, ap, subst, inl}
+use Rattle.std.proofs.Common.{◌≡◌, Bool, false, List, [], None, Ok, Err, refl, sym, ◌∙◌, ap, subst, inl}
 use Rattle.std.specs.Prelude.{Result}
 use Rattle.ds_codec.specs.Geometry.{Sizes}
 use Rattle.ds_screen.specs.Picture.{Picture}
@@ -10,6 +10,7 @@ use Rattle.tn_cores.specs.declared.terminal.TermCore.{TermCore}
 use Rattle.tn_cores.specs.Devices.{sizes_of}
 use Rattle.tn_cores.specs.Terminal.{new_terminal}
 use Rattle.tn_session.specs.declared.fault.RunFault.{RunFault}
+use Rattle.tn_session.specs.declared.terminal_state.TerminalState.{TerminalState}
 use Rattle.tn_session.specs.declared.fault.RunFault.TheVariants as faults
 use Rattle.tn_session.specs.declared.turn.Finish.{Finish}
 use Rattle.tn_session.specs.declared.turn.Finish.TheVariants as finish
@@ -19,33 +20,44 @@ use Rattle.tn_session.specs.Ran.{Ran, RunFails, cause_of}
 use Rattle.tn_session.specs.OneLog.{waits}
 use Rattle.tn_session.specs.RanSession.{EndsAs, RanSession}
 use Rattle.tn_session.specs.Talk.{Talk, stands, IsMachineOf}
-use Rattle.tn_session.specs.TerminalLog.{TerminalRunning, terminal_start, terminal_act}
+use Rattle.tn_session.specs.TerminalLog.{TerminalRunning, new_terminal_state, terminal_start, terminal_act}
 use Rattle.tn_session.specs.TerminalRuns.{TerminalRan, finish_of, end_of, report_of}
 
-abbrev begun_of : TermCore → Picture → List Key → TerminalRunning
-begun_of core picture keys = record {
-  state = record { core = core; terminal = picture; sequence = 0; was_free = false; answers = 0; passed = 0; refused = 0 };
-  keys = keys;
+abbrev state_with : TermCore → Picture → TerminalState
+state_with core picture = record {
+  core = core;
+  terminal = picture;
+  sequence = 0;
+  was_free = false;
+  answers = 0;
+  taken = 0;
+  passed = 0;
+  refused = 0;
+  kept = None;
 }
+
+pub new_so : (device : Device) (enhanced responses : Bool) (core : TermCore) (picture : Picture) (geometry : Sizes) → core ≡ new_terminal device enhanced responses
+    → picture ≡ new_picture geometry → geometry ≡ sizes_of device.model → state_with core picture ≡ new_terminal_state device enhanced responses
+new_so device enhanced responses core picture geometry made shown sized =
+    ap (λ (c : TermCore). state_with c picture) made
+    ∙ ap (λ (v : Picture). state_with (new_terminal device enhanced responses) v) (shown ∙ ap new_picture sized)
 
 finish_again : (how : Finish) → finish_of (end_of how) ≡ how
 finish_again finish.Finished = refl
 finish_again finish.Closed = refl
 
-module _ (device : Device) (enhanced responses : Bool) (keys : List Key) (old new : WireState) (core : TermCore) (picture : Picture) (geometry : Sizes)
-    (made : core ≡ new_terminal device enhanced responses) (shown : picture ≡ new_picture geometry) (sized : geometry ≡ sizes_of device.model) where
-  begun : begun_of core picture keys ≡ terminal_start device enhanced responses keys
-  begun =
-      ap (λ (c : TermCore). begun_of c picture keys) made
-      ∙ ap (λ (v : Picture). begun_of (new_terminal device enhanced responses) v keys) (shown ∙ ap new_picture sized)
+module _ (device : Device) (enhanced responses : Bool) (keys : List Key) (old new : WireState) (state_of : TerminalState)
+    (made_so : state_of ≡ new_terminal_state device enhanced responses) where
+  abbrev begun_of : TerminalRunning
+  begun_of = record { state = state_of; keys = keys }
 
-  started : (talk : Talk TerminalRunning) (state : TerminalRunning) → talk ≡ stands (waits (begun_of core picture keys) []) → talk ≡ stands (waits state [])
+  started : (talk : Talk TerminalRunning) (state : TerminalRunning) → talk ≡ stands (waits begun_of []) → talk ≡ stands (waits state [])
       → state ≡ terminal_start device enhanced responses keys
   started talk state made is =
-      let same : ◌≡◌ {A = Talk TerminalRunning} (stands (waits state [])) (stands (waits (begun_of core picture keys) [])) = sym is ∙ made in
-      let state_is : state ≡ begun_of core picture keys = cc in state_is ∙ begun
+      let same : ◌≡◌ {A = Talk TerminalRunning} (stands (waits state [])) (stands (waits begun_of [])) = sym is ∙ made in
+      let state_is : state ≡ begun_of = cc in state_is ∙ ap (λ (s : TerminalState). record { state = s; keys = keys }) made_so
 
-  pub ran_so : (how : Finish) (talk last : Talk TerminalRunning) (machine : TerminalRunning) (report : Report) → talk ≡ stands (waits (begun_of core picture keys) [])
+  pub ran_so : (how : Finish) (talk last : Talk TerminalRunning) (machine : TerminalRunning) (report : Report) → talk ≡ stands (waits begun_of [])
       → RanSession terminal_act [] talk old (Ok how) last new → IsMachineOf last machine → report ≡ report_of machine (end_of how)
       → TerminalRan device enhanced responses keys old (Ok report) new
   ran_so how talk last machine report made (state, begins, end, ends, ran) of_last is =
@@ -63,7 +75,7 @@ module _ (device : Device) (enhanced responses : Bool) (keys : List Key) (old ne
       machine_at finish.Finished l m e at of = subst (λ t. IsMachineOf t m) at of
       machine_at finish.Closed l m e (left, at) of = subst (λ t. IsMachineOf t m) at of
 
-  pub failed_so : (why : RunFault) (talk last : Talk TerminalRunning) (result : Result Report RunFault) → talk ≡ stands (waits (begun_of core picture keys) [])
+  pub failed_so : (why : RunFault) (talk last : Talk TerminalRunning) (result : Result Report RunFault) → talk ≡ stands (waits begun_of [])
       → result ≡ Err why → RanSession terminal_act [] talk old (Err why) last new → TerminalRan device enhanced responses keys old result new
   failed_so why talk last result made is (state, begins, end, ends, ran) =
       let whole : RunFails terminal_act [] (terminal_start device enhanced responses keys) old why new (cause_of why) =

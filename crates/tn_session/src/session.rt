@@ -6,11 +6,15 @@ ghost use Rattle.tn_wire.specs.Calls.{told_of};
 ghost use Rattle.tn_wire.specs.Stream.{Tells};
 ghost use Rattle.tn_session.specs.Talk.{Adds, TakesEvent, TakesPiece, Takes, stands, listening_in, last_in, IsMachineOf};
 ghost use Rattle.tn_session.specs.OneLog.{waits};
+ghost use Rattle.tn_session.specs.TerminalTalk.{GivesKey, Presses};
 
 use crate::fault::RunFault;
 use crate::machine::Machine;
+use crate::pressed::Pressed;
 use crate::progress::Progress;
+use crate::terminal_state::TerminalState;
 use crate::turn::Turn;
+use ds_keys::Key;
 use std::alloc::{AllocError, Global};
 use std::marker::Model;
 use tn_wire::{Deframer, Event, Step};
@@ -173,4 +177,45 @@ impl<M: Machine> Session<M> {
             _ => None,
         }
     }
+}
+
+impl Session<TerminalState> {
+    /// Presses a key, and adds the bytes that it sends.
+    pub(crate) fn press(
+        &mut self,
+        alloc: Global,
+        key: Key,
+        due: &mut Vec<u8>,
+    ) -> Result<Pressed, RunFault>
+        ensures { Adds due.old.items due.new.items (λ given.
+            Presses self.old key result given self.new) }
+    {
+        match self.end {
+            Some(End::Over) => return Ok(Pressed::Ignored),
+            Some(End::Failed(why)) => return Err(why),
+            None => {}
+        }
+        let pressed = press_key(alloc, &mut self.machine, &mut self.made, due, key);
+        if let Err(why) = pressed {
+            self.end = Some(End::Failed(why));
+        }
+        pressed
+    }
+}
+
+/// Presses a key, and adds what it sends.
+fn press_key(
+    alloc: Global,
+    state: &mut TerminalState,
+    made: &mut Vec<u8>,
+    due: &mut Vec<u8>,
+    key: Key,
+) -> Result<Pressed, RunFault>
+    ensures { Adds due.old.items due.new.items (λ given.
+        GivesKey state.old key result given state.new) }
+{
+    made.clear();
+    let answer = state.work(alloc, made, key)?;
+    due.extend_from_slice(made)?;
+    Ok(answer)
 }

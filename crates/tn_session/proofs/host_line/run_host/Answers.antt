@@ -1,4 +1,4 @@
-use Rattle.std.proofs.Common.{List, ℕ, ◌++◌, map, Ok, Err, ◌∙◌, ap, subst}
+use Rattle.std.proofs.Common.{◌++◌, map, Ok, Err, ◌∙◌, ap, subst}
 use Rattle.std.proofs.lemmas.Result.{err_from_is_err_and}
 use Rattle.tn_session.specs.HostLog.{host_act}
 use Rattle.tn_session.specs.RanSession.{RanSession}
