@@ -2,7 +2,7 @@ use Rattle.std.proofs.Common.{List, ℕ, map}
 use Rattle.tn_session.specs.Ran.{ReadsInPieces}
 use Rattle.tn_session.proofs.RunEnds.{few_reads}
 use Rattle.tn_session.proofs.HostEnds.{line_exactly, closed_where_ended, many_reads, host_pieces}
-use Rattle.tn_session.proofs.host_session.host_run.Goals as goal
+use Rattle.tn_session.proofs.host_line.host_run.Goals as goal
 
 pub returns : goal.returns
 returns g c =
