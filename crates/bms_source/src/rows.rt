@@ -68,6 +68,7 @@ pub(crate) fn rows_of(alloc: Global, first: usize, lines: &[&[u8]]) -> Result<Ve
     ensures rows { Gives (λ rows. rows.items) result
         (rows_from First first (map (λ line. line.now) lines.now)) }
     ensures few { IfOk result (λ rows. length rows.items ≤ length lines.now) }
+    ensures some { 0 < length lines.now → IfOk result (λ rows. 0 < length rows.items) }
 {
     let mut rows = Vec::new(alloc);
     let mut rest = lines;

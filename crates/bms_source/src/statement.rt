@@ -233,7 +233,8 @@ fn statement_of(
 
 /// What the lines of a statement say, and how many they are.
 fn found_in(alloc: Global, rows: &[Row]) -> Result<(Read, usize), SourceError>
-    ensures { Gives (λ found. (seen found.0, found.1)) result (found_in rows.now) }
+    ensures found { Gives (λ found. (seen found.0, found.1)) result (found_in rows.now) }
+    ensures count { IfOk result (λ found. found.1 ≡ length rows.now) }
 {
     match rows {
         [] => Ok((Read::Passed, 0)),
@@ -255,6 +256,7 @@ pub fn read_statement(
     ensures said { Gives (λ found. (seen found.0, found.1)) result
         (statement_in number (map (λ line. line.now) lines.now)) }
     ensures few { IfOk result (λ found. found.1 ≤ length lines.now) }
+    ensures some { 0 < length lines.now → IfOk result (λ found. 0 < found.1) }
 {
     let rows = rows_of(alloc, number, lines)?;
     found_in(alloc, rows.as_slice())
