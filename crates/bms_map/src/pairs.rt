@@ -1,0 +1,32 @@
+//! The pairs of Start Field Extended.
+
+use crate::field::Looks;
+use crate::list::Attribute;
+use ds_codec::to_six_bit_code;
+use std::alloc::{AllocError, Global};
+
+/// Adds a pair, where it has an effect.
+fn push_pair(pairs: &mut Vec<u8>, kind: u8, value: Option<u8>) -> Result<(), AllocError> {
+    match value {
+        None | Some(0) => Ok(()),
+        Some(value) => pairs.extend_from_slice(&[kind, value]),
+    }
+}
+
+/// The attribute and the pairs of a field; none where it has no pair but the attribute.
+pub(crate) fn pairs_of(
+    alloc: Global,
+    attribute: Attribute,
+    looks: Looks,
+) -> Result<Vec<u8>, AllocError> {
+    let mut pairs = Vec::new(alloc);
+    if looks.count() == 0 {
+        return Ok(pairs);
+    }
+    pairs.extend_from_slice(&[0xC0, to_six_bit_code(attribute.bits)])?;
+    push_pair(&mut pairs, 0x41, looks.highlight)?;
+    push_pair(&mut pairs, 0x42, looks.color)?;
+    push_pair(&mut pairs, 0xC1, looks.validation)?;
+    push_pair(&mut pairs, 0xC2, looks.outline)?;
+    Ok(pairs)
+}

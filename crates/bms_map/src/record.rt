@@ -1,0 +1,112 @@
+//! The record of a map: what SEND MAP MAPONLY ERASE sends.
+
+ghost use Rattle.std.specs.Prelude.{◌<◌, ◌≤◌};
+
+use crate::field::{Field, Later};
+use crate::map::Map;
+use ds_codec::{Attr, Command, Mode, Order, Unwritable, to_six_bit_code};
+use order_lines::Draft;
+use std::alloc::{AllocError, Global};
+
+/// What SEND MAP adds to the write control character.
+#[derive(Clone, Copy, Debug, PartialEq, Eq)]
+pub struct Control {
+    pub free_keyboard: bool,
+    pub reset_modified: bool,
+}
+
+/// The bits with 02, unless it is among them.
+fn freed(bits: u8) -> u8
+    requires { bits < 64 }
+    ensures { result < 64 }
+{
+    if bits / 2 % 2 == 0 { bits + 2 } else { bits }
+}
+
+/// The bits with 01, unless it is among them.
+fn reset(bits: u8) -> u8
+    requires { bits < 64 }
+    ensures { result < 64 }
+{
+    if bits % 2 == 0 { bits + 1 } else { bits }
+}
+
+fn control_bits(bits: u8, control: Control) -> u8
+    requires { bits < 64 }
+    ensures { result < 64 }
+{
+    match (control.free_keyboard, control.reset_modified) {
+        (false, false) => bits,
+        (true, false) => freed(bits),
+        (false, true) => reset(bits),
+        (true, true) => reset(freed(bits)),
+    }
+}
+
+/// The attribute of a field, with its pairs where it has some.
+fn push_attribute(draft: &mut Draft, field: &Field) -> Result<(), AllocError> {
+    if field.pairs.is_empty() {
+        draft.push(&Order::Sf(Attr::new(field.attribute)))
+    } else {
+        draft.push(&Order::Sfe(field.pairs.as_slice()))
+    }
+}
+
+fn push_text(draft: &mut Draft, text: &[u8]) -> Result<(), AllocError> {
+    if text.is_empty() {
+        return Ok(());
+    }
+    draft.push(&Order::Text(text))
+}
+
+/// The texts of the later fields of a group.
+fn push_later(draft: &mut Draft, all: &[Later]) -> Result<(), AllocError> {
+    for later in all {
+        draft.push(&Order::Sba(later.cell))?;
+        push_text(draft, later.text.as_slice())?;
+    }
+    Ok(())
+}
+
+/// The cursor, where it is in the field.
+fn push_cursor(draft: &mut Draft, cursor: Option<u32>, cell: u32) -> Result<(), AllocError> {
+    match cursor {
+        Some(at) if at == cell => draft.push(&Order::Ic),
+        _ => Ok(()),
+    }
+}
+
+/// The orders of a field.
+fn push_field(draft: &mut Draft, cursor: Option<u32>, field: &Field) -> Result<(), AllocError> {
+    draft.push(&Order::Sba(field.cell))?;
+    push_attribute(draft, field)?;
+    push_cursor(draft, cursor, field.cell)?;
+    push_text(draft, field.text.as_slice())?;
+    push_later(draft, field.later.as_slice())
+}
+
+/// The orders of a map.
+fn push_fields(draft: &mut Draft, cursor: Option<u32>, fields: &[Field]) -> Result<(), AllocError> {
+    for field in fields {
+        push_field(draft, cursor, field)?;
+    }
+    Ok(())
+}
+
+/// The command of a map, with its write control character.
+fn command_of(map: &Map, control: Control) -> Command {
+    let wcc = to_six_bit_code(control_bits(map.control.bits, control));
+    if map.area.screen.rows == 24 {
+        Command::EraseWrite(wcc)
+    } else {
+        Command::EraseWriteAlternate(wcc)
+    }
+}
+
+/// The record of a map, and what SEND MAP adds to its write control character.
+pub fn record_of(alloc: Global, map: &Map, control: Control) -> Result<Vec<u8>, Unwritable> {
+    let cells = map.area.cells();
+    let mut draft = Draft::new(alloc, command_of(map, control), Mode::Bits14, cells)?;
+    push_fields(&mut draft, map.cursor, map.fields.as_slice())?;
+    draft.written()
+}

@@ -1,0 +1,13 @@
+use Rattle.std.proofs.Common.{◌≡◌, ◌+◌, length}
+use Rattle.bms_source.specs.Operand.{sign_in}
+use Rattle.bms_source.proofs.operand.sign_in.Given as goal
+
+abbrev pub invariant-loop-rest : goal.invariant-loop-rest
+invariant-loop-rest l =
+    record {
+      count : l.count + sign_in l.rest ≡ sign_in l.letters;
+      whole : l.count + length l.rest ≡ length l.letters;
+    }
+
+abbrev pub decreases-loop-rest : goal.decreases-loop-rest
+decreases-loop-rest l = length l.rest

@@ -1,0 +1,10 @@
+pub mod Told
+pub mod Words
+pub mod Columns
+pub mod Rows
+pub mod Scan
+pub mod Gathered
+pub mod Statement
+pub mod Operand
+pub mod Results
+pub mod Seen
