@@ -29,8 +29,8 @@ pub fn pieces_law<S>()
     ensures terminal { CutsAgree TerminalState }
 {}
 
-/// A terminal that somebody works. Two terminals that are told the same from the beginning of a session, keys and between two of
-/// them the same bytes, cut in any two ways, give the same bytes and stand alike: they show the same picture. And what a
+/// A terminal that somebody works. Two terminals that are told the same from the beginning of a session, keys and between two
+/// of them the same bytes, cut in any two ways, give the same bytes and stand alike: they show the same picture. And what a
 /// run over a line does with its list of keys is what a terminal does that is worked so: it hears the run's events, and is
 /// pressed the run's keys in turn.
 pub fn work_law()

@@ -19,8 +19,8 @@ use std::alloc::{AllocError, Global};
 use std::marker::Model;
 use tn_cores::{Agreed, Device};
 
-/// A terminal's session, worked by whoever holds it: bytes of the host go in, in pieces of any length, keys are pressed, and the
-/// bytes that are due to the host come out. It reads and writes nothing, and presses no key by itself.
+/// A terminal's session, worked by whoever holds it: bytes of the host go in, in pieces of any length, keys are pressed, and
+/// the bytes that are due to the host come out. It reads and writes nothing, and presses no key by itself.
 #[derive(Drop)]
 pub struct TerminalSession {
     session: Session<TerminalState>,
@@ -103,7 +103,8 @@ impl TerminalSession {
     ///
     /// # Errors
     ///
-    /// The fault of a session that failed, or `OutOfMemory` where a request for memory was refused, which is then its last word.
+    /// The fault of a session that failed, or `OutOfMemory` where a request for memory was refused, which is then its last
+    /// word.
     pub fn press(&mut self, alloc: Global, key: Key, due: &mut Vec<u8>) -> Result<Pressed, RunFault>
         ensures pressed { Adds due.old.items due.new.items (λ given.
             Presses self.old.talk key result given self.new.talk) }
@@ -139,7 +140,8 @@ impl TerminalSession {
 
     /// What came, and was answered, since this was last asked.
     pub fn arrived(&mut self) -> Arrived
-        ensures arrived { OfWaiting (λ state. since (counts_of state) self.old.told) self.old.talk result }
+        ensures arrived { OfWaiting (λ state. since (counts_of state) self.old.told)
+            self.old.talk result }
         ensures told { OfWaiting counts_of self.old.talk self.new.told }
         ensures talk { self.new.talk ≡ self.old.talk }
     {
