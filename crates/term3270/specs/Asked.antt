@@ -2,7 +2,10 @@
 use Rattle.std.specs.Prelude.{◌≡◌, ◌<◌, ℕ, Bool, true, false, List, Option, Some, None, is_some, option_map, codes}
 use Rattle.std.specs.Borrow.{Bor}
 use Rattle.std.specs.Fmt.{decimal}
+use Rattle.bms_map.specs.declared.record.Control.{Control}
 use Rattle.clap.specs.Words.{Row, Text, first_of, one_of}
+use Rattle.cli_maps.specs.declared.asked.Form.{Form as MapForm}
+use Rattle.cli_maps.specs.declared.asked.Form.TheVariants as map_forms
 use Rattle.term_binds.specs.declared.fields.Form.{Form}
 use Rattle.term_binds.specs.declared.fields.Form.TheVariants as forms
 use Rattle.term_commands.specs.declared.output.demo.Demos.{Demos}
@@ -12,7 +15,7 @@ use Rattle.term3270.specs.declared.asked.When.TheVariants.{Auto, Always, Never}
 use Rattle.term3270.specs.declared.asked.ReportForm.{ReportForm}
 use Rattle.term3270.specs.declared.asked.ReportForm.TheVariants.{Json, Sarif}
 use Rattle.term3270.specs.declared.asked.Asked.{Asked}
-use Rattle.term3270.specs.declared.asked.Asked.TheVariants.{Show, Draw, Annotate, Undrawn, Check, Report, Talk, Press, Convert, ConvertBack, Draft, Bind, Records, Serve, Attach}
+use Rattle.term3270.specs.declared.asked.Asked.TheVariants.{Show, Draw, Annotate, Undrawn, Check, Report, Talk, Press, Convert, ConvertBack, Draft, Bind, Records, Serve, Attach, Map, CheckMap, NoLayout, Unreported}
 use Rattle.term_pictures.specs.declared.annotated.Annotated.{Annotated}
 use Rattle.term_pictures.specs.declared.annotated.Annotated.TheVariants as annotated
 use Rattle.term_pictures.specs.declared.drawing.Drawing.TheVariants as drawings
@@ -82,11 +85,41 @@ abbrev pub IsReport : List Row → ReportForm → Asked → Type 0
 IsReport rows due (Report layout records form) = IsText (codes "LAYOUT") rows layout × IsPath (codes "records") rows records × (form ≡ due)
 IsReport rows due _ = ⊥
 
--- the verdict, in the form that is named
-abbrev pub IsCheck : List Row → Asked → Type 0
-IsCheck rows asked = (first_of (codes "format") rows ≡ Some (codes "text") → IsPlainCheck rows asked)
+-- what SEND MAP adds
+abbrev pub AreControls : List Row → Control → Type 0
+AreControls rows control = IsOption (codes "freekb") rows control.free_keyboard × IsOption (codes "frset") rows control.reset_modified
+
+abbrev pub IsMapForm : List Row → MapForm → Type 0
+IsMapForm rows map_forms.Layout = IsOption (codes "layout") rows true
+IsMapForm rows map_forms.Records = IsOption (codes "layout") rows false
+
+abbrev pub IsMap : List Row → Asked → Type 0
+IsMap rows (Map source name control form) =
+    IsText (codes "FILE") rows source × IsPath (codes "map") rows name × AreControls rows control × IsMapForm rows form
+IsMap rows _ = ⊥
+
+abbrev pub IsPlainMapCheck : List Row → Asked → Type 0
+IsPlainMapCheck rows (CheckMap source name control) =
+    IsText (codes "map") rows source × IsPath (codes "map-name") rows name × AreControls rows control
+IsPlainMapCheck rows _ = ⊥
+
+-- the verdict on maps; in the other forms that is a fault of the command line
+abbrev pub IsMapCheck : List Row → Asked → Type 0
+IsMapCheck rows asked = (first_of (codes "format") rows ≡ Some (codes "text") → IsPlainMapCheck rows asked)
+    × (first_of (codes "format") rows ≡ Some (codes "json") → asked ≡ Unreported)
+    × (first_of (codes "format") rows ≡ Some (codes "sarif") → asked ≡ Unreported)
+
+-- the verdict with a layout, in the form that is named
+abbrev pub IsLayoutCheck : List Row → Asked → Type 0
+IsLayoutCheck rows asked = (first_of (codes "format") rows ≡ Some (codes "text") → IsPlainCheck rows asked)
     × (first_of (codes "format") rows ≡ Some (codes "json") → IsReport rows Json asked)
     × (first_of (codes "format") rows ≡ Some (codes "sarif") → IsReport rows Sarif asked)
+
+-- the verdict, on maps or with a layout
+abbrev pub IsCheck : List Row → Asked → Type 0
+IsCheck rows asked = (is_some (first_of (codes "map") rows) ≡ true → IsMapCheck rows asked)
+    × (is_some (first_of (codes "map") rows) ≡ false → is_some (first_of (codes "LAYOUT") rows) ≡ true → IsLayoutCheck rows asked)
+    × (is_some (first_of (codes "map") rows) ≡ false → is_some (first_of (codes "LAYOUT") rows) ≡ false → asked ≡ NoLayout)
 
 abbrev pub IsPress : List Row → Asked → Type 0
 IsPress rows (Press keys) = IsText (codes "KEYS") rows keys
@@ -140,6 +173,7 @@ pub record AsksFor (name : Text) (rows : List Row) (asked : Asked) : Type 0 wher
   pub records : name ≡ codes "records" → IsRecords rows asked
   pub serve : name ≡ codes "serve" → IsServe rows asked
   pub attach : name ≡ codes "attach" → IsAttach rows asked
+  pub map : name ≡ codes "map" → IsMap rows asked
 
 abbrev pub Asks : Option (Text × List Row) → Asked → Type 0
 Asks None asked = asked ≡ Show Auto

@@ -2,9 +2,11 @@
 
 ghost use Rattle.std.specs.Prelude.{◌≡◌, is_some, option_map};
 ghost use Rattle.clap.specs.Words.{first_of, found_of, rows_of, subcommand_rows_of};
-ghost use Rattle.term3270.specs.Asked.{AreDemos, AsksFor, IsCheck, IsDrawn, IsForm, IsConvert, IsNumber, IsOption, IsPath, IsShow, IsSide, IsSource, IsText, IsWhen, IsWithLayout};
+ghost use Rattle.term3270.specs.Asked.{AreDemos, AsksFor, IsCheck, IsDrawn, IsForm, IsConvert, IsNumber, IsOption, IsPath, IsShow, IsSide, IsSource, IsText, IsWhen, IsWithLayout, IsMap, IsMapForm, IsMapCheck, IsLayoutCheck, AreControls};
 
+use bms_map::Control;
 use clap::ArgMatches;
+use cli_maps::Form as MapForm;
 use term_binds::Form;
 use term_commands::Demos;
 use term_pictures::{Annotated, Drawing};
@@ -79,6 +81,21 @@ pub(crate) enum Asked<'a> {
         port: u16,
         device: &'a str,
     },
+    Map {
+        source: &'a str,
+        name: Option<&'a str>,
+        control: Control,
+        form: MapForm,
+    },
+    CheckMap {
+        source: &'a str,
+        name: Option<&'a str>,
+        control: Control,
+    },
+    /// `check` without a layout, and without the source of maps.
+    NoLayout,
+    /// The findings of maps in a form that only those of a layout have.
+    Unreported,
 }
 
 impl<'a> Asked<'a> {
@@ -136,6 +153,7 @@ fn command_of<'a>(name: &str, words: &ArgMatches<'a>) -> Asked<'a>
             port: number_in(words, "port"),
             device: text_in(words, "device"),
         },
+        "map" => map_of(words),
         _ => Asked::Show { color: When::Auto },
     }
 }
@@ -199,9 +217,67 @@ fn when_in(words: &ArgMatches<'_>) -> When
     }
 }
 
-/// `check`, in the form that is named.
+/// What SEND MAP adds.
+fn control_in(words: &ArgMatches<'_>) -> Control
+    ensures { AreControls (rows_of (found_of words.now)) result }
+{
+    Control {
+        free_keyboard: is_given(words, "freekb"),
+        reset_modified: is_given(words, "frset"),
+    }
+}
+
+fn map_form_in(words: &ArgMatches<'_>) -> MapForm
+    ensures { IsMapForm (rows_of (found_of words.now)) result }
+{
+    if is_given(words, "layout") {
+        MapForm::Layout
+    } else {
+        MapForm::Records
+    }
+}
+
+fn map_of<'a>(words: &ArgMatches<'a>) -> Asked<'a>
+    ensures { IsMap (rows_of (found_of words.now)) result }
+{
+    Asked::Map {
+        source: text_in(words, "FILE"),
+        name: path_in(words, "map"),
+        control: control_in(words),
+        form: map_form_in(words),
+    }
+}
+
+/// `check`, of maps or with a layout.
 fn check_of<'a>(words: &ArgMatches<'a>) -> Asked<'a>
     ensures { IsCheck (rows_of (found_of words.now)) result }
+{
+    if is_named(words, "map") {
+        map_check_of(words)
+    } else if is_named(words, "LAYOUT") {
+        layout_check_of(words)
+    } else {
+        Asked::NoLayout
+    }
+}
+
+/// `check` of maps, in the form that is named.
+fn map_check_of<'a>(words: &ArgMatches<'a>) -> Asked<'a>
+    ensures { IsMapCheck (rows_of (found_of words.now)) result }
+{
+    match text_in(words, "format") {
+        "json" | "sarif" => Asked::Unreported,
+        _ => Asked::CheckMap {
+            source: text_in(words, "map"),
+            name: path_in(words, "map-name"),
+            control: control_in(words),
+        },
+    }
+}
+
+/// `check` with a layout, in the form that is named.
+fn layout_check_of<'a>(words: &ArgMatches<'a>) -> Asked<'a>
+    ensures { IsLayoutCheck (rows_of (found_of words.now)) result }
 {
     let layout = text_in(words, "LAYOUT");
     let records = path_in(words, "records");

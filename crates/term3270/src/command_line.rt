@@ -132,6 +132,26 @@ Statuses:
   0 done, 2 bad input, or an answer is refused or unbound, 3 the layout can't be read, or a read or a write
   failed, 4 out of memory";
 
+const MAP: &str = "Input:
+  The source of BMS maps: DFHMSD, DFHMDI and DFHMDF as an assembler reads them (docs/MAPS.md).
+
+Output:
+  For each map a comment with its name, the line of its DFHMDI and its screen, and the record that SEND MAP
+  MAPONLY ERASE sends, in hexadecimal, as show, press and check take it. With --layout the layout of the one map:
+  what the symbolic map says that the program reads.
+
+Example:
+  $ term3270 map examples/signon.bms
+  # map SIGNON at line 3, screen 24x80
+  F5C211405D1DF0E2C9C7D540D6D511C3F81DF0E4E2C5D9C9C411C4C21D401311C44B1DF0
+
+Statuses:
+  0 done, 2 the source is refused, 3 the file can't be read, or a write failed, 4 out of memory";
+
+const FREEKB_HELP: &str = "SEND MAP says FREEKB: the keyboard is freed, whatever CTRL says";
+
+const FRSET_HELP: &str = "SEND MAP says FRSET: modified data tags are reset, whatever CTRL says";
+
 const SCREEN_FORMS: &[&str] = &["text", "svg", "html", "json"];
 
 const WHEN: &[&str] = &["auto", "always", "never"];
@@ -203,6 +223,12 @@ enum Takes<'a> {
     Text(&'a str, &'a str),
     /// A value of this name: a number from 1 to this one, which must be given.
     Number(&'a str, i64),
+    /// An operand, which need not be given.
+    Optional,
+    /// A value of this name, which need not be given.
+    Value(&'a str),
+    /// The path of a file, where none of these is given.
+    FileAlone(&'a str, &'a str, &'a str),
 }
 
 /// An argument of a command.
@@ -221,7 +247,7 @@ struct Described<'a> {
 }
 
 /// The commands, in the order in which help lists them.
-const COMMANDS: &[Described<'_>] = &[
+const SCREENS: &[Described<'_>] = &[
     Described {
         name: "show",
         about: "Print the screen that the records leave (the default command)",
@@ -251,7 +277,7 @@ const COMMANDS: &[Described<'_>] = &[
         arguments: &[
             Argument {
                 name: "LAYOUT",
-                takes: Takes::Operand,
+                takes: Takes::Optional,
                 help: LAYOUT_HELP,
             },
             Argument {
@@ -268,6 +294,58 @@ const COMMANDS: &[Described<'_>] = &[
                 name: "format",
                 takes: Takes::OneOf("FORM", FINDING_FORMS, "text"),
                 help: "How the findings are printed",
+            },
+            Argument {
+                name: "map",
+                takes: Takes::FileAlone("LAYOUT", "records", "demo"),
+                help: "Check the maps of this BMS source, in place of a layout and records",
+            },
+            Argument {
+                name: "map-name",
+                takes: Takes::Value("NAME"),
+                help: "With --map: check the map of this name alone",
+            },
+            Argument {
+                name: "freekb",
+                takes: Takes::Nothing,
+                help: FREEKB_HELP,
+            },
+            Argument {
+                name: "frset",
+                takes: Takes::Nothing,
+                help: FRSET_HELP,
+            },
+        ],
+    },
+    Described {
+        name: "map",
+        about: "Print the records of BMS maps, or the layout of one",
+        after_help: MAP,
+        arguments: &[
+            Argument {
+                name: "FILE",
+                takes: Takes::Operand,
+                help: "The file of the maps' source",
+            },
+            Argument {
+                name: "map",
+                takes: Takes::Value("NAME"),
+                help: "Print the map of this name alone",
+            },
+            Argument {
+                name: "layout",
+                takes: Takes::Nothing,
+                help: "Print the layout of the map, in TOML",
+            },
+            Argument {
+                name: "freekb",
+                takes: Takes::Nothing,
+                help: FREEKB_HELP,
+            },
+            Argument {
+                name: "frset",
+                takes: Takes::Nothing,
+                help: FRSET_HELP,
             },
         ],
     },
@@ -291,6 +369,10 @@ const COMMANDS: &[Described<'_>] = &[
             help: KEYS_HELP,
         }],
     },
+];
+
+/// The commands that turn records and answers into other texts, and those over the net.
+const OTHERS: &[Described<'_>] = &[
     Described {
         name: "convert",
         about: "Print each record as lines: its command and its orders",
@@ -424,6 +506,18 @@ fn number<'a>(alloc: Global, name: &'a str, value: &'a str, most: i64) -> Arg<'a
         .value_parser(clap::value_parser!(u16).range(1..=most))
 }
 
+/// An argument that conflicts with three others.
+fn alone<'a>(
+    argument: Arg<'a>,
+    first: &'a str,
+    second: &'a str,
+    third: &'a str,
+) -> Result<Arg<'a>, AllocError> {
+    let argument = argument.conflicts_with(first)?;
+    let argument = argument.conflicts_with(second)?;
+    argument.conflicts_with(third)
+}
+
 /// An argument, without its help.
 fn bare<'a>(alloc: Global, name: &'a str, takes: Takes<'a>) -> Result<Arg<'a>, AllocError> {
     match takes {
@@ -437,6 +531,14 @@ fn bare<'a>(alloc: Global, name: &'a str, takes: Takes<'a>) -> Result<Arg<'a>, A
         }
         Takes::Text(value, text) => Ok(with_default(alloc, name, value, text)),
         Takes::Number(value, most) => Ok(number(alloc, name, value, most)),
+        Takes::Optional => Ok(Arg::new(alloc, name)),
+        Takes::Value(value) => Ok(option(alloc, name, value)),
+        Takes::FileAlone(first, second, third) => alone(
+            option(alloc, name, "FILE"),
+            first,
+            second,
+            third,
+        ),
     }
 }
 
@@ -469,16 +571,27 @@ fn program<'a>(alloc: Global) -> Command<'a> {
         .after_help(STATUSES)
 }
 
-/// The program with all its commands.
-fn with_commands<'a>(alloc: Global) -> Result<Command<'a>, AllocError> {
-    let mut program = program(alloc);
-    for described in COMMANDS {
+/// A program with commands.
+fn with_commands<'a>(
+    alloc: Global,
+    mut program: Command<'a>,
+    commands: &[Described<'a>],
+) -> Result<Command<'a>, AllocError> {
+    for described in commands {
         program = program.subcommand(command(alloc, described)?)?;
     }
     Ok(program)
 }
 
+fn with_screens<'a>(alloc: Global, program: Command<'a>) -> Result<Command<'a>, AllocError> {
+    with_commands(alloc, program, SCREENS)
+}
+
+fn with_others<'a>(alloc: Global, program: Command<'a>) -> Result<Command<'a>, AllocError> {
+    with_commands(alloc, program, OTHERS)
+}
+
 /// The words of the command line, parsed.
 pub(crate) fn parsed<'a>(alloc: Global, words: &'a [String]) -> Result<ArgMatches<'a>, Error> {
-    with_commands(alloc)?.try_get_matches_from(words)
+    with_others(alloc, with_screens(alloc, program(alloc))?)?.try_get_matches_from(words)
 }

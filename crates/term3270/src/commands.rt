@@ -6,6 +6,7 @@ use crate::sessions::{run_attach, run_serve};
 use crate::stream::Named;
 use crate::tcp::Place;
 use clap::ArgMatches;
+use cli_maps::{Asked as MapsAsked, Form as MapForm, run_check_map, run_map};
 use std::alloc::AllocError;
 use std::env;
 use std::env::VarError;
@@ -182,6 +183,30 @@ fn report_over<R: GivesBytes>(
 /// Says on standard error that a form doesn't draw a layout.
 pub(crate) fn refuse_undrawn(rt: &HostRuntime) -> Status {
     let _ = eprintln!(rt; "error: '--layout <FILE>' needs '--format svg' or '--format html'");
+    Status::BadInput
+}
+
+/// `map`, of the source of a file.
+pub(crate) fn map(rt: &HostRuntime, source: &str, asked: MapsAsked<'_>, form: MapForm) -> Status {
+    let mut source = file_at(rt, source);
+    run_map(rt.alloc(), &mut source, &mut output(rt), asked, form)
+}
+
+/// `check` of the maps of a file.
+pub(crate) fn check_map(rt: &HostRuntime, source: &str, asked: MapsAsked<'_>) -> Status {
+    let mut source = file_at(rt, source);
+    run_check_map(rt.alloc(), &mut source, &mut output(rt), asked)
+}
+
+/// Says that `check` has nothing to check with.
+pub(crate) fn refuse_no_layout(rt: &HostRuntime) -> Status {
+    let _ = eprintln!(rt; "error: 'check' needs a layout, or '--map <FILE>'");
+    Status::BadInput
+}
+
+/// Says that the findings of maps are text.
+pub(crate) fn refuse_unreported(rt: &HostRuntime) -> Status {
+    let _ = eprintln!(rt; "error: '--map <FILE>' has no other form than '--format text'");
     Status::BadInput
 }
 

@@ -16,6 +16,7 @@ use crate::command_line::parsed;
 use crate::tcp::Place;
 use clap::ArgMatches;
 use clap::error::ErrorKind;
+use cli_maps::Asked as MapsAsked;
 use std::process::ExitCode;
 use std::{env, io};
 use term_commands::{Status, failure};
@@ -56,6 +57,19 @@ fn run(rt: &HostRuntime, asked: Asked<'_>, matches: &ArgMatches<'_>) -> Status {
             port,
             device,
         } => commands::attach(rt, Place { host, port }, keys, device),
+        Asked::Map {
+            source,
+            name,
+            control,
+            form,
+        } => commands::map(rt, source, MapsAsked { name, control }, form),
+        Asked::CheckMap {
+            source,
+            name,
+            control,
+        } => commands::check_map(rt, source, MapsAsked { name, control }),
+        Asked::NoLayout => commands::refuse_no_layout(rt),
+        Asked::Unreported => commands::refuse_unreported(rt),
     }
 }
 
