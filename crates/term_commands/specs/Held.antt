@@ -6,6 +6,7 @@ use Rattle.std.specs.String.{string_bytes}
 use Rattle.ds_codec.specs.declared.size.Size.{Size}
 use Rattle.ds_codec.specs.Geometry.{Sizes}
 use Rattle.ds_keys.specs.declared.key.Key.{Key}
+use Rattle.ds_strokes.specs.declared.stroke.Stroke.{Stroke}
 use Rattle.ds_screen.specs.Picture.{Picture}
 use Rattle.ds_terminal.specs.Runs.{RefusedRecord, all_shown}
 use Rattle.scr_layout.specs.Layout.{Declaration}
@@ -19,6 +20,9 @@ use Rattle.term_commands.specs.declared.input.checking.Checking as held_checking
 use Rattle.term_commands.specs.declared.input.keys.KeyLine as held_key_line
 use Rattle.term_commands.specs.declared.input.keys.KeyLine.TheVariants as key_line
 use Rattle.term_commands.specs.declared.input.keys.Keys as held_keys
+use Rattle.term_commands.specs.declared.input.strokes.StrokeLine as held_stroke_line
+use Rattle.term_commands.specs.declared.input.strokes.StrokeLine.TheVariants as stroke_line
+use Rattle.term_commands.specs.declared.input.strokes.Strokes as held_strokes
 use Rattle.term_commands.specs.declared.input.drafts.OrderLine as held_order_line
 use Rattle.term_commands.specs.declared.input.drafts.OrderLine.TheVariants as order_line
 use Rattle.term_commands.specs.declared.commands.backward.Backward as held_backward
@@ -35,6 +39,7 @@ use Rattle.term_commands.specs.Keys as keys
 use Rattle.term_commands.specs.Printed.{Printed, printed}
 use Rattle.term_commands.specs.Records as records
 use Rattle.term_commands.specs.Sizes.{usual_sizes}
+use Rattle.term_commands.specs.Strokes as strokes
 
 abbrev pub records_held : List (Vec ℕ) → List (List ℕ)
 records_held records = map (λ bytes. bytes.items) records
@@ -65,6 +70,14 @@ key_line_seen key_line.Bad = keys.bad
 
 abbrev pub keys_seen : held_keys.Keys → List Key
 keys_seen told = told.keys.items
+
+abbrev pub stroke_line_seen : held_stroke_line.StrokeLine → strokes.StrokeLine
+stroke_line_seen stroke_line.Ignored = strokes.ignored
+stroke_line_seen (stroke_line.Named stroke) = strokes.named stroke
+stroke_line_seen stroke_line.Bad = strokes.bad
+
+abbrev pub strokes_seen : held_strokes.Strokes → List Stroke
+strokes_seen told = told.strokes.items
 
 abbrev pub order_line_seen : held_order_line.OrderLine → drafts.OrderLine
 order_line_seen order_line.Empty = drafts.empty

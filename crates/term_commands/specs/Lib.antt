@@ -6,6 +6,7 @@ pub mod NextLine
 pub mod Taking
 pub mod Records
 pub mod Keys
+pub mod Strokes
 pub mod Drafts
 pub mod LayoutText
 pub mod Printed
@@ -15,6 +16,7 @@ pub mod Show
 pub mod DemoLines
 pub mod Check
 pub mod Press
+pub mod Strike
 pub mod Convert
 pub mod Back
 pub mod Backward

@@ -6,6 +6,7 @@ mod check;
 mod convert;
 mod press;
 mod show;
+mod strokes;
 mod talk;
 
 pub use back::{convert_back_text, run_convert_back};
@@ -13,4 +14,5 @@ pub use check::{check_answer, check_texts, lent, run_check};
 pub use convert::{convert_text, run_convert};
 pub use press::{press_texts, run_press};
 pub use show::{run_show, show_text};
+pub use strokes::{press_strokes_texts, run_press_strokes};
 pub use talk::{run_talk, talk_texts};

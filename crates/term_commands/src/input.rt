@@ -12,4 +12,5 @@ pub mod next;
 pub mod reading;
 pub mod records;
 pub mod sizes;
+pub mod strokes;
 pub mod turns;

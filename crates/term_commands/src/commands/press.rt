@@ -40,7 +40,7 @@ fn push_cursor(out: &mut String, word: &str, cursor: u32) -> Result<(), AllocErr
 }
 
 /// The line of a reply; the key leaves the cursor there.
-fn push_reply(out: &mut String, cursor: u32, reply: &KeyReply) -> Result<(), AllocError>
+pub fn push_reply(out: &mut String, cursor: u32, reply: &KeyReply) -> Result<(), AllocError>
     ensures { OnOk result
         (string_bytes out.new ≡ string_bytes out.old ++ reply_line cursor (key_reply_seen reply.now)) }
 {
