@@ -7,7 +7,7 @@ use std::alloc::Global;
 use test_words::Row;
 use tn_session::{
     Device, HostCore, Out, ScreenModel, SessionFault, TermCore, delivery_law, one_log, outcome_law,
-    pair_law, reply_law,
+    pair_law, pieces_law, reply_law, work_law,
 };
 
 /// Which core events come to.
@@ -172,6 +172,8 @@ fn push_laws(row: &mut Row) {
     reply_law();
     one_log::<u8>();
     outcome_law();
+    pieces_law::<u8>();
+    work_law();
     row.word("done");
 }
 

@@ -16,10 +16,13 @@
 //! what is told, or a dash. `name TEXT` prints the device of a name, `layout A B` what a host for these sizes says first, and
 //! `faults` every refusal. `press` runs a terminal with its keys over a line in memory, and `serve` a host with its records;
 //! after `paced` the line gives a piece only once what is due before it was written, and after `endless` it never ends.
+//! Each such run is told besides by pieces of several lengths to a session without a line. `both-ends` has both ends in one
+//! process, and `many-sessions N` so many of each, one after the other.
 #![tactic(auto)]
 
 mod asked;
 mod attach;
+mod both_ends;
 mod commands;
 mod cores;
 mod devices;
@@ -33,6 +36,7 @@ mod lines;
 mod lists;
 mod memory;
 mod notation;
+mod objects;
 mod reports;
 mod runs;
 mod scripted;

@@ -2,7 +2,9 @@
 //! call failing in turn.
 
 use crate::asked::{Asked, End, Hosted, push_piece, read_asked, read_pieces};
+use crate::both_ends::{push_both, push_many};
 use crate::lists::add;
+use crate::objects::feed;
 use crate::scripted::{Giving, Script, script_of};
 use ds_keys::Key;
 use std::alloc::Global;
@@ -27,7 +29,7 @@ impl Ran {
     }
 }
 
-fn push_report(row: &mut Row, report: &Report) {
+pub(crate) fn push_report(row: &mut Row, report: &Report) {
     row.word("answers ");
     row.show(&report.answers);
     row.word(" passed ");
@@ -48,7 +50,7 @@ fn push_field(row: &mut Row, entry: usize, bytes: &[u8]) {
 }
 
 /// What was agreed on, the attention identifier, and each field.
-fn push_outcome(row: &mut Row, outcome: &HostOutcome) {
+pub(crate) fn push_outcome(row: &mut Row, outcome: &HostOutcome) {
     row.word(if outcome.agreed.enhanced {
         "enhanced"
     } else {
@@ -91,7 +93,7 @@ fn run_terminal(alloc: Global, asked: &Asked, keys: &[Key], line: Script) -> Ran
 }
 
 /// The records, each lent.
-fn lent<'a>(row: &mut Row, records: &'a [Vec<u8>]) -> Vec<&'a [u8]> {
+pub(crate) fn lent<'a>(row: &mut Row, records: &'a [Vec<u8>]) -> Vec<&'a [u8]> {
     let mut lent = Vec::new(row.alloc());
     for bytes in records {
         add(row, &mut lent, bytes.as_slice());
@@ -203,6 +205,22 @@ fn push_cuts(row: &mut Row, asked: &Asked, bytes: &[u8], whole: &Ran) {
     }
 }
 
+/// The lengths of pieces at which a session without a line gives or tells something else than the whole run.
+fn push_fed(row: &mut Row, asked: &Asked, bytes: &[u8], whole: &Ran) {
+    for most in [1, 2, 3, 7, usize::MAX] {
+        let given = feed(row, asked, bytes, most);
+        let same = given.written.as_slice() == whole.line.written.as_slice()
+            && given.told.says(whole.told.text.as_str());
+        if !same || !given.stays {
+            row.word_length(" but in pieces of ", most);
+            row.word(" ");
+            row.bytes(given.written.as_slice());
+            row.word(" ");
+            row.join(&given.told);
+        }
+    }
+}
+
 fn push_narrow(row: &mut Row, asked: &Asked, whole: &Ran) {
     let ran = run_over(row, asked, 1, 0);
     push_unlike(row, " but a byte a write ", &ran, whole);
@@ -245,6 +263,7 @@ fn push_run(row: &mut Row, asked: &Asked) {
     push_bytewise(row, asked, bytes.as_slice(), &whole);
     push_narrow(row, asked, &whole);
     push_cuts(row, asked, bytes.as_slice(), &whole);
+    push_fed(row, asked, bytes.as_slice(), &whole);
     row.word(";");
     push_failing(row, asked, &whole);
     row.word("; no byte a write:");
@@ -302,6 +321,8 @@ pub(crate) fn push_answer(row: &mut Row, verb: &str, words: &str) -> bool {
         "serve" => push_whole(row, verb, words),
         "paced" => push_paced(row, words),
         "endless" => push_endless(row, words),
+        "both-ends" => push_both(row),
+        "many-sessions" => push_many(row, words),
         _ => return false,
     }
     true
