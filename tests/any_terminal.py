@@ -1,19 +1,21 @@
-"""Sees that a terminal leaves what a yes premises, and answers as it promises: s3270, on screens drawn at random.
+"""Sees that a terminal leaves what a yes premises, and answers as it promises: s3270, or c3270 in tmux, on screens drawn at random.
 
-    python3 tests/any_terminal.py [COUNT [SEED]]
+    python3 tests/any_terminal.py [COUNT [SEED [TERMINAL]]]
 
-Each list of actions of s3270 (typing, insert mode, duplicate, field mark, erased words and fields, moves, pasted text) begins on a
+Each list of actions of the terminal (typing, insert mode, duplicate, field mark, erased words and fields, moves, pasted text) begins on a
 formatted screen of its own. The buffer is read before and after it: attributes stand where they stood, protected ones and the
 characters that they govern as they were, others but for their modified data tag, and no tag came to a field without cells. Then
 Enter's answer is compared with the fields that are modified. A list that breaks this is printed with its screen, shortened as far
-as it still does; those that break it by the fault of s3270 that docs/TERMINALS.md tells are counted apart. The last line is
+as it still does; those that break it by the fault that docs/TERMINALS.md tells are counted apart. The last line is
 'N passed, M failed'.
 """
+import os
 import random
 import re
 import socket
 import subprocess
 import sys
+import time
 
 ROWS, COLUMNS = 24, 80
 CELLS = ROWS * COLUMNS
@@ -74,10 +76,14 @@ class Terminal:
     def __init__(self, port):
         words = ["s3270", "-model", "3278-2", "-set", "unlockDelay=false", f"N:127.0.0.1:{port}"]
         self.process = subprocess.Popen(words, stdin=subprocess.PIPE, stdout=subprocess.PIPE, stderr=subprocess.DEVNULL, text=True)
+        self.actions, self.answers = self.process.stdin, self.process.stdout
 
     def write(self, *actions):
-        self.process.stdin.write("".join(f"{it}\n" for it in actions))
-        self.process.stdin.flush()
+        self.actions.write("".join(f"{it}\n" for it in actions))
+        self.actions.flush()
+
+    def close(self):
+        self.actions.close()
 
     def act(self, *actions):
         """Does these actions in turn, and returns the data of each."""
@@ -86,9 +92,9 @@ class Terminal:
 
     def told(self):
         data = []
-        while (line := self.process.stdout.readline().rstrip("\n")) not in ("ok", "error"):
+        while (line := self.answers.readline().rstrip("\n")) not in ("ok", "error"):
             if not line:
-                raise ConnectionError("s3270 ended")
+                raise ConnectionError("the terminal ended")
             if line.startswith("data: "):
                 data.append(line[len("data: ") :])
         return data
@@ -102,6 +108,34 @@ class Terminal:
             elif not word.startswith("SA("):
                 cells.append(int(re.sub(r"GE\((..)\)", r"\1", word), 16))
         return cells
+
+
+class Shown(Terminal):
+    """c3270 in a window of tmux, which takes actions at a port."""
+
+    def __init__(self, port):
+        self.name = f"takvorn-{os.getpid()}"
+        with socket.create_server(("127.0.0.1", 0)) as unused:
+            taken = unused.getsockname()[1]
+        words = f"c3270 -model 3278-2 -scriptport {taken} -set unlockDelay=false N:127.0.0.1:{port}"
+        subprocess.run(["tmux", "-L", self.name, "new-session", "-d", "-x", "100", "-y", "50", words], check=True)
+        self.line = self.connected(taken)
+        self.actions, self.answers = self.line.makefile("w"), self.line.makefile("r")
+
+    @staticmethod
+    def connected(port):
+        for _ in range(100):
+            try:
+                return socket.create_connection(("127.0.0.1", port), timeout=20)
+            except ConnectionRefusedError:
+                time.sleep(0.1)
+        raise ConnectionError("c3270 doesn't listen")
+
+    def close(self):
+        subprocess.run(["tmux", "-L", self.name, "kill-server"], check=False)
+
+
+TERMINALS = {"s3270": Terminal, "c3270": Shown}
 
 
 def is_attribute(cell):
@@ -187,9 +221,9 @@ def drawn_actions(draw):
 class Trial:
     """A terminal at a host."""
 
-    def __init__(self):
+    def __init__(self, terminal="s3270"):
         self.host = Host()
-        self.terminal = Terminal(self.host.port)
+        self.terminal = TERMINALS[terminal](self.host.port)
         self.host.accept()
         self.waits = False
 
@@ -228,18 +262,20 @@ def shortened(trial, record, actions):
     return actions
 
 
-def main(count=200, seed=1):
-    draw, passed, failed, known, trial = random.Random(int(seed)), 0, 0, 0, Trial()
-    for _ in range(int(count)):
-        record, actions = drawn_screen(draw), [*drawn_actions(draw)]
-        broken = trial.run(record, actions)
-        if broken and is_known(record, actions, trial):
-            known += 1
-            continue
-        passed, failed = passed + (not broken), failed + bool(broken)
-        if broken:
-            print(broken, record.hex().upper(), *shortened(trial, record, actions), sep="\n  ", flush=True)
-    trial.terminal.process.stdin.close()
+def main(count=200, seed=1, terminal="s3270"):
+    draw, passed, failed, known, trial = random.Random(int(seed)), 0, 0, 0, Trial(terminal)
+    try:
+        for _ in range(int(count)):
+            record, actions = drawn_screen(draw), [*drawn_actions(draw)]
+            broken = trial.run(record, actions)
+            if broken and is_known(record, actions, trial):
+                known += 1
+                continue
+            passed, failed = passed + (not broken), failed + bool(broken)
+            if broken:
+                print(broken, record.hex().upper(), *shortened(trial, record, actions), sep="\n  ", flush=True)
+    finally:
+        trial.terminal.close()
     print(f"{known} broken by the known fault of insert mode")
     print(f"{passed} passed, {failed} failed")
     return failed != 0

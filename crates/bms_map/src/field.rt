@@ -81,13 +81,20 @@ pub struct Field {
 }
 
 impl Field {
+    ghost use Rattle.std.specs.Prelude.{◌≡◌};
+    ghost use Rattle.bms_map.specs.Overlaps.{is_input, is_declared};
+
     /// Whether an operator can type there.
-    pub fn is_input(&self) -> bool {
+    pub fn is_input(&self) -> bool
+        ensures { result ≡ is_input self.now }
+    {
         self.attribute / 0x20 % 2 == 0
     }
 
     /// Whether the layout has an entry for it.
-    pub fn is_declared(&self) -> bool {
+    pub fn is_declared(&self) -> bool
+        ensures { result ≡ is_declared self.now }
+    {
         !self.label.is_empty() && (self.is_input() || self.attribute % 2 == 1)
     }
 }

@@ -1,6 +1,7 @@
 //! Fields that overlap, or go past the end of their map.
 
-ghost use Rattle.std.specs.Prelude.{◌<◌, length};
+ghost use Rattle.std.specs.Prelude.{◌≡◌, ◌<◌, ◌≤◌, ◌++◌, length, IfOk, OnOk};
+ghost use Rattle.bms_map.specs.Overlaps.{end_of, nearest, overlapping, past_end, overlaps_at, overlaps_of};
 
 use crate::field::Field;
 use crate::map::Map;
@@ -16,17 +17,19 @@ pub enum Overlap {
 }
 
 /// The position of a field's last character, not counted round the screen's end.
-fn end_of(field: &Field) -> u32 {
+fn end_of(field: &Field) -> u32
+    ensures { result ≡ end_of field.now }
+{
     field.cell.saturating_add(field.length)
 }
 
-/// The nearest field before one in which its attribute stands.
-fn overlapped(fields: &[Field], index: usize) -> Option<usize>
-    requires { index < length fields.now }
+/// The nearest of the first so many fields that reaches to a position.
+fn nearest(fields: &[Field], cell: u32, count: usize) -> Option<usize>
+    requires { count ≤ length fields.now }
+    ensures { result ≡ nearest fields.now cell count }
 {
-    let cell = fields[index].cell;
-    let mut i = index;
-    while 0 < i {
+    let mut i = count;
+    'fields: while 0 < i {
         i -= 1;
         if cell <= end_of(&fields[i]) {
             return Some(i);
@@ -35,18 +38,59 @@ fn overlapped(fields: &[Field], index: usize) -> Option<usize>
     None
 }
 
+/// Adds that a field stands in another.
+fn push_overlapping(
+    found: &mut Vec<Overlap>,
+    index: usize,
+    other: Option<usize>,
+) -> Result<(), AllocError>
+    ensures { OnOk result (found.new.items ≡ found.old.items ++ overlapping index other) }
+{
+    if let Some(other) = other {
+        found.push(Overlap::Overlaps(index, other))?;
+    }
+    Ok(())
+}
+
+/// Adds that a field goes past the last position.
+fn push_past(found: &mut Vec<Overlap>, index: usize, last: u32, end: u32) -> Result<(), AllocError>
+    ensures { OnOk result (found.new.items ≡ found.old.items ++ past_end index last end) }
+{
+    if last < end {
+        found.push(Overlap::PastEnd(index, end - last))?;
+    }
+    Ok(())
+}
+
+/// Adds those of the field of an index.
+fn push_overlaps(
+    found: &mut Vec<Overlap>,
+    fields: &[Field],
+    last: u32,
+    index: usize,
+) -> Result<(), AllocError>
+    requires { index < length fields.now }
+    ensures { OnOk result
+        (found.new.items ≡ found.old.items ++ overlaps_at fields.now last index) }
+{
+    let field = &fields[index];
+    push_overlapping(found, index, nearest(fields, field.cell, index))?;
+    push_past(found, index, last, end_of(field))
+}
+
 /// All of them, field by field.
-pub fn overlaps_of(alloc: Global, map: &Map) -> Result<Vec<Overlap>, AllocError> {
+///
+/// # Errors
+///
+/// Where a request for memory was refused.
+pub fn overlaps_of(alloc: Global, map: &Map) -> Result<Vec<Overlap>, AllocError>
+    ensures { IfOk result (λ found. found.items ≡ overlaps_of map.now) }
+{
     let mut found = Vec::new(alloc);
+    let fields = map.fields.as_slice();
     let last = map.area.last();
-    for i in 0..map.fields.len() {
-        if let Some(other) = overlapped(&map.fields, i) {
-            found.push(Overlap::Overlaps(i, other))?;
-        }
-        let end = end_of(&map.fields[i]);
-        if last < end {
-            found.push(Overlap::PastEnd(i, end - last))?;
-        }
+    'fields: for index in 0..fields.len() {
+        push_overlaps(&mut found, fields, last, index)?;
     }
     Ok(found)
 }

@@ -39,6 +39,8 @@ pub struct Area {
 }
 
 impl Area {
+    ghost use Rattle.bms_map.specs.Overlaps.{cell_in, last_of};
+
     /// How many positions its screen has.
     pub fn cells(self) -> u32
         ensures cells { result ≡ self.screen.rows * self.screen.cols }
@@ -58,6 +60,7 @@ impl Area {
     /// The position on the screen of a place that is counted from 0.
     pub(crate) fn cell(self, index: u32) -> u32
         requires { index ≤ 65025 }
+        ensures { result ≡ cell_in self index }
     {
         let columns = u32::from(self.extent.columns);
         let row = u32::from(self.top) + index / columns;
@@ -65,7 +68,9 @@ impl Area {
     }
 
     /// The position of its last line and column.
-    pub(crate) fn last(self) -> u32 {
+    pub(crate) fn last(self) -> u32
+        ensures { result ≡ last_of self }
+    {
         self.cell(self.places().saturating_sub(1))
     }
 }

@@ -1,6 +1,9 @@
 //! The record of a map: what SEND MAP MAPONLY ERASE sends.
 
-ghost use Rattle.std.specs.Prelude.{◌<◌, ◌≤◌};
+ghost use Rattle.std.specs.Prelude.{◌≡◌, ◌<◌, ◌≤◌, ◌%◌, true, OnOk};
+ghost use Rattle.std.specs.List.{flat_map};
+ghost use Rattle.order_lines.specs.Draft.{with_order, with_orders};
+ghost use Rattle.bms_map.specs.Record.{text_orders, attribute_order, cursor_orders, later_orders, field_orders, with_bit, control_bits, command_of, IsRecordOf};
 
 use crate::field::{Field, Later};
 use crate::map::Map;
@@ -18,7 +21,8 @@ pub struct Control {
 /// The bits with 02, unless it is among them.
 fn freed(bits: u8) -> u8
     requires { bits < 64 }
-    ensures { result < 64 }
+    ensures value { result ≡ with_bit true 2 bits }
+    ensures six { result < 64 }
 {
     if bits / 2 % 2 == 0 { bits + 2 } else { bits }
 }
@@ -26,14 +30,16 @@ fn freed(bits: u8) -> u8
 /// The bits with 01, unless it is among them.
 fn reset(bits: u8) -> u8
     requires { bits < 64 }
-    ensures { result < 64 }
+    ensures value { result ≡ with_bit true 1 bits }
+    ensures six { result < 64 }
 {
     if bits % 2 == 0 { bits + 1 } else { bits }
 }
 
 fn control_bits(bits: u8, control: Control) -> u8
     requires { bits < 64 }
-    ensures { result < 64 }
+    ensures value { result ≡ control_bits bits control }
+    ensures six { result < 64 }
 {
     match (control.free_keyboard, control.reset_modified) {
         (false, false) => bits,
@@ -44,7 +50,10 @@ fn control_bits(bits: u8, control: Control) -> u8
 }
 
 /// The attribute of a field, with its pairs where it has some.
-fn push_attribute(draft: &mut Draft, field: &Field) -> Result<(), AllocError> {
+fn push_attribute(draft: &mut Draft, field: &Field) -> Result<(), AllocError>
+    ensures { OnOk result (draft.new
+        ≡ with_order draft.old (attribute_order (field.now.attribute % 64) field.now.pairs.items)) }
+{
     if field.pairs.is_empty() {
         draft.push(&Order::Sf(Attr::new(field.attribute)))
     } else {
@@ -52,7 +61,9 @@ fn push_attribute(draft: &mut Draft, field: &Field) -> Result<(), AllocError> {
     }
 }
 
-fn push_text(draft: &mut Draft, text: &[u8]) -> Result<(), AllocError> {
+fn push_text(draft: &mut Draft, text: &[u8]) -> Result<(), AllocError>
+    ensures { OnOk result (draft.new ≡ with_orders draft.old (text_orders text.now)) }
+{
     if text.is_empty() {
         return Ok(());
     }
@@ -60,7 +71,9 @@ fn push_text(draft: &mut Draft, text: &[u8]) -> Result<(), AllocError> {
 }
 
 /// The texts of the later fields of a group.
-fn push_later(draft: &mut Draft, all: &[Later]) -> Result<(), AllocError> {
+fn push_later(draft: &mut Draft, all: &[Later]) -> Result<(), AllocError>
+    ensures { OnOk result (draft.new ≡ with_orders draft.old (flat_map later_orders all.now)) }
+{
     for later in all {
         draft.push(&Order::Sba(later.cell))?;
         push_text(draft, later.text.as_slice())?;
@@ -69,7 +82,9 @@ fn push_later(draft: &mut Draft, all: &[Later]) -> Result<(), AllocError> {
 }
 
 /// The cursor, where it is in the field.
-fn push_cursor(draft: &mut Draft, cursor: Option<u32>, cell: u32) -> Result<(), AllocError> {
+fn push_cursor(draft: &mut Draft, cursor: Option<u32>, cell: u32) -> Result<(), AllocError>
+    ensures { OnOk result (draft.new ≡ with_orders draft.old (cursor_orders cursor cell)) }
+{
     match cursor {
         Some(at) if at == cell => draft.push(&Order::Ic),
         _ => Ok(()),
@@ -77,7 +92,9 @@ fn push_cursor(draft: &mut Draft, cursor: Option<u32>, cell: u32) -> Result<(), 
 }
 
 /// The orders of a field.
-fn push_field(draft: &mut Draft, cursor: Option<u32>, field: &Field) -> Result<(), AllocError> {
+fn push_field(draft: &mut Draft, cursor: Option<u32>, field: &Field) -> Result<(), AllocError>
+    ensures { OnOk result (draft.new ≡ with_orders draft.old (field_orders cursor field.now)) }
+{
     draft.push(&Order::Sba(field.cell))?;
     push_attribute(draft, field)?;
     push_cursor(draft, cursor, field.cell)?;
@@ -86,7 +103,10 @@ fn push_field(draft: &mut Draft, cursor: Option<u32>, field: &Field) -> Result<(
 }
 
 /// The orders of a map.
-fn push_fields(draft: &mut Draft, cursor: Option<u32>, fields: &[Field]) -> Result<(), AllocError> {
+fn push_fields(draft: &mut Draft, cursor: Option<u32>, fields: &[Field]) -> Result<(), AllocError>
+    ensures { OnOk result
+        (draft.new ≡ with_orders draft.old (flat_map (field_orders cursor) fields.now)) }
+{
     for field in fields {
         push_field(draft, cursor, field)?;
     }
@@ -94,7 +114,9 @@ fn push_fields(draft: &mut Draft, cursor: Option<u32>, fields: &[Field]) -> Resu
 }
 
 /// The command of a map, with its write control character.
-fn command_of(map: &Map, control: Control) -> Command {
+fn command_of(map: &Map, control: Control) -> Command
+    ensures { result ≡ command_of map.now control }
+{
     let wcc = to_six_bit_code(control_bits(map.control.bits, control));
     if map.area.screen.rows == 24 {
         Command::EraseWrite(wcc)
@@ -104,7 +126,13 @@ fn command_of(map: &Map, control: Control) -> Command {
 }
 
 /// The record of a map, and what SEND MAP adds to its write control character.
-pub fn record_of(alloc: Global, map: &Map, control: Control) -> Result<Vec<u8>, Unwritable> {
+///
+/// # Errors
+///
+/// The flaw of its first order that can't be written, or `OutOfMemory`.
+pub fn record_of(alloc: Global, map: &Map, control: Control) -> Result<Vec<u8>, Unwritable>
+    ensures { IsRecordOf map.now control result }
+{
     let cells = map.area.cells();
     let mut draft = Draft::new(alloc, command_of(map, control), Mode::Bits14, cells)?;
     push_fields(&mut draft, map.cursor, map.fields.as_slice())?;

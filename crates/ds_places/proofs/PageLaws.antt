@@ -8,8 +8,8 @@ use Rattle.std.specs.Prelude.{slice_get}
 use Rattle.std.proofs.lemmas.List.{get_or_default, map-append}
 use Rattle.std.proofs.lemmas.Option.{slice_get-get_or}
 use Rattle.std.proofs.Math.Seq.{drop-cons}
-use Rattle.ds_places.proofs.BlockLaws.{unlisted, listed_some, listed_alike, bound, bound_next, quiet, Walked, walk_end}
-use Rattle.ds_places.proofs.SearchLaws.{Parts}
+use Rattle.ds_places.proofs.BlockLaws.{unlisted, listed_some, listed_inside, listed_alike, bound, bound_next, quiet, Walked, walk_end}
+use Rattle.ds_places.proofs.SearchLaws.{Parts, last_found}
 use Rattle.ds_places.proofs.ListLaws.{rises_weaken, few, either, at_append, at_held, at_none, rises_order}
 
 -- ---- lists in the order of places
@@ -202,31 +202,33 @@ module _ {T : Type 0} (place : T → ℕ) where
     | inr apart ↦ unlisted_none lists used each listed r (later (r / 64) (omega (arith, from, apart)))
   ]
 
-  pub last_in : (lists : List (List T)) (p : ℕ) (x : T) → ((k : ℕ) → IsBlock place k (list_at lists k)) → IsLastBelow place (list_at lists (p / 64)) p (Some x)
+  -- the block k holds the places below p that no earlier block holds
+  pub last_in : (lists : List (List T)) (k p : ℕ) (x : T) → p ≤ 64 * k + 64 → ((k : ℕ) → IsBlock place k (list_at lists k)) → IsLastBelow place (list_at lists k) p (Some x)
       → IsLastBelow place (entries_in lists) p (Some x)
-  last_in lists p x each found =
-      let here : place x / 64 ≡ p / 64 = in_block (p / 64) (place x) x (list_at lists (p / 64)) (each (p / 64)) found.1 in (
+  last_in lists k p x high each found =
+      let here : place x / 64 ≡ k = in_block k (place x) x (list_at lists k) (each k) found.1 in (
         found.0,
         at_flat lists each (place x) ∙ ap (λ k. at_place place (list_at lists k) (place x)) here ∙ found.1,
         λ r from below.
-            let same : r / 64 ≡ p / 64 = omega (arith, from, below, here) in
+            let same : r / 64 ≡ k = omega (arith, from, below, here, high) in
             at_flat lists each r ∙ ap (λ k. at_place place (list_at lists k) r) same ∙ found.2 r from below,
       )
 
-  pub last_earlier : (lists : List (List T)) (used : List ℕ) (p j i : ℕ) (x : T) → ((k : ℕ) → IsBlock place k (list_at lists k)) → ((k : ℕ) → at_place itself used k ≡ listed_if k (list_at lists k))
-      → IsLastBelow place (list_at lists (p / 64)) p None → IsLastBelow itself used (p / 64) (Some j) → i + 1 ≡ length (list_at lists j) → x ≡ get_or (list_at lists j) i x
+  pub last_earlier : (lists : List (List T)) (used : List ℕ) (k p j i : ℕ) (x : T) → 64 * k < p → p ≤ 64 * k + 64 → ((k : ℕ) → IsBlock place k (list_at lists k))
+      → ((k : ℕ) → at_place itself used k ≡ listed_if k (list_at lists k))
+      → IsLastBelow place (list_at lists k) p None → IsLastBelow itself used k (Some j) → i + 1 ≡ length (list_at lists j) → x ≡ get_or (list_at lists j) i x
       → IsLastBelow place (entries_in lists) p (Some x)
-  last_earlier lists used p j i x each listed none found last is =
+  last_earlier lists used k p j i x low high each listed none found last is =
       let held : at_place place (list_at lists j) (place x) ≡ Some x =
       ap (λ y. at_place place (list_at lists j) (place y)) is ∙ at_held place 0 (list_at lists j) (each j).rising i x (omega (arith, last)) ∙ ap Some (sym is) in
       let here : place x / 64 ≡ j = in_block j (place x) x (list_at lists j) (each j) held in (
-        omega (arith, here, found.0),
+        omega (arith, here, found.0, low),
         at_flat lists each (place x) ∙ ap (λ k. at_place place (list_at lists k) (place x)) here ∙ held,
-        λ r from below. elim (cases_eq (r / 64) (p / 64)) [
+        λ r from below. elim (cases_eq (r / 64) k) [
           | inl same ↦ at_flat lists each r ∙ ap (λ k. at_place place (list_at lists k) r) same ∙ none r below
           | inr apart ↦ elim (cases_eq (r / 64) j) [
             | inl there ↦ at_flat lists each r ∙ ap (λ k. at_place place (list_at lists k) r) there ∙ after_last (list_at lists j) x i r (each j).rising last is from
-            | inr other ↦ unlisted_none lists used each listed r (found.2 (r / 64) (omega (arith, from, here, other)) (omega (arith, below, apart)))
+            | inr other ↦ unlisted_none lists used each listed r (found.2 (r / 64) (omega (arith, from, here, other)) (omega (arith, below, apart, high)))
           ]
         ],
       )
@@ -243,12 +245,87 @@ module _ {T : Type 0} (place : T → ℕ) where
                 omega (arith, rise, e, same, above)
           ])
 
-  pub last_nowhere : (lists : List (List T)) (used : List ℕ) (p : ℕ) → ((k : ℕ) → IsBlock place k (list_at lists k)) → ((k : ℕ) → at_place itself used k ≡ listed_if k (list_at lists k))
-      → IsLastBelow place (list_at lists (p / 64)) p None → IsLastBelow itself used (p / 64) None → IsLastBelow place (entries_in lists) p None
-  last_nowhere lists used p each listed none earlier r below = elim (cases_eq (r / 64) (p / 64)) [
+  pub last_nowhere : (lists : List (List T)) (used : List ℕ) (k p : ℕ) → p ≤ 64 * k + 64 → ((k : ℕ) → IsBlock place k (list_at lists k)) → ((k : ℕ) → at_place itself used k ≡ listed_if k (list_at lists k))
+      → IsLastBelow place (list_at lists k) p None → IsLastBelow itself used k None → IsLastBelow place (entries_in lists) p None
+  last_nowhere lists used k p high each listed none earlier r below = elim (cases_eq (r / 64) k) [
     | inl same ↦ at_flat lists each r ∙ ap (λ k. at_place place (list_at lists k) r) same ∙ none r below
-    | inr apart ↦ unlisted_none lists used each listed r (earlier (r / 64) (omega (arith, below, apart)))
+    | inr apart ↦ unlisted_none lists used each listed r (earlier (r / 64) (omega (arith, below, apart, high)))
   ]
+
+  -- nothing is held past the blocks
+  past_blocks : (lists : List (List T)) (k q : ℕ) → length lists ≤ k → at_place place (list_at lists k) q ≡ None
+  past_blocks [] k q far = refl
+  past_blocks (xs ∷ lists) zero q far = absurd (omega arith)
+  past_blocks (xs ∷ lists) (suc k) q far = past_blocks lists k q (omega arith)
+
+  -- the last of the last block that is listed is the last of all
+  pub last_of_all : (lists : List (List T)) (used : List ℕ) (j i : ℕ) (x : T) → ((k : ℕ) → IsBlock place k (list_at lists k)) → ((k : ℕ) → at_place itself used k ≡ listed_if k (list_at lists k))
+      → IsLastBelow itself used (length lists) (Some j) → i + 1 ≡ length (list_at lists j) → x ≡ get_or (list_at lists j) i x
+      → (q : ℕ) → IsWithin place q (entries_in lists) → IsLastBelow place (entries_in lists) q (Some x)
+  last_of_all lists used j i x each listed found last is q within =
+      let p : ℕ = 64 * length lists + 64 in
+      let base : IsLastBelow place (entries_in lists) p (Some x) =
+      last_earlier lists used (length lists) p j i x (omega arith) (omega arith) each listed (λ r below. past_blocks lists (length lists) r (omega arith)) found last is in (
+        elim (cases_lt (place x) q) [
+          | inl less ↦ less
+          | inr far ↦ let e : Some x ≡ None = sym base.1 ∙ within (place x) far in absurd cc
+        ],
+        base.1,
+        λ r from below. elim (cases_lt r p) [
+          | inl less ↦ base.2 r from less
+          | inr far ↦ at_flat lists each r ∙ past_blocks lists (r / 64) r (omega (arith, far))
+        ],
+      )
+
+  -- the last number that is listed is one of a block, and no other block after it is listed
+  pub last_listed : (lists : List (List T)) (used : List ℕ) (i j : ℕ) → IsRising itself used → ((k : ℕ) → at_place itself used k ≡ listed_if k (list_at lists k)) → i + 1 ≡ length used
+      → j ≡ get_or used i j → IsLastBelow itself used (length lists) (Some j)
+  last_listed lists used i j rising listed last is =
+      last_found itself used (length lists) i j rising (
+        λ k d within lt. (let inside = listed_inside lists used k rising listed (omega (arith, lt, last)) in omega (arith, inside.1, get_or_default used k 0 d (omega (arith, lt, last)))),
+        λ k d from lt. absurd (omega (arith, from, lt, last)),
+      ) (omega (arith, last)) is
+
+  pub none_of_all : (lists : List (List T)) (used : List ℕ) → ((k : ℕ) → IsBlock place k (list_at lists k)) → ((k : ℕ) → at_place itself used k ≡ listed_if k (list_at lists k))
+      → length used ≡ 0 → (q : ℕ) → IsLastBelow place (entries_in lists) q None
+  none_of_all lists [] each listed none q = λ r below. unlisted_none lists [] each listed r refl
+  none_of_all lists (x ∷ used) each listed none q = absurd (omega (arith, none))
+
+  -- ---- how many
+  pub block_length : (lists : List (List T)) (k : ℕ) → length (list_at lists k) ≤ length (entries_in lists)
+  block_length [] k = omega arith
+  block_length (xs ∷ lists) zero = omega (arith, length-append xs (entries_in lists))
+  block_length (xs ∷ lists) (suc k) = let more = block_length lists k in omega (arith, more, length-append xs (entries_in lists))
+
+  first_number : (u : ℕ) (used : List ℕ) → at_place itself (u ∷ used) u ≡ Some u
+  first_number u used = cond-true (eqb u u) _ _ (eq-eqb _ _ refl)
+
+  used_from : (base : ℕ) (lists : List (List T)) (used : List ℕ) → RisesFrom itself base used → ((k : ℕ) → at_place itself used (base + k) ≡ listed_if (base + k) (list_at lists k))
+      → length used ≤ length (entries_in lists)
+  used_from base lists [] rising listed = omega arith
+  used_from base [] (u ∷ used) rising listed =
+      let back : base + (u - base) ≡ u = omega (arith, rising.0) in
+      let e : Some u ≡ None = sym (first_number u used) ∙ ap (at_place itself (u ∷ used)) (sym back) ∙ listed (u - base) in absurd cc
+  used_from base (xs ∷ lists) (u ∷ used) rising listed =
+      let next : (k : ℕ) → at_place itself (u ∷ used) (base + 1 + k) ≡ listed_if (base + 1 + k) (list_at lists k) =
+      λ k. (let same : base + suc k ≡ base + 1 + k = omega arith in subst (λ j. at_place itself (u ∷ used) j ≡ listed_if j (list_at lists k)) same (listed (suc k))) in
+      elim (cases_eq u base) [
+        | inl same ↦
+            let first : listed_if base xs ≡ Some u =
+            ap (λ j. listed_if j xs) (omega arith) ∙ sym (listed zero) ∙ ap (at_place itself (u ∷ used)) (omega (arith, same)) ∙ first_number u used in
+            let some : 0 < length xs = listed_some base u xs first in
+            let more = used_from (base + 1) lists used (subst (λ n. RisesFrom itself (n + 1) used) same rising.1)
+            (λ k. sym (cond-false (eqb u (base + 1 + k)) _ _ (ne_eqb _ _ (λ e. omega (arith, e, same)))) ∙ next k) in
+            omega (arith, more, some, length-append xs (entries_in lists))
+        | inr apart ↦
+            let more = used_from (base + 1) lists (u ∷ used) (omega (arith, rising.0, apart), rising.1) next in
+            omega (arith, more, length-append xs (entries_in lists))
+      ]
+
+  -- no more blocks are listed than there are entries
+  pub used_few : (lists : List (List T)) (used : List ℕ) → IsRising itself used → ((k : ℕ) → at_place itself used k ≡ listed_if k (list_at lists k)) → length used ≤ length (entries_in lists)
+  used_few lists used rising listed =
+      used_from 0 lists used rising (λ k. let same : k ≡ 0 + k = omega arith in subst (λ j. at_place itself used j ≡ listed_if j (list_at lists k)) same (listed k))
 
   -- ---- blocks that were cut
   abbrev pub IsCut : ℕ → ℕ → List (List T) → ℕ → List T → Type 0

@@ -1,5 +1,5 @@
 -- The entry of a place, and the nearest before it or from it on.
-use Rattle.std.specs.Prelude.{◌≡◌, ◌≢◌, ℕ, ◌≤◌, ◌<◌, List, length, slice_index_or, Option, Some, None, Result, Ok, Err}
+use Rattle.std.specs.Prelude.{◌≡◌, ◌≢◌, ℕ, ◌≤◌, ◌<◌, ◌+◌, ◌^◌, List, length, slice_index_or, Option, Some, None, Result, Ok, Err}
 use Rattle.std.specs.List.Sorted.{IsPartitionPoint}
 use Rattle.ds_places.specs.Places.{at_place}
 
@@ -25,3 +25,7 @@ IsSlot {T} place entries q (Ok i) =
 IsSlot {T} place entries q (Err i) =
     IsPartitionPoint (λ entry. place entry < q) (λ entry. q ≤ place entry) entries i × (i ≤ length entries)
     × ((d : T) → i < length entries → place (slice_index_or entries i d) ≢ q)
+
+-- at most as many looks as the number of entries has binary digits, and so many more
+abbrev pub AreFew : {T : Type 0} → List T → ℕ → ℕ → Type 0
+AreFew entries more looks = (digits : ℕ) → length entries < 2 ^ digits → looks ≤ digits + more

@@ -3,6 +3,7 @@
 
 mod blocks;
 mod change;
+mod counted;
 mod edits;
 mod pages;
 mod placed;
@@ -10,6 +11,6 @@ mod search;
 
 pub use change::Change;
 pub use edits::add;
-pub use pages::Pages;
+pub use pages::{Nearest, Pages};
 pub use placed::Placed;
 pub use search::held;

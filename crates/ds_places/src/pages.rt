@@ -2,7 +2,7 @@
 
 ghost use Rattle.std.specs.Prelude.{◌≡◌, ◌≤◌, ◌<◌, ◌+◌, ◌==◌, ◌&&◌, ℕ, [], length, map, nat_le, nat_lt, if◌then◌else◌, Some, None, IfOk, slice_get};
 ghost use Rattle.ds_places.specs.Places.{IsRising, IsWithin, at_place, is_round};
-ghost use Rattle.ds_places.specs.Nearest.{IsLastBelow, IsFirstFrom};
+ghost use Rattle.ds_places.specs.Nearest.{IsLastBelow, IsFirstFrom, AreFew};
 
 use crate::blocks::{
     block, can_hold, change_blocks, clear_blocks, copy_blocks, cut_places, note, reserved, store_in,
@@ -10,9 +10,18 @@ use crate::blocks::{
 use crate::change::Change;
 use crate::edits::cut;
 use crate::placed::Placed;
-use crate::search::{first_from, held, last_below};
+use crate::search::{first_from, held, last_below, last_in};
 use std::alloc::{AllocError, Global};
 use std::marker::Model;
+
+/// What a search for the last entry up to a place found, and how often it looked at an entry and at a block or the number
+/// of one.
+#[derive(Drop)]
+pub struct Nearest<T> {
+    pub entry: Option<T>,
+    pub looks: u64,
+    pub blocks: u64,
+}
 
 /// Entries in the rising order of their places, which are below a number that is set once. They are kept in blocks
 /// of 64 places, so an entry that is put in or taken out moves no more than those of its block; the numbers of the
@@ -95,20 +104,51 @@ impl<T: Placed> Pages<T> {
         held(block(&self.blocks, place / 64), place)
     }
 
-    /// The entry at the greatest place below this one.
+    /// The entry at the greatest place up to this one: in the block of the place, or else the last of the nearest block
+    /// before it that holds entries.
     #[inline(always)]
-    pub fn last_below(&self, place: u32) -> Option<T>
-        ensures { IsLastBelow T.place_of self.now.entries place result }
+    pub fn last_to(&self, place: u32) -> Nearest<T>
+        ensures nearest { IsLastBelow T.place_of self.now.entries (place + 1) result.entry }
+        ensures looks { AreFew self.now.entries 1 result.looks }
+        ensures blocks { AreFew self.now.entries 3 result.blocks }
+        ensures missed { result.entry ≡ None → AreFew self.now.entries 0 result.looks
+            × AreFew self.now.entries 1 result.blocks }
     {
         let number = place / 64;
-        if let Some(entry) = last_below(block(&self.blocks, number), place) {
-            return Some(entry);
+        let own = last_below(block(&self.blocks, number), u64::from(place) + 1);
+        if let Some(entry) = own.entry {
+            return Nearest {
+                entry: Some(entry),
+                looks: own.looks,
+                blocks: 1,
+            };
         }
-        let Some(earlier) = last_below(&self.used, number) else {
-            return None;
+        let earlier = last_below(&self.used, u64::from(number));
+        let Some(used) = earlier.entry else {
+            return Nearest {
+                entry: None,
+                looks: own.looks,
+                blocks: earlier.looks + 1,
+            };
         };
-        let entries = block(&self.blocks, earlier);
-        Some(entries[entries.len() - 1])
+        Nearest {
+            entry: Some(last_in(block(&self.blocks, used))),
+            looks: own.looks + 1,
+            blocks: earlier.looks + 2,
+        }
+    }
+
+    /// The entry at the greatest place of all, for one look at an entry, one at a number of a block and one at the block.
+    #[inline(always)]
+    pub fn last(&self) -> Option<T>
+        ensures { (q : ℕ) → IsWithin T.place_of q self.now.entries
+            → IsLastBelow T.place_of self.now.entries q result }
+    {
+        let many = self.used.len();
+        if many == 0 {
+            return None;
+        }
+        Some(last_in(block(&self.blocks, self.used[many - 1])))
     }
 
     /// The entry at the least place from this one on.

@@ -1,11 +1,12 @@
-//! Searches: at the last entry first, and then by halving, which looks at no more entries than their number has binary
-//! digits, and one more.
+//! Searches: at the last entry first, and then by halving. The one for the last entry before a place counts its looks: no
+//! more than the number of entries has binary digits, and one more for the entry that it gives.
 
-ghost use Rattle.std.specs.Prelude.{◌≡◌, ◌≤◌, ◌<◌, ℕ, true, None, length, slice_index_or};
+ghost use Rattle.std.specs.Prelude.{◌≡◌, ◌≤◌, ◌<◌, ◌-◌, ℕ, true, None, length, slice_index_or};
 ghost use Rattle.std.specs.List.Sorted.{IsPartitionPoint};
 ghost use Rattle.ds_places.specs.Places.{IsRising, at_place};
-ghost use Rattle.ds_places.specs.Nearest.{IsSlot, IsLastBelow, IsFirstFrom};
+ghost use Rattle.ds_places.specs.Nearest.{IsSlot, IsLastBelow, IsFirstFrom, AreFew};
 
+use crate::counted::Counted;
 use crate::placed::Placed;
 
 /// How many entries have a place below this one: the index of the first that has not.
@@ -87,17 +88,59 @@ pub fn held<T: Placed>(entries: &[T], place: u32) -> Option<T>
     }
 }
 
+/// How many entries have a place below this one. The only way to an entry is a look that counts.
+#[inline(always)]
+fn count_below<T: Placed>(seen: &mut Counted<'_, T>, place: u64) -> usize
+    requires rising { IsRising T.place_of seen.old.entries.now }
+    requires fresh { seen.old.looks ≡ 0 }
+    ensures parts { IsPartitionPoint (λ entry. T.place_of entry < place)
+        (λ entry. place ≤ T.place_of entry) seen.old.entries.now result }
+    ensures within { result ≤ length seen.old.entries.now }
+    ensures kept { seen.new.entries.now ≡ seen.old.entries.now }
+    ensures looks { AreFew seen.old.entries.now 0 seen.new.looks }
+    ensures few { seen.new.looks ≤ 64 }
+{
+    let mut low = 0;
+    let mut high = seen.len();
+    'halves: while low < high {
+        let middle = low + (high - low) / 2;
+        if u64::from(seen.item(middle).place()) < place {
+            low = middle + 1;
+        } else {
+            high = middle;
+        }
+    }
+    low
+}
+
+/// What a search for the last entry before a place found, and how often it looked at an entry.
+#[derive(Drop)]
+pub(crate) struct Sought<T> {
+    pub(crate) entry: Option<T>,
+    pub(crate) looks: u64,
+}
+
 /// The entry at the greatest place below this one.
 #[inline(always)]
-pub(crate) fn last_below<T: Placed>(entries: &[T], place: u32) -> Option<T>
+pub(crate) fn last_below<T: Placed>(entries: &[T], place: u64) -> Sought<T>
     requires { IsRising T.place_of entries.now }
-    ensures { IsLastBelow T.place_of entries.now place result }
+    ensures nearest { IsLastBelow T.place_of entries.now place result.entry }
+    ensures looks { AreFew entries.now 1 result.looks }
+    ensures missed { result.entry ≡ None → AreFew entries.now 0 result.looks }
+    ensures few { result.looks ≤ 65 }
 {
-    let before = rank(entries, place);
+    let mut seen = Counted::new(entries);
+    let before = count_below(&mut seen, place);
     if before == 0 {
-        None
-    } else {
-        Some(entries[before - 1])
+        return Sought {
+            entry: None,
+            looks: seen.looks(),
+        };
+    }
+    let entry = seen.item(before - 1);
+    Sought {
+        entry: Some(entry),
+        looks: seen.looks(),
     }
 }
 
@@ -113,4 +156,13 @@ pub(crate) fn first_from<T: Placed>(entries: &[T], place: u32) -> Option<T>
     } else {
         None
     }
+}
+
+/// The last of some entries.
+#[inline(always)]
+pub(crate) fn last_in<T: Placed>(entries: &[T]) -> T
+    requires { 0 < length entries.now }
+    ensures { result ≡ slice_index_or entries.now (length entries.now - 1) result }
+{
+    entries[entries.len() - 1]
 }

@@ -1,6 +1,6 @@
 -- For the code's own proofs: public contracts rest on this file alone for which places an index holds.
 -- Cells kept in two planes, and the places of their attributes in rising order.
-use Rattle.std.specs.Prelude.{◌≡◌, ℕ, ◌<◌, ◌+◌, ◌-◌, Bool, true, false, ◌&&◌, nat_lt, nat_le, if◌then◌else◌, List, length, Option, Some, None, slice_index_or, slice_index}
+use Rattle.std.specs.Prelude.{◌≡◌, ℕ, ◌<◌, ◌≤◌, ◌+◌, ◌-◌, ◌^◌, min, Bool, true, false, ◌&&◌, nat_lt, nat_le, if◌then◌else◌, List, length, Option, Some, None, slice_index_or, slice_index}
 use Rattle.ds_codec.specs.declared.cell.Cell.{Cell}
 use Rattle.ds_codec.specs.declared.cell.Cell.TheVariants.{Field, Char}
 use Rattle.ds_codec.specs.Character.{Glyph, is_text, is_graphic, glyph}
@@ -87,7 +87,21 @@ abbrev pub erased_for : List Cell → ℕ → ℕ → ℕ → Cell
 erased_for cells b steps p =
     if nat_lt (ring_distance (length cells) b p) steps then (if is_open cells p then blank else cell_at cells p) else cell_at cells p
 
--- an index that is looked at, and how many looks that took
+-- an index that is looked at: its positions, of how many blocks it is, how often it was looked at a position, and how often at a
+-- block or the number of one
 pub record Probing : Type 0 where
   pub positions : List ℕ
+  pub size : ℕ
   pub probes : ℕ
+  pub blocks : ℕ
+
+-- after so many more looks at positions and at blocks
+abbrev pub looked : Probing → ℕ → ℕ → Probing
+looked was probes blocks =
+    record { positions = was.positions; size = was.size; probes = was.probes + probes; blocks = min (was.blocks + blocks) (2 ^ 64 - 1) }
+
+-- it was looked at no more positions than their number has binary digits, and so many more, and at blocks likewise
+pub record LooksFew (was is : Probing) (more_probes more_blocks : ℕ) : Type 0 where
+  pub kept : is.positions ≡ was.positions
+  pub probes : (digits : ℕ) → length was.positions < 2 ^ digits → is.probes ≤ was.probes + digits + more_probes
+  pub blocks : (digits : ℕ) → length was.positions < 2 ^ digits → is.blocks ≤ was.blocks + digits + more_blocks

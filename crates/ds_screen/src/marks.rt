@@ -86,7 +86,7 @@ impl Marks {
         ensures { Tells IsMarked self.now
             (λ cells. result ≡ ruling_bits cells (ring_back (length cells) 0 1)) }
     {
-        match self.marks.last_below(self.size) {
+        match self.marks.last() {
             Some(mark) => mark.attribute,
             None => Attr::new(0),
         }

@@ -11,6 +11,7 @@ ghost use Rattle.ds_screen.specs.Reset.{after_reset};
 ghost use Rattle.ds_screen.specs.Planes.{itself, spot_if, IsIndex};
 
 use crate::cells::Cells;
+use crate::counted::attr_before_counted;
 use crate::planes::Planes;
 use crate::probed::Probed;
 use crate::ranges::reach;
@@ -129,10 +130,12 @@ impl PlaneCells {
     ghost use Rattle.ds_screen.specs.Fields.{is_attribute, ruling_bits, first_open};
     ghost use Rattle.ds_screen.specs.Planes.{IsIndex, HasNone, stretch_cell, erased_for};
 
-    /// The index of the attributes, with a count of looks that begins at 0.
+    /// The index of the attributes, with counts of looks that begin at 0.
+    #[inline(always)]
     pub fn probed(&self) -> Probed<'_>
         ensures index { IsIndex result.positions self.now.cells }
         ensures count { result.probes ≡ 0 }
+        ensures blocks { result.blocks ≡ 0 }
     {
         let _places = self.planes.len();
         Probed::new(&self.index)
@@ -268,11 +271,7 @@ impl Cells for PlaneCells {
 
     #[inline(always)]
     fn attr_before(&self, p: u32) -> Option<u32> {
-        let n = self.planes.len();
-        if let Some(q) = self.index.last_below(p + 1) {
-            return Some(q);
-        }
-        self.index.last_below(n)
+        attr_before_counted(&mut self.probed(), p)
     }
 
     fn attr_from(&self, p: u32) -> Option<u32> {

@@ -64,6 +64,7 @@ fn take_edit(row: &mut Row, pages: &mut Pages<Marked>, verb: &str, words: &str) 
         "cut" => cut(row, pages, words),
         "round" => cut_round(row, pages, words),
         "list" => push_list(row, pages),
+        "last" => push_entry(row, pages.last()),
         _ => return false,
     }
     true
@@ -73,7 +74,7 @@ fn take_edit(row: &mut Row, pages: &mut Pages<Marked>, verb: &str, words: &str) 
 fn push_found(row: &mut Row, pages: &Pages<Marked>, verb: &str, word: u32) {
     match verb {
         "held" => push_entry(row, pages.held(word)),
-        "below" => push_entry(row, pages.last_below(word)),
+        "to" => push_entry(row, pages.last_to(word).entry),
         "from" => push_entry(row, pages.first_from(word)),
         "get" => push_entry(row, pages.get(word as usize)),
         "copy" => push_copy(row, pages, word),

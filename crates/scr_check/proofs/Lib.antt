@@ -3,6 +3,7 @@ pub mod TakingLaws
 pub mod OpenLaw
 pub mod CheckerLaws
 pub mod BoundLaw
+pub mod NextLaw
 pub mod BindLaw
 pub mod KeptLaws
 pub mod Among

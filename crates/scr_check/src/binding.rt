@@ -1,11 +1,10 @@
 //! An answer's fields, each by its entry in the layout.
 
-ghost use Rattle.std.specs.Prelude.{◌≡◌, ◌==◌, nat_lt, length, map, Ok, IfOk};
-ghost use Rattle.std.specs.List.{list_any};
+ghost use Rattle.std.specs.Prelude.{◌≡◌, ◌<◌, nat_lt, List, [], ◌∷◌, ◌++◌, length, map, IfOk};
 ghost use Rattle.ds_inbound.specs.Characters.{characters_in};
 ghost use Rattle.ds_inbound.specs.Reading.{sent_of};
-ghost use Rattle.scr_check.specs.Binding.{is_bound, bound_at, bound_of};
-ghost use Rattle.scr_check.specs.Bound.{Gives, BindsAs, BindsField, bound_seen};
+ghost use Rattle.scr_check.specs.Binding.{Pair, bound_at, bound_field, bound_of};
+ghost use Rattle.scr_check.specs.Bound.{Binds, BindsAs, AreTaken, bound_seen};
 
 use crate::bound::Bound;
 use ds_inbound::{FieldSlice, Inbound, chars};
@@ -95,18 +94,8 @@ impl<T: Drop> From<AllocFailed<T>> for BindError {
     }
 }
 
-fn has_entry(index: usize, bound: &[Bound<'_>]) -> bool
-    ensures { result ≡ list_any (λ pair. index == pair.entry) bound.now }
-{
-    bound.iter().any(|pair| index == pair.entry)
-}
-
-/// Whether an entry has its field already.
-fn is_bound(index: usize, bound: &[Bound<'_>]) -> bool
-    ensures { result ≡ is_bound index (map bound_seen bound.now) }
-{
-    has_entry(index, bound)
-}
+/// Whether the entry of each index has its field already; a layout has at most so many.
+type Taken = [bool; 1000];
 
 /// Whether there are more characters than so many; a pair of the graphic escape and a code is one.
 fn is_longer(raw: &[u8], declared: u32) -> bool
@@ -115,70 +104,92 @@ fn is_longer(raw: &[u8], declared: u32) -> bool
     chars(raw).nth(declared as usize).is_some()
 }
 
-/// The pair of a field and the entry of this index, behind those that are bound.
+/// No entry has its field yet.
+fn none_taken() -> Taken
+    ensures { AreTaken result [] }
+{
+    [false; 1000]
+}
+
+/// The pair of a field and the entry of this index, which is taken from then on.
 fn bind_entry<'a>(
     index: usize,
     entry: &Entry,
-    bound: &[Bound<'a>],
+    taken: &mut Taken,
     field: FieldSlice<'a>,
 ) -> Result<Bound<'a>, BindFault>
-    ensures { BindsAs (bound_at (map bound_seen bound.now) (sent_of field.entry) index entry.now)
-        field.entry result }
+    requires { index < 1000 }
+    ensures due { (bound : List Pair) → AreTaken taken.old bound
+        → BindsAs (bound_at bound (sent_of field.entry) index entry.now) field.entry result }
+    ensures taken { (bound : List Pair) → AreTaken taken.old bound
+        → IfOk result (λ pair. AreTaken taken.new (bound ++ bound_seen pair ∷ [])) }
 {
-    if is_bound(index, bound) {
+    if taken[index] {
         return Err(BindFault::Twice);
     }
     if is_longer(field.raw, entry.length) {
         return Err(BindFault::Longer);
     }
+    taken[index] = true;
     Ok(Bound {
         entry: index,
         raw: field.raw,
     })
 }
 
-/// The pair of a field and its entry, behind those that are bound.
+/// The pair of a field and its entry, which is taken from then on. Takes no memory.
 fn bind_field<'a>(
     layout: &Layout,
-    bound: &[Bound<'a>],
+    taken: &mut Taken,
     field: FieldSlice<'a>,
 ) -> Result<Bound<'a>, BindFault>
-    ensures { BindsField layout.now.entries bound.now field.entry result }
+    ensures due { (bound : List Pair) → AreTaken taken.old bound
+        → BindsAs (bound_field layout.now.entries bound (sent_of field.entry)) field.entry result }
+    ensures taken { (bound : List Pair) → AreTaken taken.old bound
+        → IfOk result (λ pair. AreTaken taken.new (bound ++ bound_seen pair ∷ [])) }
 {
     let Some(index) = layout.entry_at(field.place) else {
         return Err(BindFault::NotDeclared);
     };
     match layout.entries().get(index) {
-        Some(entry) => bind_entry(index, entry, bound, field),
+        Some(entry) => bind_entry(index, entry, taken, field),
         None => Err(BindFault::NotDeclared),
     }
 }
 
 /// The fields of an answer in its order, each with the entry at its place: an answer to Read Modified
-/// that the layout's screen can have given. Looks at each entry for each field, and at each field that
-/// is bound.
+/// that the layout's screen can have given. Looks for each field's entry by halving.
 ///
 /// # Errors
 ///
 /// B4 where characters stand before the first field. Then field by field: B1 where no entry begins at
 /// its place, B3 where that entry has a field already, B2 where it has more characters than declared.
-/// `OutOfMemory` in place of any answer where a request for memory was refused.
+/// `OutOfMemory` where nothing of that is at fault, and a request for memory was refused.
 pub fn bind<'a>(
     alloc: Global,
     layout: &Layout,
     inbound: &Inbound<'a>,
 ) -> Result<Vec<Bound<'a>>, BindError>
-    ensures { Gives (λ v. map bound_seen v.items) result (bound_of layout.now.entries inbound.now) }
+    ensures { Binds (λ v. map bound_seen v.items) result (bound_of layout.now.entries inbound.now) }
 {
     if !inbound.lead().is_empty() {
         return Err(BindError::Refused(BindFault::Lead));
     }
+    let mut taken = none_taken();
     let mut bound = Vec::new(alloc);
+    let mut is_short = false;
     for field in inbound.fields() {
-        match bind_field(layout, bound.as_slice(), field) {
-            Ok(pair) => bound.push(pair)?,
-            Err(fault) => return Err(BindError::Refused(fault)),
+        let pair = bind_field(layout, &mut taken, field)?;
+        if is_short {
+            continue;
         }
+        match bound.push(pair) {
+            Ok(()) => (),
+            Err(_refused) => is_short = true,
+        }
+    }
+    if is_short {
+        return Err(BindError::OutOfMemory);
     }
     Ok(bound)
 }

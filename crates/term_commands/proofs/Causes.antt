@@ -8,7 +8,7 @@ use Rattle.term_commands.specs.declared.fault.CommandError.TheVariants.{Fault as
 use Rattle.term_commands.specs.declared.output.answer.Answer.{Answer}
 use Rattle.term_commands.specs.declared.status.Status.{Status}
 use Rattle.term_commands.specs.declared.status.Status.TheVariants.{Done, Findings, BadInput, Failed, NoMemory}
-use Rattle.term_commands.specs.Causes.{FailsBy, ToldBy, ReadsNothing, SendsBy, WritesBy, FinishesBy, EndsBy, all_failures}
+use Rattle.term_commands.specs.Causes.{HasFailed, FailsBy, ToldBy, ReadsNothing, SendsBy, WritesBy, FinishesBy, EndsBy, all_failures}
 use Rattle.term_commands.specs.Fault.{Gives, GivesOrFails}
 use Rattle.term_commands.specs.Held.{answer_seen}
 use Rattle.term_commands.specs.Printed.{Printed, printed_or_fault}
@@ -69,7 +69,7 @@ told_on old mid new result same is = subst (λ (n : ℕ). ToldBy n new result) s
 pub sent : (old new : ℕ) (all : Bool) → all ≡ true → SendsBy old new all → new ≡ old
 sent old new all is by = rw is at by
 
-pub unsent : (old new : ℕ) (all : Bool) → all ≡ false → SendsBy old new all → 0 < new
+pub unsent : (old new : ℕ) (all : Bool) → all ≡ false → SendsBy old new all → HasFailed old new
 unsent old new all is by = rw is at by
 
 ends_due : (old new : ℕ) (due status : Status) → status ≡ due → new ≡ old → EndsBy old new due status
@@ -79,7 +79,7 @@ ends_due old new due BadInput is same = (is, same)
 ends_due old new due Failed is same = inl (sym is, same)
 ends_due old new due NoMemory is same = tt
 
-ends_failed : (old new : ℕ) (due status : Status) → status ≡ Failed → 0 < new → EndsBy old new due status
+ends_failed : (old new : ℕ) (due status : Status) → status ≡ Failed → HasFailed old new → EndsBy old new due status
 ends_failed old new due status is some = rw is (inr some)
 
 ends_wanting : (old new : ℕ) (due status : Status) → status ≡ NoMemory → EndsBy old new due status
@@ -121,13 +121,14 @@ set_same failures [] i d other inside same = absurd (omega (arith, inside))
 set_same failures (x ∷ xs) zero d other inside same = ap (λ n. n + all_failures failures xs) same
 set_same failures (x ∷ xs) (suc i) d other inside same = ap (λ n. failures x + n) (set_same failures xs i d other (omega (arith, inside)) same)
 
-set_some : {S : Type 0} (failures : S → ℕ) (streams : List S) (i : ℕ) (other : S) → i < length streams → 0 < failures other → 0 < all_failures failures (set streams i other)
-set_some failures [] i other inside some = absurd (omega (arith, inside))
-set_some failures (x ∷ xs) zero other inside some = omega arith
-set_some failures (x ∷ xs) (suc i) other inside some = omega (arith, set_some failures xs i other (omega (arith, inside)) some)
+set_some : {S : Type 0} (failures : S → ℕ) (streams : List S) (i : ℕ) (d other : S) → i < length streams → HasFailed (failures (get_or streams i d)) (failures other)
+    → HasFailed (all_failures failures streams) (all_failures failures (set streams i other))
+set_some failures [] i d other inside some = absurd (omega (arith, inside))
+set_some failures (x ∷ xs) zero d other inside some = omega (arith, some)
+set_some failures (x ∷ xs) (suc i) d other inside some = omega (arith, set_some failures xs i d other (omega (arith, inside)) some)
 
 pub set_fails : {S : Type 0} (failures : S → ℕ) (streams : List S) (i : ℕ) (d other : S) (error : CommandError) → i < length streams
     → FailsBy (failures (get_or streams i d)) (failures other) error → FailsBy (all_failures failures streams) (all_failures failures (set streams i other)) error
 set_fails failures streams i d other (Told fault) inside same = set_same failures streams i d other inside same
-set_fails failures streams i d other ReadFailed inside some = set_some failures streams i other inside some
+set_fails failures streams i d other ReadFailed inside some = set_some failures streams i d other inside some
 set_fails failures streams i d other OutOfMemory inside none = tt

@@ -5,7 +5,7 @@ use Rattle.term_commands.specs.declared.fault.CommandError.{CommandError}
 use Rattle.term_commands.specs.declared.fault.CommandError.TheVariants.{Fault as Told, ReadFailed, OutOfMemory}
 use Rattle.term_commands.specs.declared.status.Status.{Status}
 use Rattle.term_commands.specs.declared.status.Status.TheVariants.{Done, Findings, BadInput, Failed, NoMemory}
-use Rattle.term_commands.specs.Causes.{EndsBy}
+use Rattle.term_commands.specs.Causes.{HasFailed, EndsBy}
 use Rattle.term_commands.specs.Streams.{AppendsFront}
 use Rattle.term_traces.specs.declared.asked.Asked.{Asked}
 use Rattle.term_traces.specs.declared.line.Next.{Next}
@@ -33,7 +33,7 @@ PrintsRecords asked input old new status = PrintsLines asked (lines_in input) ol
 -- The status is that of the lines, and no read and no write failed; or it is `Failed`, and one did, or the input has at least
 -- 2^64 - 2 lines; or memory was refused.
 abbrev pub TracesBy : ℕ → ℕ → List ℕ → Status → Type 0
-TracesBy old new input Failed = (0 < new) ⊎ (18446744073709551614 ≤ length (lines_in input))
+TracesBy old new input Failed = HasFailed old new ⊎ (18446744073709551614 ≤ length (lines_in input))
 TracesBy old new input NoMemory = Unit {0}
 TracesBy old new input status = new ≡ old
 

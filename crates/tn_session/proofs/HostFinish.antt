@@ -1,6 +1,6 @@
 -- A host's run that an answer ended tells what came of it.
-use Rattle.std.proofs.Common.{◌≡◌, ℕ, ◌&&◌, Bool, true, false, cond, nat_eq, nat_le, List, [], ◌∷◌, ◌++◌, length, Option, Some, None, Ok, Err, refl, sym, ◌∙◌, ap, subst}
-use Rattle.std.specs.Prelude.{Result}
+use Rattle.std.proofs.Common.{◌≡◌, ℕ, ◌&&◌, Bool, true, false, cond, nat_eq, nat_le, List, [], ◌∷◌, ◌++◌, Option, Some, None, Ok, Err, refl, sym, ◌∙◌, ap, subst, inl, inr}
+use Rattle.std.specs.Prelude.{Result, IsSome}
 use Rattle.ds_inbound.specs.Answer.{Answer}
 use Rattle.ds_inbound.specs.Reading.{read_of}
 use Rattle.ds_inbound.specs.declared.refused.Refused.{Refused}
@@ -12,22 +12,29 @@ use Rattle.tn_wire.specs.Header.{Headed, header_of}
 use Rattle.tn_wire.specs.Stream.{Told, told_record, told_verb, told_sub, told_passed}
 use Rattle.tn_wire.specs.declared.header.DataType.{DataType}
 use Rattle.tn_wire.specs.declared.header.DataType.TheVariants.{Data3270, ScsData, Response, BindImage, Unbind, NvtData, Request, SscpLuData, PrintEoj}
-use Rattle.tn_wire.specs.declared.header.Header.{Header}
+use Rattle.tn_wire.specs.declared.header.Header.{Header as Head}
 use Rattle.tn_wire.specs.declared.header.HeaderFault.{HeaderFault}
 use Rattle.tn_cores.specs.declared.host.HostCore.{HostCore}
 use Rattle.tn_cores.specs.declared.session.Agreed.{Agreed}
 use Rattle.tn_cores.specs.declared.session.SessionFault.{SessionFault}
+use Rattle.tn_cores.specs.declared.session.SessionFault.TheVariants.{Rejected, WrongList, BadSubnegotiation, OptionRefused, NotReady, BadResponse, TooManyReads, LineFault, NoDevice, Closed, TerminalRefused}
 use Rattle.tn_cores.specs.Host.{new_host, opening, host_agreed}
 use Rattle.tn_cores.specs.Replies.{bytes_of}
 use Rattle.tn_cores.specs.Steps.{Stepped, host_step}
 use Rattle.tn_session.specs.declared.fault.RunFault.{RunFault}
+use Rattle.tn_session.specs.declared.fault.RunFault.TheVariants.{Wire, Header, Session, Inbound, Bind, OutOfMemory}
+use Rattle.tn_session.specs.declared.progress.Progress.{Progress}
+use Rattle.tn_session.specs.declared.progress.Progress.TheVariants.{More, Done}
 use Rattle.tn_session.specs.declared.outcome.HostOutcome.{HostOutcome}
 use Rattle.tn_session.specs.declared.turn.Finish.{Finish}
 use Rattle.tn_session.specs.declared.turn.Finish.TheVariants as finish
 use Rattle.tn_session.specs.HostLog.{Outcome, HostRunning, host_start, ready_due, responded, is_awaited, outcome_of, bound_answer, read_answer, taken_answer, taken_typed, taken_headed, taken_record, host_stepped, host_by_core, host_act}
-use Rattle.tn_session.specs.HostRan.{Answers, HostRuns}
-use Rattle.tn_session.specs.HostView.{OutcomeTaken}
+use Rattle.tn_session.specs.HostRan.{Answers, HasModel, HostRan}
+use Rattle.tn_session.specs.HostTalk.{host_talk, IsMade, NotMade, first_said, HasCome, OutcomeTaken}
+use Rattle.tn_session.specs.OneLog.{waits, is_over, has_failed, is_at_fault}
 use Rattle.tn_session.specs.Ran.{Ran}
+use Rattle.tn_session.specs.RanSession.{EndsAs, RanSession}
+use Rattle.tn_session.specs.Talk.{Talk, stands, starved, failed_talk, Hears, Takes}
 use Rattle.tn_session.specs.Runs.{Course, goes, finishes, fails, Log, going, failed, log_on, log_of}
 use Rattle.tn_session.specs.Wire.{WireState}
 
@@ -66,7 +73,7 @@ read_tells running agreed (Err why) = failed_tells _
 answer_tells : (agreed : Agreed) (running : HostRunning) (bytes : List ℕ) → Tells (taken_answer agreed running bytes)
 answer_tells agreed running bytes = read_tells running agreed (read_of running.layout.geometry.mode (cells_of running.layout.size) bytes)
 
-typed_tells : (agreed : Agreed) (running : HostRunning) (header : Header) (bytes : List ℕ) (data_type : DataType) → Tells (taken_typed agreed running header bytes data_type)
+typed_tells : (agreed : Agreed) (running : HostRunning) (header : Head) (bytes : List ℕ) (data_type : DataType) → Tells (taken_typed agreed running header bytes data_type)
 typed_tells agreed running header bytes Data3270 = answer_tells agreed running bytes
 typed_tells agreed running header bytes Response = by_test (is_awaited agreed running header.seq) _ _ (responded_tells running header.response bytes) (failed_tells _)
 typed_tells agreed running header bytes ScsData = going_tells [] running
@@ -111,38 +118,91 @@ log_tells (event ∷ events) running =
 none_some : {A : Type 0} (x : A) (o : Option A) → o ≡ Some x → o ≡ None → ⊥
 none_some {A = A} x o some none = let same : ◌≡◌ {A = Option A} None (Some x) = sym none ∙ some in absurd cc
 
-outcome_told : (end : HostRunning) (result : Result HostOutcome RunFault) → HasOutcome end → OutcomeTaken end result → Answers (Ok finish.Finished) end result
+outcome_told : (end : HostRunning) (result : Result HostOutcome RunFault) → HasOutcome end → OutcomeTaken (stands (is_over end)) result → Answers (Ok finish.Finished) end result
 outcome_told end (Ok outcome) has taken = (outcome, refl, taken)
 outcome_told end (Err why) has taken = absurd (none_some has.0 end.outcome has.1 taken)
 
-pub finished_tells : (start : HostRunning) (first : List ℕ) (old new : WireState) (end : HostRunning) (result : Result HostOutcome RunFault) → Ran host_act first start old (Ok finish.Finished) end new → OutcomeTaken end result
-    → Answers (Ok finish.Finished) end result
-finished_tells start first old new end result ran taken =
-    outcome_told end result (log_tells ran.2.events start end (ap (λ (log : Log HostRunning). log.course) ran.2.log)) taken
+-- what the run answers, by how the session stands at its end
+abbrev AnswersLast : Result Finish RunFault → Talk HostRunning → Result HostOutcome RunFault → Type 0
+AnswersLast (Ok finish.Finished) last result = OutcomeTaken last result
+AnswersLast (Ok finish.Closed) last result = result ≡ Err (Session Closed)
+AnswersLast (Err why) last result = result ≡ Err why
+
+answers_so : (start end : HostRunning) (first : List ℕ) (old new : WireState) (done : Result Finish RunFault) (last : Talk HostRunning) (result : Result HostOutcome RunFault)
+    → EndsAs done end last → Ran host_act first start old done end new → AnswersLast done last result → Answers done end result
+answers_so start end first old new (Ok finish.Finished) last result is ran taken =
+    outcome_told end result (log_tells ran.2.events start end (ap (λ (log : Log HostRunning). log.course) ran.2.log)) (subst (λ t. OutcomeTaken t result) is taken)
+answers_so start end first old new (Ok finish.Closed) last result is ran answers = answers
+answers_so start end first old new (Err why) last result is ran answers = answers
 
 -- ---- the run from its beginning
 
-ran_from : (layout : Declaration) (records : List (List ℕ)) (enhanced responses : Bool) (core : HostCore) (first : List ℕ) (count : ℕ) (start : HostRunning) (old new : WireState) (done : Result Finish RunFault) (end : HostRunning)
-    → core ≡ new_host layout.geometry enhanced responses → first ≡ bytes_of (opening core) → count ≡ length records
-    → start ≡ record { layout = layout; records = records; core = core; unanswered = count; sequence = 0; outcome = None } → Ran host_act first start old done end new
-    → Ran host_act (bytes_of (opening (new_host layout.geometry enhanced responses))) (host_start layout records enhanced responses) old done end new
-ran_from layout records enhanced responses core first count start old new done end core_is first_is count_is start_is ran =
-    let says : first ≡ bytes_of (opening (new_host layout.geometry enhanced responses)) = first_is ∙ ap (λ c. bytes_of (opening c)) core_is in
-    let begins : start ≡ host_start layout records enhanced responses =
-    start_is ∙ ap (λ c. record { layout = layout; records = records; core = c; unanswered = count; sequence = 0; outcome = None }) core_is
-    ∙ ap (λ n. record { layout = layout; records = records; core = new_host layout.geometry enhanced responses; unanswered = n; sequence = 0; outcome = None }) count_is in
-    subst (λ s. Ran host_act (bytes_of (opening (new_host layout.geometry enhanced responses))) s old done end new) begins
-    (subst (λ f. Ran host_act f start old done end new) says ran)
+module _ (layout : Declaration) (records : List (List ℕ)) (enhanced responses : Bool) where
+  abbrev start : HostRunning
+  start = host_start layout records enhanced responses
 
-pub runs_as : (layout : Declaration) (records : List (List ℕ)) (enhanced responses : Bool) (core : HostCore) (first : List ℕ) (count : ℕ) (start : HostRunning) (old new : WireState) (done due : Result Finish RunFault) (end : HostRunning)
-    (result : Result HostOutcome RunFault) → core ≡ new_host layout.geometry enhanced responses → first ≡ bytes_of (opening core) → count ≡ length records
-    → start ≡ record { layout = layout; records = records; core = core; unanswered = count; sequence = 0; outcome = None } → Ran host_act first start old done end new → done ≡ due
-    → (Ran host_act first start old due end new → Answers due end result) → HostRuns layout records enhanced responses old result new
-runs_as layout records enhanced responses core first count start old new done due end result core_is first_is count_is start_is ran done_is answers =
-    let goes : Ran host_act first start old due end new = subst (λ d. Ran host_act first start old d end new) done_is ran in
-    record {
-      finished = due;
-      end = end;
-      ran = ran_from layout records enhanced responses core first count start old new due end core_is first_is count_is start_is goes;
-      answer = answers goes;
-    }
+  begun_so : (state : HostRunning) (talk : Talk HostRunning) → talk ≡ host_talk layout records enhanced responses → talk ≡ stands (waits state []) → state ≡ start
+  begun_so state talk made is = let same : ◌≡◌ {A = Talk HostRunning} (stands (waits state [])) (stands (waits start [])) = sym is ∙ made in cc
+
+  pub ran_host : (talk last : Talk HostRunning) (first : List ℕ) (old new : WireState) (done : Result Finish RunFault) (result : Result HostOutcome RunFault)
+      → IsMade layout records enhanced responses talk → first ≡ first_said talk → RanSession host_act first talk old done last new → AnswersLast done last result
+      → HostRan layout records enhanced responses old result new
+  ran_host talk last first old new done result made says (state, begins, end, ends, ran) answers =
+      let same : state ≡ start = begun_so state talk made.0 begins in
+      let said : first ≡ bytes_of (opening (new_host layout.geometry enhanced responses)) = says ∙ ap first_said made.0 in
+      let whole : Ran host_act (bytes_of (opening (new_host layout.geometry enhanced responses))) start old done end new =
+      subst (λ s. Ran host_act (bytes_of (opening (new_host layout.geometry enhanced responses))) s old done end new) same
+      (subst (λ f. Ran host_act f state old done end new) said ran) in
+      inl (made.1, record { finished = done; end = end; ran = whole; answer = answers_so state end first old new done last result ends ran answers })
+
+  pub no_memory_for : (old : WireState) (result : Result HostOutcome RunFault) → HasModel layout → result ≡ Err OutOfMemory
+      → HostRan layout records enhanced responses old result old
+  no_memory_for old result has is = inl (has, record { finished = Err OutOfMemory; end = start; ran = inl refl; answer = is })
+
+  pub none_made : (why : RunFault) (old : WireState) (result : Result HostOutcome RunFault) → result ≡ Err why → NotMade layout why
+      → HostRan layout records enhanced responses old result old
+  none_made OutOfMemory old result is has = no_memory_for old result has is
+  none_made (Session NoDevice) old result is none = inr (none, is, refl)
+  none_made (Session (Rejected reason)) old result is none = absurd none
+  none_made (Session WrongList) old result is none = absurd none
+  none_made (Session BadSubnegotiation) old result is none = absurd none
+  none_made (Session (OptionRefused code)) old result is none = absurd none
+  none_made (Session NotReady) old result is none = absurd none
+  none_made (Session BadResponse) old result is none = absurd none
+  none_made (Session TooManyReads) old result is none = absurd none
+  none_made (Session LineFault) old result is none = absurd none
+  none_made (Session Closed) old result is none = absurd none
+  none_made (Session (TerminalRefused reason)) old result is none = absurd none
+  none_made (Wire fault) old result is none = absurd none
+  none_made (Header fault) old result is none = absurd none
+  none_made (Inbound why) old result is none = absurd none
+  none_made (Bind why) old result is none = absurd none
+
+-- ---- a session that is over has its outcome
+
+failed_come : (why : RunFault) → HasCome (failed_talk why)
+failed_come OutOfMemory = tt
+failed_come (Session why) = tt
+failed_come (Wire fault) = tt
+failed_come (Header fault) = tt
+failed_come (Inbound why) = tt
+failed_come (Bind why) = tt
+
+some_told : (o : Option Outcome) (x : Outcome) → o ≡ Some x → IsSome o
+some_told o x is = subst IsSome (sym is) refl
+
+hears_come : (left : List ℕ) (state : HostRunning) (piece : List ℕ) (result : Result Progress RunFault) (given : List ℕ) (new : Talk HostRunning)
+    → Hears host_act left state piece result given new → HasCome new
+hears_come left state piece (Ok More) given new (next, rest, log, is) = subst HasCome (sym is) tt
+hears_come left state piece (Ok (Done taken)) given new (end, few, e, is) =
+    let has : HasOutcome end = log_tells e.ends.events state end (ap (λ (log : Log HostRunning). log.course) e.ends.log) in
+    subst HasCome (sym is) (some_told end.outcome has.0 has.1)
+hears_come left state piece (Err why) given new (went, is) = subst HasCome (sym is) (failed_come why)
+
+pub has_come : (old : Talk HostRunning) (piece : List ℕ) (result : Result Progress RunFault) (given : List ℕ) (new : Talk HostRunning)
+    → HasCome old → Takes host_act old piece result given new → HasCome new
+has_come (stands (waits state left)) piece result given new has takes = hears_come left state piece result given new takes
+has_come (stands (is_over end)) piece result given new has takes = subst HasCome (sym takes.2) has
+has_come (stands (has_failed why)) piece result given new has takes = subst HasCome (sym takes.2) tt
+has_come (stands (is_at_fault fault)) piece result given new has takes = subst HasCome (sym takes.2) tt
+has_come starved piece result given new has takes = subst HasCome (sym takes.2) tt

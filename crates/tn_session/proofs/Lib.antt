@@ -1,6 +1,7 @@
 pub mod Walks
 pub mod RunLaws
 pub mod RunStates
+pub mod PieceSteps
 pub mod RunSteps
 pub mod CoreFaults
 pub mod HostSteps
@@ -11,6 +12,10 @@ pub mod RunEnds
 pub mod TerminalEnds
 pub mod TerminalRunning
 pub mod OneLog
+pub mod Pieces
+pub mod Worked
+pub mod WorkLaws
+pub mod Heard
 pub mod TouchedPairs
 pub mod LayoutKept
 pub mod OutcomeLaws

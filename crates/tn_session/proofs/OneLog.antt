@@ -169,7 +169,7 @@ module _ {State : Type 0} (act : State → Told → Log State) where
       (append_split x y q.used q.more q.front)
 
   -- ---- one that ended ends the whole so too
-  still_ends : (b x y d : List ℕ) (s : State) (c : Course State) → EndsBy act b s x d c → EndsBy act b s (x ++ y) d c
+  pub still_ends : (b x y d : List ℕ) (s : State) (c : Course State) → EndsBy act b s x d c → EndsBy act b s (x ++ y) d c
   still_ends b x y d s c p = record {
     used = p.used;
     more = p.more ++ y;
@@ -180,7 +180,7 @@ module _ {State : Type 0} (act : State → Told → Log State) where
     log = p.log;
   }
 
-  still_faults : (b x y d : List ℕ) (s : State) (v : WireFault) → EndsAtFault act b s x d v → EndsAtFault act b s (x ++ y) d v
+  pub still_faults : (b x y d : List ℕ) (s : State) (v : WireFault) → EndsAtFault act b s x d v → EndsAtFault act b s (x ++ y) d v
   still_faults b x y d s v p = record {
     used = p.used;
     more = p.more ++ y;

@@ -1,24 +1,27 @@
 -- What each step of a run does to what holds between the steps.
-use Rattle.std.proofs.Common.{◌≡◌, ℕ, ◌+◌, ◌*◌, ◌<◌, ◌≤◌, List, [], ◌∷◌, ◌++◌, length, replicate, None, Some, Ok, Err, refl, sym, ◌∙◌, ap, subst, inl, inr, ⊎_elim, arith, append_assoc}
+use Rattle.std.proofs.Common.{◌≡◌, ℕ, ◌+◌, ◌*◌, ◌<◌, ◌≤◌, List, [], ◌∷◌, ◌++◌, length, take, drop, replicate, None, Some, Ok, Err, refl, sym, ◌∙◌, ap, subst, inl, inr, ⊎_elim, arith, append_assoc}
 use Rattle.std.specs.Prelude.{Option, Result}
 use Rattle.std.specs.Io.KnownBytes.{Keeps, IsAtEnd}
-use Rattle.std.proofs.lemmas.List.{append-nil, length-append, replicate_more}
-use Rattle.tn_wire.specs.declared.event.WireFault.{WireFault}
-use Rattle.tn_wire.specs.Deframer.{Held, Moves}
-use Rattle.tn_wire.specs.Stream.{Told, Tells}
+use Rattle.std.proofs.lemmas.List.{append-nil, length-append, replicate_more, take-append-drop}
+use Rattle.tn_wire.specs.Stream.{Told}
 use Rattle.tn_wire.proofs.Streams.{tells_nothing}
 use Rattle.tn_cores.specs.declared.session.SessionFault.TheVariants as session
 use Rattle.tn_session.specs.declared.stop.Stop.{Stop}
 use Rattle.tn_session.specs.declared.stop.Stop.TheVariants.{Ended, ReadFailed, WriteFailed}
 use Rattle.tn_session.specs.declared.fault.RunFault.{RunFault}
 use Rattle.tn_session.specs.declared.fault.RunFault.TheVariants as faults
+use Rattle.tn_session.specs.declared.progress.Progress.{Progress}
+use Rattle.tn_session.specs.declared.progress.Progress.TheVariants.{More, Done}
 use Rattle.tn_session.specs.declared.turn.Finish.{Finish}
 use Rattle.tn_session.specs.declared.turn.Finish.TheVariants as finish
 use Rattle.tn_session.specs.Wire.{WireState, Gave, IsRead, IsWrite}
-use Rattle.tn_session.specs.Runs.{finishes, fails, Log, going, finished, GoesOn, EndsBy, EndsAtFault, IsPartDue}
-use Rattle.tn_session.specs.Ran.{Cause, LacksMemory, ReadsInPieces, of_stream, of_memory, of_line, of_reads, of_end, of_events, SentOn, SentPart, Sends, EventFails, PieceFails, PassedOver, IsOpen, IsCutShort, RunFails, Ran, stopped_by}
-use Rattle.tn_session.proofs.RunLaws.{open_tells, goes-goes, goes-ends, goes-fault, goes-part, goes-lacks, quiet, nothing_yet, one_goes, one_finishes, one_fails, one_lacks, one_part, one_fault}
-use Rattle.tn_session.proofs.RunStates.{PieceSoFar, RunSoFar}
+use Rattle.tn_session.specs.Runs.{finishes, fails, Log, GoesOn, EndsBy, IsPartDue}
+use Rattle.tn_session.specs.Ran.{Cause, ReadsInPieces, of_stream, of_memory, of_line, of_reads, of_end, of_events, cause_of, SentOn, SentPart, Sends, PassedOver, IsOpen, IsCutShort, RunFails, stopped_by}
+use Rattle.tn_session.specs.RanSession.{IsFresh, RanSession}
+use Rattle.tn_session.specs.Talk.{Talk, IsDueBefore, EndsWith, PieceFails, Hears, Takes}
+use Rattle.tn_session.proofs.OneLog.{still_ends}
+use Rattle.tn_session.proofs.RunLaws.{goes-goes, goes-ends, goes-fault, goes-part, goes-lacks, nothing_yet}
+use Rattle.tn_session.proofs.RunStates.{RunSoFar}
 
 -- ---- what is sent in turn
 
@@ -69,126 +72,78 @@ pieces_sent old mid new p w = record {
   flushes = w.flushes ∙ p.flushes;
 }
 
--- the bytes that a call of the deframer took, and what they tell
-took : (old new : Held) (before after : List ℕ) (told : List Told) → old.fault ≡ None → Moves old before (Ok told) new after
-    → (taken : List ℕ) × (before ≡ taken ++ after) × Tells (old.content ++ taken) told new.content
-took old new before after told fresh m = let p = m.fresh fresh in (p.0, p.1, p.2.answer)
-
-module _ {State : Type 0} (act : State → Told → Log State) (weight : State → ℕ) where
-  -- ---- a piece
-
-  pub piece_begins : (held : Held) (first : State) (wire : WireState) (piece : List ℕ) → wire.stop ≡ None → held.fault ≡ None
-      → Tells held.content [] held.content → PieceSoFar act weight held.content first wire piece held first wire piece
-  piece_begins held first wire piece open_line fresh opens = record {
-    taken = [];
-    due = [];
+module _ {State : Type 0} (act : State → Told → Log State) where
+  -- ---- what was given is due at a front of the piece
+  part_of_log : (before : List ℕ) (state next : State) (front more given part lost left : List ℕ) → GoesOn act before state front given next left
+      → given ≡ part ++ lost → IsPartDue act [] before state (front ++ more) part
+  part_of_log before state next front more given part lost left log cut = record {
+    used = front;
+    more = more;
+    events = log.events;
+    left = left;
+    lost = lost;
     front = refl;
-    log = nothing_yet act held.content first opens;
-    went = sent_nothing wire open_line;
-    fresh = fresh;
-    light = omega arith;
+    tells = log.tells;
+    part = ap (λ (l : Log State). l.due) log.log ∙ cut;
   }
 
-  module _ (before : List ℕ) (first : State) (old : WireState) (piece : List ℕ) (held : Held) (now : State) (wire : WireState) (rest : List ℕ)
-      (so : PieceSoFar act weight before first old piece held now wire rest) (new : Held) (after : List ℕ) where
-    -- the piece, once more of it was taken
-    whole : (x : List ℕ) → rest ≡ x ++ after → piece ≡ so.taken ++ (x ++ after)
-    whole x is = so.front ∙ ap (λ z. so.taken ++ z) is
+  part_before : (before : List ℕ) (state : State) (piece given part lost : List ℕ) → IsDueBefore act before state piece given
+      → given ≡ part ++ lost → IsPartDue act [] before state piece part
+  part_before before state piece given part lost so cut =
+      subst (λ z. IsPartDue act [] before state z part) (sym so.cut) (part_of_log before state so.next so.front so.more given part lost so.left so.log cut)
 
-    pub piece_quiet : Moves held rest (Ok []) new after → (due : List ℕ) × GoesOn act before first piece due now new.content × SentOn old wire due None
-    piece_quiet m =
-        let p = took held new rest after [] so.fresh m in
-        let all : so.taken ++ p.0 ≡ piece =
-        ap (λ z. so.taken ++ z) (sym (append-nil p.0) ∙ ap (λ z. p.0 ++ z) (sym (m.used_up refl)) ∙ sym p.1) ∙ sym so.front in
-        let log : GoesOn act before first (so.taken ++ p.0) (so.due ++ []) now new.content =
-        goes-goes act before so.taken p.0 so.due [] held.content new.content first now now so.log (quiet act held.content p.0 new.content now p.2) in
-        let exact : GoesOn act before first (so.taken ++ p.0) so.due now new.content =
-        subst (λ z. GoesOn act before first (so.taken ++ p.0) z now new.content) (append-nil so.due) log in
-        (so.due, subst (λ z. GoesOn act before first z so.due now new.content) all exact, so.went)
+  part_failed : (before : List ℕ) (state : State) (piece given part lost : List ℕ) (why : RunFault) (cause : Cause) → PieceFails act before state piece why given cause
+      → given ≡ part ++ lost → IsPartDue act [] before state piece part
+  part_failed before state piece given part lost why (of_stream fault) went cut = part_before before state piece given part lost went.1 cut
+  part_failed before state piece given part lost why of_memory went cut =
+      subst (λ z. IsPartDue act [] before state z part) (sym went.front)
+      (part_of_log before state went.next went.used (went.taken ++ went.more) given part lost went.left went.log cut)
+  part_failed before state piece given part lost why of_events went cut = part_before before state piece given part lost went.1 cut
+  part_failed before state piece given part lost why of_line went cut = absurd went
+  part_failed before state piece given part lost why of_reads went cut = absurd went
+  part_failed before state piece given part lost why of_end went cut = absurd went
 
-    pub piece_at_fault : (fault : WireFault) → Moves held rest (Err fault) new after
-        → (due : List ℕ) × EndsAtFault act before first piece due fault × SentOn old wire due None
-    piece_at_fault fault m =
-        let p = m.fresh so.fresh in
-        let end : EndsAtFault act before first (so.taken ++ (p.0 ++ after)) (so.due ++ []) fault =
-        goes-fault act before so.taken (p.0 ++ after) so.due [] held.content first now fault so.log
-        (one_fault act held.content p.0 after now fault p.2.answer) in
-        let exact : EndsAtFault act before first (so.taken ++ (p.0 ++ after)) so.due fault =
-        subst (λ z. EndsAtFault act before first (so.taken ++ (p.0 ++ after)) z fault) (append-nil so.due) end in
-        (so.due, subst (λ z. EndsAtFault act before first z so.due fault) (sym (whole p.0 p.1)) exact, so.went)
+  -- bytes that end a session end whatever begins with them
+  pub ends_piece : (before : List ℕ) (state end : State) (piece given : List ℕ) (taken : ℕ) → EndsWith act before state (take taken piece) given end
+      → EndsBy act before state piece given (finishes end)
+  ends_piece before state end piece given taken e =
+      subst (λ z. EndsBy act before state z given (finishes end)) (take-append-drop taken piece)
+      (still_ends act before (take taken piece) (drop taken piece) given state (finishes end) e.ends)
 
-    module _ (event : Told) (next : State) (then_wire : WireState) (m : Moves held rest (Ok (event ∷ [])) new after) where
-      pub piece_goes : (due : List ℕ) → act now event ≡ going due next → SentOn wire then_wire due None → weight next ≤ weight now + 1
-          → PieceSoFar act weight before first old piece new next then_wire after
-      piece_goes due is went light =
-          let p = took held new rest after (event ∷ []) so.fresh m in
-          let less : length after < length rest = m.shorter (λ none. cc) in
-          let was : weight now + length rest ≤ weight first + length piece = so.light in
-          record {
-            taken = so.taken ++ p.0;
-            due = so.due ++ due;
-            front = whole p.0 p.1 ∙ sym (append_assoc so.taken p.0 after);
-            log = goes-goes act before so.taken p.0 so.due due held.content new.content first now next so.log
-                (one_goes act held.content p.0 new.content due now next event p.2 is);
-            went = sent_then old wire then_wire so.due due None so.went went;
-            fresh = m.kept;
-            light = omega arith;
-          }
+  part_ended : (before : List ℕ) (state end : State) (piece given part lost : List ℕ) → EndsBy act before state piece given (finishes end)
+      → given ≡ part ++ lost → IsPartDue act [] before state piece part
+  part_ended before state end piece given part lost e cut = record {
+    used = e.used;
+    more = e.more;
+    events = e.events;
+    left = e.left;
+    lost = lost;
+    front = e.front;
+    tells = e.tells;
+    part = ap (λ (l : Log State). l.due) e.log ∙ cut;
+  }
 
-      pub piece_finishes : (due : List ℕ) → act now event ≡ finished due next → SentOn wire then_wire due None
-          → (d : List ℕ) × EndsBy act before first piece d (finishes next) × SentOn old then_wire d None
-      piece_finishes due is went =
-          let p = took held new rest after (event ∷ []) so.fresh m in
-          let end : EndsBy act before first (so.taken ++ (p.0 ++ after)) (so.due ++ due) (finishes next) =
-          goes-ends act before so.taken (p.0 ++ after) so.due due held.content first now (finishes next) so.log
-          (one_finishes act held.content p.0 after new.content due now next event p.2 is) in (
-            so.due ++ due,
-            subst (λ z. EndsBy act before first z (so.due ++ due) (finishes next)) (sym (whole p.0 p.1)) end,
-            sent_then old wire then_wire so.due due None so.went went,
-          )
-
-      pub piece_fails : (why : RunFault) (cause : Cause) → EventFails (act now event) wire why then_wire cause
-          → PieceFails act before first piece old why then_wire cause
-      piece_fails why of_memory went =
-          let p = took held new rest after (event ∷ []) so.fresh m in
-          let opens : Tells held.content [] held.content = open_tells (before ++ so.taken) held.content so.log.events so.log.tells in
-          let lacks : LacksMemory act before first (so.taken ++ (p.0 ++ after)) (so.due ++ []) =
-          goes-lacks act before so.taken (p.0 ++ after) so.due [] held.content first now so.log
-          (one_lacks act held.content p.0 after new.content now event opens p.2 went.0) in (
-            so.due ++ [],
-            subst (λ z. LacksMemory act before first z (so.due ++ [])) (sym (whole p.0 p.1)) lacks,
-            sent_then old wire then_wire so.due [] None so.went went.1,
-          )
-      piece_fails why of_line went =
-          let p = took held new rest after (event ∷ []) so.fresh m in
-          let part : IsPartDue act [] before first (so.taken ++ (p.0 ++ after)) (so.due ++ went.part) =
-          goes-part act [] before so.taken (p.0 ++ after) so.due went.part held.content first now so.log
-          (one_part act held.content p.0 after new.content went.part went.lost now event p.2 went.whole) in (
-            so.due ++ went.part,
-            subst (λ z. IsPartDue act [] before first z (so.due ++ went.part)) (sym (whole p.0 p.1)) part,
-            sent_then old wire then_wire so.due went.part (Some WriteFailed) so.went went.went,
-          )
-      piece_fails why of_events went =
-          let p = took held new rest after (event ∷ []) so.fresh m in
-          let end : EndsBy act before first (so.taken ++ (p.0 ++ after)) (so.due ++ []) (fails why) =
-          goes-ends act before so.taken (p.0 ++ after) so.due [] held.content first now (fails why) so.log
-          (one_fails act held.content p.0 after new.content now why event p.2 went.0) in (
-            so.due ++ [],
-            subst (λ z. EndsBy act before first z (so.due ++ []) (fails why)) (sym (whole p.0 p.1)) end,
-            sent_then old wire then_wire so.due [] None so.went went.1,
-          )
-      piece_fails why (of_stream fault) went = absurd went
-      piece_fails why of_reads went = absurd went
-      piece_fails why of_end went = absurd went
+  part_of : (before : List ℕ) (state : State) (piece given part lost : List ℕ) (told : Result Progress RunFault) (talk : Talk State)
+      → Hears act before state piece told given talk → given ≡ part ++ lost → IsPartDue act [] before state piece part
+  part_of before state piece given part lost (Ok More) talk (next, left, log, is) cut =
+      subst (λ z. IsPartDue act [] before state z part) (append-nil piece) (part_of_log before state next piece [] given part lost left log cut)
+  part_of before state piece given part lost (Ok (Done taken)) talk (end, few, e, is) cut =
+      part_ended before state end piece given part lost (ends_piece before state end piece given taken e) cut
+  part_of before state piece given part lost (Err why) talk (went, is) cut = part_failed before state piece given part lost why (cause_of why) went cut
 
   -- ---- a run
 
-  pub run_begins : (opening : List ℕ) (first : State) (old : WireState) (held : Held) (wire : WireState) → SentOn old wire opening None
-      → held.content ≡ [] → held.fault ≡ None → RunSoFar act weight opening first old held first wire 0
-  run_begins opening first old held wire went empty fresh = record {
+  pub run_begins : (opening : List ℕ) (begun : Talk State) (old wire : WireState) → IsFresh begun → SentOn old wire opening None
+      → RunSoFar act opening begun old begun wire 0
+  run_begins opening begun old wire (first, is) went = record {
+    first = first;
+    begins = is;
     stream = [];
     due = [];
-    log = subst (λ z. GoesOn act [] first [] [] first z) (sym empty) (nothing_yet act [] first tells_nothing);
+    now = first;
+    left = [];
+    stands_so = is;
+    log = nothing_yet act [] first tells_nothing;
     received = went.rest.received ∙ sym (append-nil old.received);
     sent = went.sent ∙ ap (λ z. old.sent ++ z) (sym (append-nil opening));
     goes = went.stop_is;
@@ -197,13 +152,11 @@ module _ {State : Type 0} (act : State → Told → Log State) (weight : State �
     short = let same : length wire.received ≡ length old.received = ap length went.rest.received in omega arith;
     line = went.rest.line;
     flushes = went.rest.flushes;
-    fresh = fresh;
-    light = omega arith;
   }
 
-  pub opening_failed : (opening : List ℕ) (first end : State) (old wire : WireState) (why : RunFault) (result : Result Finish RunFault)
-      → result ≡ Err why → Sends old opening (Err why) wire → Ran act opening first old result end wire
-  opening_failed opening first end old wire why result is sends =
+  pub opening_failed : (opening : List ℕ) (begun talk : Talk State) (old wire : WireState) (why : RunFault) (result : Result Finish RunFault)
+      → IsFresh begun → result ≡ Err why → Sends old opening (Err why) wire → RanSession act opening begun old result talk wire
+  opening_failed opening begun talk old wire why result (first, begins) is sends =
       let went : SentPart old wire opening = sends.1 in
       let cut : IsCutShort act opening first old wire = record {
         stream = [];
@@ -225,17 +178,10 @@ module _ {State : Type 0} (act : State → Told → Log State) (weight : State �
           stop_is = went.went.stop_is;
         };
       } in
-      subst (λ z. Ran act opening first old z end wire) (sym (is ∙ ap Err sends.0)) (inr cut)
+      subst (λ z. RanSession act opening begun old z talk wire) (sym (is ∙ ap Err sends.0)) (first, begins, first, tt, inr cut)
 
-  pub no_memory : (opening : List ℕ) (first end : State) (old : WireState) (result : Result Finish RunFault)
-      → result ≡ Err faults.OutOfMemory → Ran act opening first old result end old
-  no_memory opening first end old result is = subst (λ z. Ran act opening first old z end old) (sym is) (inl refl)
-
-  module _ (opening : List ℕ) (first : State) (old : WireState) (held : Held) (now : State) (wire : WireState) (reads : ℕ)
-      (so : RunSoFar act weight opening first old held now wire reads) where
-    pub run_opens : Tells held.content [] held.content
-    run_opens = open_tells so.stream held.content so.log.events so.log.tells
-
+  module _ (opening : List ℕ) (begun : Talk State) (old : WireState) (talk : Talk State) (wire : WireState) (reads : ℕ)
+      (so : RunSoFar act opening begun old talk wire reads) where
     pieces_now : reads ≤ 1000000 → ReadsInPieces old wire
     pieces_now few = record {
       count = reads;
@@ -264,66 +210,88 @@ module _ {State : Type 0} (act : State → Told → Log State) (weight : State �
           flushes = read.flushes ∙ so.flushes;
         }
 
-    pub run_is_open : (stop : Option Stop) (new : WireState) → new.received ≡ wire.received → new.sent ≡ wire.sent → ReadsInPieces old new
-        → new.stop ≡ stop → IsOpen act opening first old now new stop
+    run_is_open : (stop : Option Stop) (new : WireState) → new.received ≡ wire.received → new.sent ≡ wire.sent → ReadsInPieces old new
+        → new.stop ≡ stop → IsOpen act opening so.first old so.now new stop
     run_is_open stop new received sent pieces is = record {
       stream = so.stream;
       due = so.due;
-      left = held.content;
+      left = so.left;
       log = so.log;
       passed = record { received = received ∙ so.received; sent_is = sent ∙ so.sent; pieces = pieces; stop_is = is };
     }
 
-    pub too_many : (end : State) → reads ≡ 1000000 → Ran act opening first old (Err (faults.Session session.TooManyReads)) end wire
-    too_many end full =
+    pub too_many : reads ≡ 1000000 → RanSession act opening begun old (Err (faults.Session session.TooManyReads)) talk wire
+    too_many full =
         let counted : wire.reads ≡ old.reads + 1000000 = so.counted ∙ ap (λ z. old.reads + z) full in
-        (now, run_is_open None wire refl refl (pieces_now (omega arith)) so.goes, counted)
+        (so.first, so.begins, so.now, tt, (so.now, run_is_open None wire refl refl (pieces_now (omega arith)) so.goes, counted))
 
     -- the line gave nothing
     pub run_stopped : (buffer : List ℕ) (new : WireState) (result : Result Finish RunFault) → reads < 1000000 → Gave wire buffer None new → IsRead 4096 wire new
-        → result ≡ stopped_by new.stop → Ran act opening first old result now new
+        → result ≡ stopped_by new.stop → RanSession act opening begun old result talk new
     run_stopped buffer new result less gave read is =
         let same : length new.received ≡ length wire.received = ap length gave.0 in
         let pieces : ReadsInPieces old new = pieces_read new less read (omega arith) in
         ⊎_elim
         (λ (end : (new.stop ≡ Some Ended) × IsAtEnd new.left).
-        subst (λ z. Ran act opening first old z now new) (sym (is ∙ ap stopped_by end.0)) (run_is_open (Some Ended) new gave.0 read.sent pieces end.0))
+        subst (λ z. RanSession act opening begun old z talk new) (sym (is ∙ ap stopped_by end.0))
+        (so.first, so.begins, so.now, (so.left, so.stands_so), run_is_open (Some Ended) new gave.0 read.sent pieces end.0))
         (λ (failed : (new.stop ≡ Some ReadFailed) × Keeps wire.left new.left).
-        subst (λ z. Ran act opening first old z now new) (sym (is ∙ ap stopped_by failed.0))
-        (inl (now, run_is_open (Some ReadFailed) new gave.0 read.sent pieces failed.0)))
+        subst (λ z. RanSession act opening begun old z talk new) (sym (is ∙ ap stopped_by failed.0))
+        (so.first, so.begins, so.now, tt, inl (so.now, run_is_open (Some ReadFailed) new gave.0 read.sent pieces failed.0)))
         gave.1
 
-    -- a piece was read, and then so much was sent
-    module _ (piece : List ℕ) (given new : WireState) (less : reads < 1000000) (received : given.received ≡ wire.received ++ piece) (read : IsRead 4096 wire given)
-        (short : length piece ≤ 4096) where
-      longer : length given.received ≤ length wire.received + 4096
-      longer = let all : length given.received ≡ length wire.received + length piece = ap length received ∙ length-append wire.received piece in omega arith
+    -- a piece was read and taken, and then so much was sent
+    module _ (piece : List ℕ) (read_to : WireState) (less : reads < 1000000) (received : read_to.received ≡ wire.received ++ piece) (read : IsRead 4096 wire read_to)
+        (short : length piece ≤ 4096) (told : Result Progress RunFault) (given : List ℕ) (later : Talk State) (takes : Takes act talk piece told given later)
+        (new : WireState) where
+      longer : length read_to.received ≤ length wire.received + 4096
+      longer = let all : length read_to.received ≡ length wire.received + length piece = ap length received ∙ length-append wire.received piece in omega arith
 
-      passed_then : (sent : List ℕ) (stop : Option Stop) → SentOn given new sent stop
+      hears : Hears act so.left so.now piece told given later
+      hears = subst (λ z. Takes act z piece told given later) so.stands_so takes
+
+      passed_then : (sent : List ℕ) (stop : Option Stop) → SentOn read_to new sent stop
           → PassedOver old new (so.stream ++ piece) ((opening ++ so.due) ++ sent) stop
       passed_then sent stop went = record {
         received = went.rest.received ∙ received ∙ ap (λ z. z ++ piece) so.received ∙ append_assoc old.received so.stream piece;
         sent_is = went.sent ∙ ap (λ z. z ++ sent) (read.sent ∙ so.sent) ∙ append_assoc old.sent (opening ++ so.due) sent;
-        pieces = pieces_sent old given new (pieces_read given less read longer) went.rest;
+        pieces = pieces_sent old read_to new (pieces_read read_to less read longer) went.rest;
         stop_is = went.stop_is;
       }
 
       -- with all that is due
-      passed_due : (due : List ℕ) → SentOn given new due None → PassedOver old new (so.stream ++ piece) (opening ++ (so.due ++ due)) None
-      passed_due due went =
-          subst (λ z. PassedOver old new (so.stream ++ piece) z None) (append_assoc opening so.due due) (passed_then due None went)
+      passed_due : SentOn read_to new given None → PassedOver old new (so.stream ++ piece) (opening ++ (so.due ++ given)) None
+      passed_due went =
+          subst (λ z. PassedOver old new (so.stream ++ piece) z None) (append_assoc opening so.due given) (passed_then given None went)
 
-      pub run_goes : (due : List ℕ) (next : State) (then_held : Held) → GoesOn act held.content now piece due next then_held.content → SentOn given new due None
-          → then_held.fault ≡ None → weight next ≤ weight now + length piece → RunSoFar act weight opening first old then_held next new (reads + 1)
-      unfolding pieces_sent pieces_read
-      run_goes due next then_held log went fresh light =
-          let passed : PassedOver old new (so.stream ++ piece) (opening ++ (so.due ++ due)) None = passed_due due went in
-          let pieces : ReadsInPieces old new = pieces_sent old given new (pieces_read given less read longer) went.rest in
-          let weighed : weight now ≤ weight first + 4096 * reads = so.light in
-          record {
+      pub run_cut : (why : RunFault) (result : Result Finish RunFault) → result ≡ Err why → Sends read_to given (Err why) new
+          → RanSession act opening begun old result later new
+      run_cut why result is sends =
+          let went : SentPart read_to new given = sends.1 in
+          let part : IsPartDue act [] so.left so.now piece went.part = part_of so.left so.now piece given went.part went.lost told later hears went.whole in
+          let cut : IsCutShort act opening so.first old new = record {
             stream = so.stream ++ piece;
-            due = so.due ++ due;
-            log = goes-goes act [] so.stream piece so.due due held.content then_held.content first now next so.log log;
+            sent = (opening ++ so.due) ++ went.part;
+            part = goes-part act opening [] so.stream piece so.due went.part so.left so.first so.now so.log part;
+            passed = passed_then went.part (Some WriteFailed) went.went;
+          } in
+          subst (λ z. RanSession act opening begun old z later new) (sym (is ∙ ap Err sends.0)) (so.first, so.begins, so.first, tt, inr cut)
+
+      pub run_goes : told ≡ Ok More → SentOn read_to new given None → RunSoFar act opening begun old later new (reads + 1)
+      unfolding pieces_sent pieces_read
+      run_goes is went =
+          let log : Hears act so.left so.now piece (Ok More) given later = subst (λ z. Hears act so.left so.now piece z given later) is hears in
+          let passed : PassedOver old new (so.stream ++ piece) (opening ++ (so.due ++ given)) None = passed_due went in
+          let pieces : ReadsInPieces old new = pieces_sent old read_to new (pieces_read read_to less read longer) went.rest in
+          record {
+            first = so.first;
+            begins = so.begins;
+            stream = so.stream ++ piece;
+            due = so.due ++ given;
+            now = log.0;
+            left = log.1;
+            stands_so = log.3;
+            log = goes-goes act [] so.stream piece so.due given so.left log.1 so.first so.now log.0 so.log log.2;
             received = passed.received;
             sent = passed.sent_is;
             goes = passed.stop_is;
@@ -332,28 +300,33 @@ module _ {State : Type 0} (act : State → Told → Log State) (weight : State �
             short = pieces.bytes;
             line = pieces.line;
             flushes = pieces.flushes;
-            fresh = fresh;
-            light = omega arith;
           }
 
-      pub run_finishes : (due : List ℕ) (end : State) → EndsBy act held.content now piece due (finishes end) → SentOn given new due None
-          → Ran act opening first old (Ok finish.Finished) end new
-      run_finishes due end ends went =
-          (so.stream ++ piece, so.due ++ due, goes-ends act [] so.stream piece so.due due held.content first now (finishes end) so.log ends, passed_due due went)
+      pub run_finishes : (taken : ℕ) → told ≡ Ok (Done taken) → SentOn read_to new given None → RanSession act opening begun old (Ok finish.Finished) later new
+      run_finishes taken is went =
+          let log : Hears act so.left so.now piece (Ok (Done taken)) given later = subst (λ z. Hears act so.left so.now piece z given later) is hears in
+          let ends : EndsBy act so.left so.now piece given (finishes log.0) = ends_piece so.left so.now log.0 piece given taken log.2 in (
+            so.first,
+            so.begins,
+            log.0,
+            log.3,
+            (so.stream ++ piece, so.due ++ given, goes-ends act [] so.stream piece so.due given so.left so.first so.now (finishes log.0) so.log ends, passed_due went),
+          )
 
-      pub run_fails : (why : RunFault) (cause : Cause) → PieceFails act held.content now piece given why new cause
-          → RunFails act opening first old why new cause
-      run_fails why (of_stream fault) (due, ends, went) =
-          (so.stream ++ piece, so.due ++ due, goes-fault act [] so.stream piece so.due due held.content first now fault so.log ends, passed_due due went)
-      run_fails why of_memory (due, lacks, went) =
-          inr (so.stream ++ piece, so.due ++ due, goes-lacks act [] so.stream piece so.due due held.content first now so.log lacks, passed_due due went)
-      run_fails why of_line (sent, part, went) = inr (record {
-        stream = so.stream ++ piece;
-        sent = (opening ++ so.due) ++ sent;
-        part = goes-part act opening [] so.stream piece so.due sent held.content first now so.log part;
-        passed = passed_then sent (Some WriteFailed) went;
-      })
-      run_fails why of_events (due, ends, went) =
-          (so.stream ++ piece, so.due ++ due, goes-ends act [] so.stream piece so.due due held.content first now (fails why) so.log ends, passed_due due went)
-      run_fails why of_reads went = absurd went
-      run_fails why of_end went = absurd went
+      fails_so : (why : RunFault) (cause : Cause) → PieceFails act so.left so.now piece why given cause → SentOn read_to new given None
+          → RunFails act opening so.first old why new cause
+      fails_so why (of_stream fault) (ends, before) went =
+          (so.stream ++ piece, so.due ++ given, goes-fault act [] so.stream piece so.due given so.left so.first so.now fault so.log ends, passed_due went)
+      fails_so why of_memory lacks went =
+          inr (so.stream ++ piece, so.due ++ given, goes-lacks act [] so.stream piece so.due given so.left so.first so.now so.log lacks, passed_due went)
+      fails_so why of_events (ends, before) went =
+          (so.stream ++ piece, so.due ++ given, goes-ends act [] so.stream piece so.due given so.left so.first so.now (fails why) so.log ends, passed_due went)
+      fails_so why of_line failed went = absurd failed
+      fails_so why of_reads failed went = absurd failed
+      fails_so why of_end failed went = absurd failed
+
+      pub run_fails : (why : RunFault) (result : Result Finish RunFault) → told ≡ Err why → result ≡ Err why → SentOn read_to new given None
+          → RanSession act opening begun old result later new
+      run_fails why result is result_is went =
+          let log : Hears act so.left so.now piece (Err why) given later = subst (λ z. Hears act so.left so.now piece z given later) is hears in
+          subst (λ z. RanSession act opening begun old z later new) (sym result_is) (so.first, so.begins, so.first, tt, fails_so why (cause_of why) log.0 went)

@@ -1,5 +1,7 @@
 pub mod Sent
 pub mod Runs
+pub mod Kept
+pub mod KeptView
 pub mod TerminalLog
 pub mod HostLog
 pub mod HostView
@@ -8,4 +10,11 @@ pub mod Wire
 pub mod Ran
 pub mod TerminalRuns
 pub mod OneLog
+pub mod Talk
+pub mod SessionView
+pub mod RanSession
+pub mod Pieces
+pub mod TerminalTalk
+pub mod Acts
 pub mod Outcomes
+pub mod HostTalk

@@ -52,10 +52,8 @@ IsOfEvents _ = ⊥
 
 -- ---- one event
 
--- An event may ask for memory where it isn't at fault: what is found at fault asks for none. Only the fields of an answer
--- take memory before the one that is at fault is found.
+-- An event may ask for memory where it isn't at fault: what is found at fault asks for none.
 abbrev pub MayAsk : {State : Type 0} → Course State → Type 0
-MayAsk (fails (faults.Bind why)) = Unit {0}
 MayAsk (fails why) = ⊥
 MayAsk course = Unit {0}
 
@@ -89,19 +87,7 @@ abbrev pub Sends : WireState → List ℕ → Result (Unit {0}) RunFault → Wir
 Sends old bytes (Ok done) new = SentOn old new bytes None
 Sends old bytes (Err why) new = (why ≡ faults.Session LineFault) × SentPart old new bytes
 
--- an event was taken, and what is due was sent
-abbrev pub EventFails : {State : Type 0} → Log State → WireState → RunFault → WireState → Cause → Type 0
-EventFails log old why new of_memory = MayAsk log.course × SentOn old new [] None
-EventFails log old why new of_line = SentPart old new log.due
-EventFails log old why new of_events = (log ≡ failed why) × SentOn old new [] None
-EventFails log old why new _ = ⊥
-
-abbrev pub TakesEvent : {State : Type 0} → Log State → WireState → Result Turn RunFault → State → WireState → Type 0
-TakesEvent log old (Ok turns.Goes) end new = (due : List ℕ) × (log ≡ going due end) × SentOn old new due None
-TakesEvent log old (Ok turns.Finishes) end new = (due : List ℕ) × (log ≡ finished due end) × SentOn old new due None
-TakesEvent log old (Err why) end new = EventFails log old why new (cause_of why)
-
--- ---- a piece of the stream, where so much of it was open before
+-- ---- memory that was refused
 
 -- Memory was refused to an event that may ask for it, after bytes at which this is due and the run goes on.
 pub record LacksMemory {State : Type 0} (act : State → Told → Log State) (before : List ℕ) (state : State) (bytes due : List ℕ) : Type 0 where
@@ -116,23 +102,6 @@ pub record LacksMemory {State : Type 0} (act : State → Told → Log State) (be
   pub log : GoesOn act before state used due next left
   pub tells : Tells (left ++ taken) (event ∷ []) after
   pub asks : MayAsk (act next event).course
-
-abbrev pub PieceFails : {State : Type 0} → (State → Told → Log State) → List ℕ → State → List ℕ → WireState → RunFault → WireState → Cause → Type 0
-PieceFails act before state piece old why new (of_stream fault) =
-    (due : List ℕ) × EndsAtFault act before state piece due fault × SentOn old new due None
-PieceFails act before state piece old why new of_memory = (due : List ℕ) × LacksMemory act before state piece due × SentOn old new due None
-PieceFails act before state piece old why new of_line =
-    (sent : List ℕ) × IsPartDue act [] before state piece sent × SentOn old new sent (Some WriteFailed)
-PieceFails act before state piece old why new of_events =
-    (due : List ℕ) × EndsBy act before state piece due (fails why) × SentOn old new due None
-PieceFails act before state piece old why new _ = ⊥
-
-abbrev pub TakesPiece : {State : Type 0} → (State → Told → Log State) → List ℕ → State → List ℕ → WireState → Result Turn RunFault → List ℕ → State → WireState → Type 0
-TakesPiece act before state piece old (Ok turns.Goes) left end new =
-    (due : List ℕ) × GoesOn act before state piece due end left × SentOn old new due None
-TakesPiece act before state piece old (Ok turns.Finishes) left end new =
-    (due : List ℕ) × EndsBy act before state piece due (finishes end) × SentOn old new due None
-TakesPiece act before state piece old (Err why) left end new = PieceFails act before state piece old why new (cause_of why)
 
 -- ---- the whole run
 

@@ -1,10 +1,9 @@
 -- What a terminal does over a line at each event: what it sends, and how its run then stands.
-use Rattle.std.specs.Prelude.{ℕ, ◌+◌, ◌==◌, Bool, true, false, ◌&&◌, ◌||◌, List, [], ◌∷◌, ◌++◌, length, Option, Some, None, Result, Ok, Err, if◌then◌else◌}
+use Rattle.std.specs.Prelude.{ℕ, ◌+◌, ◌==◌, nat_lt, Bool, true, false, ◌&&◌, ◌||◌, List, [], ◌∷◌, ◌++◌, length, Option, Some, None, Result, Ok, Err, if◌then◌else◌}
 use Rattle.ds_codec.specs.declared.refused.Why as reading
 use Rattle.ds_codec.specs.declared.refused.Why.TheVariants as reading_why
 use Rattle.ds_screen.specs.declared.lock.Lock.{Lock}
 use Rattle.ds_screen.specs.declared.lock.Lock.TheVariants.{Free, Waiting, Error}
-use Rattle.ds_screen.specs.Picture.{Picture}
 use Rattle.ds_screen.specs.Records.{new_picture}
 use Rattle.ds_keys.specs.declared.key.Key.{Key}
 use Rattle.ds_terminal.specs.declared.refused.Refused.{Refused}
@@ -26,6 +25,7 @@ use Rattle.tn_cores.specs.Steps.{Stepped, terminal_step}
 use Rattle.tn_cores.specs.Terminal.{new_terminal, terminal_agreed}
 use Rattle.tn_session.specs.declared.fault.RunFault.TheVariants as faults
 use Rattle.tn_session.specs.declared.terminal_state.TerminalState.{TerminalState}
+use Rattle.tn_session.specs.Kept.{nothing_kept, keep_record, keep_key, aid_of}
 use Rattle.tn_session.specs.Runs.{Log, going, finished, failed}
 use Rattle.tn_session.specs.Sent.{framed, next_sequence, sent_data, data_header}
 
@@ -41,16 +41,19 @@ new_terminal_state device enhanced responses = record {
   sequence = 0;
   was_free = false;
   answers = 0;
+  taken = 0;
   passed = 0;
   refused = 0;
+  kept = None;
 }
 
--- all that it counts
-abbrev pub counted : TerminalState → ℕ
-counted state = state.answers + (state.passed + state.refused)
+-- one that keeps the records of its screen
+abbrev pub keeping_terminal : Device → Bool → Bool → TerminalState
+keeping_terminal device enhanced responses = record (new_terminal_state device enhanced responses) { kept = Some nothing_kept }
 
-abbrev pub terminal_weight : TerminalRunning → ℕ
-terminal_weight running = counted running.state + length running.keys
+-- counts go up to 18,446,744,073,709,551,615 and stay there, which no run over a line comes to
+abbrev pub one_more : ℕ → ℕ
+one_more count = if nat_lt count 18446744073709551615 then count + 1 else count
 
 abbrev pub terminal_start : Device → Bool → Bool → List Key → TerminalRunning
 terminal_start device enhanced responses keys = record { state = new_terminal_state device enhanced responses; keys = keys }
@@ -112,24 +115,32 @@ abbrev pub answer_due : Agreed → TerminalState → List ℕ → List ℕ
 answer_due agreed state bytes = sent_data agreed 0 state.sequence bytes
 
 abbrev pub after_answer : TerminalState → TerminalState
-after_answer state = record state { sequence = next_sequence state.sequence; answers = state.answers + 1 }
+after_answer state = record state { sequence = next_sequence state.sequence; answers = one_more state.answers }
 
--- what a record makes of the screen
-abbrev pub after_record : TerminalState → Picture → TerminalState
-after_record state picture = record state { terminal = picture; was_free = state.was_free || is_free picture.lock }
+abbrev pub one_taken : TerminalState → TerminalState
+one_taken state = record state { taken = one_more state.taken }
+
+-- what a record makes of the screen, and of the records that are kept
+abbrev pub after_record : TerminalState → List ℕ → Turn → TerminalState
+after_record state bytes turn = record state {
+  terminal = turn.after;
+  was_free = state.was_free || is_free turn.after.lock;
+  kept = keep_record state.kept bytes turn.reply;
+}
 
 abbrev pub replied : Agreed → Header → TerminalState → Reply → Doing
-replied agreed header state (shown effect) = doing (positive agreed header) state
-replied agreed header state (answered bytes) = doing (positive agreed header ++ answer_due agreed state bytes) (after_answer state)
-replied agreed header state nothing = doing (positive agreed header) state
-replied agreed header state (refused why) = doing (negative agreed header why) (record state { refused = state.refused + 1 })
+replied agreed header state (shown effect) = doing (positive agreed header) (one_taken state)
+replied agreed header state (answered bytes) =
+    doing (positive agreed header ++ answer_due agreed state bytes) (after_answer (one_taken state))
+replied agreed header state nothing = doing (positive agreed header) (one_taken state)
+replied agreed header state (refused why) = doing (negative agreed header why) (record state { refused = one_more state.refused })
 
 -- what a turn of the terminal makes of the run
-abbrev pub turned : Agreed → Header → TerminalState → Turn → Doing
-turned agreed header state turn = replied agreed header (after_record state turn.after) turn.reply
+abbrev pub turned : Agreed → Header → TerminalState → List ℕ → Turn → Doing
+turned agreed header state bytes turn = replied agreed header (after_record state bytes turn) turn.reply
 
 abbrev pub received_data : Agreed → Header → TerminalState → List ℕ → Doing
-received_data agreed header state bytes = turned agreed header state (received state.terminal bytes)
+received_data agreed header state bytes = turned agreed header state bytes (received state.terminal bytes)
 
 -- ---- keys
 
@@ -140,11 +151,15 @@ key_replied agreed state done = doing [] state
 key_replied agreed state inhibited = doing [] state
 key_replied agreed state ignored = doing [] state
 
-abbrev pub key_turned : Agreed → TerminalState → KeyTurn → Doing
-key_turned agreed state turn = key_replied agreed (record state { terminal = turn.after }) turn.reply
+-- what a key makes of the screen, and of the records that are kept
+abbrev pub after_key : TerminalState → Key → KeyTurn → TerminalState
+after_key state key turn = record state { terminal = turn.after; kept = keep_key state.kept (aid_of key) turn.reply }
+
+abbrev pub key_turned : Agreed → TerminalState → Key → KeyTurn → Doing
+key_turned agreed state key turn = key_replied agreed (after_key state key turn) turn.reply
 
 abbrev pub typed_key : Agreed → TerminalState → Key → Doing
-typed_key agreed state key = key_turned agreed state (pressed state.terminal key)
+typed_key agreed state key = key_turned agreed state key (pressed state.terminal key)
 
 -- these bytes first
 abbrev pub before : List ℕ → Typing → Typing
@@ -173,7 +188,7 @@ taken_data agreed header running bytes = standing (then_typed agreed running.key
 
 -- records of other types are passed over
 abbrev pub passed_over : TerminalRunning → Log TerminalRunning
-passed_over running = going [] (record running { state = record running.state { passed = running.state.passed + 1 } })
+passed_over running = going [] (record running { state = record running.state { passed = one_more running.state.passed } })
 
 abbrev pub taken_typed : Agreed → Header → TerminalRunning → List ℕ → DataType → Log TerminalRunning
 taken_typed agreed header running bytes Data3270 = taken_data agreed header running bytes

@@ -61,11 +61,12 @@ fn push_records(due: &mut Vec<u8>, agreed: Agreed, records: &[&[u8]]) -> Result<
 }
 
 impl<'a> HostMachine<'a> {
-    ghost use Rattle.std.specs.Prelude.{length};
-    ghost use Rattle.tn_cores.specs.Host.{host_agreed};
+    ghost use Rattle.std.specs.Prelude.{length, None, option_map};
+    ghost use Rattle.tn_cores.specs.Host.{host_agreed, opening};
+    ghost use Rattle.tn_cores.specs.Replies.{bytes_of};
     ghost use Rattle.tn_session.specs.HostLog.{HostRunning, taken_response, taken_answer, taken_typed, taken_record, is_awaited};
     ghost use Rattle.tn_session.specs.Ran.{Does};
-    ghost use Rattle.tn_session.specs.HostView.{OutcomeTaken};
+    ghost use Rattle.tn_session.specs.HostView.{outcome_view, some_outcome};
 
     /// A run at its beginning.
     pub(crate) fn new(
@@ -92,14 +93,26 @@ impl<'a> HostMachine<'a> {
         }
     }
 
-    /// What came of the session, once the run is over.
-    pub(crate) fn take_outcome(&mut self) -> Result<HostOutcome, RunFault>
-        ensures { OutcomeTaken self.old result }
+    /// What a host says first.
+    pub(crate) fn begin(&self, out: &mut Out)
+        ensures { out.new.items ≡ bytes_of (opening self.now.core) }
     {
-        match self.outcome.take() {
-            Some(outcome) => Ok(outcome),
-            None => Err(RunFault::Session(SessionFault::Closed)),
-        }
+        self.core.begin(out);
+    }
+
+    /// What came of the session, once an answer finished it.
+    pub(crate) fn outcome(&self) -> Option<&HostOutcome>
+        ensures { option_map (λ outcome. outcome_view outcome.now) result ≡ self.now.outcome }
+    {
+        self.outcome.as_ref()
+    }
+
+    /// What came of the session, once an answer finished it.
+    pub(crate) fn into_outcome(self) -> Option<HostOutcome>
+        ensures { some_outcome result ≡ self.entry.outcome }
+    {
+        let HostMachine { outcome, .. } = self;
+        outcome
     }
 
     /// Whether a RESPONSE of this number answers the first record that none came for.
@@ -194,8 +207,6 @@ impl<'a> Machine for HostMachine<'a> {
     ghost use Rattle.tn_session.specs.HostLog.{host_act};
 
     ghost act = { host_act };
-
-    ghost weight = { λ _. 0 };
 
     fn take(
         &mut self,

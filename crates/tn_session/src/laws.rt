@@ -3,6 +3,9 @@
 ghost use Rattle.tn_session.specs.TerminalLog.{TerminalRunning};
 ghost use Rattle.tn_session.specs.HostLog.{HostRunning};
 ghost use Rattle.tn_session.specs.OneLog.{HaveOneLog, LogsGoOn};
+ghost use Rattle.tn_session.specs.Pieces.{PiecesHaveLog, CutsAgree};
+ghost use Rattle.tn_session.specs.Acts.{WorkAgrees, RunsAreWorked};
+ghost use Rattle.tn_session.specs.declared.terminal_state.TerminalState.{TerminalState};
 ghost use Rattle.tn_session.specs.Outcomes.{AnswersFinish, AnswersEndLogs, OutcomesAreTouched};
 
 /// The bytes that a stream makes due, and how a run then stands, hang on the stream alone and on no cut of it. Whatever an
@@ -14,6 +17,25 @@ pub fn one_log<S>()
     ensures front { LogsGoOn S }
     ensures terminal { HaveOneLog TerminalRunning × LogsGoOn TerminalRunning }
     ensures host { HaveOneLog HostRunning × LogsGoOn HostRunning }
+{}
+
+/// How what a session hears is cut into calls doesn't matter. After any calls of `take`, from the beginning of a stream and
+/// with whatever pieces, all bytes that were given are due by the log of the whole, and so the session stands, where memory
+/// was not refused: two sessions that were given the same bytes agree. So it is of a host's session, and of a terminal's.
+pub fn pieces_law<S>()
+    ensures log { PiecesHaveLog S }
+    ensures cuts { CutsAgree S }
+    ensures host { CutsAgree HostRunning }
+    ensures terminal { CutsAgree TerminalState }
+{}
+
+/// A terminal that somebody works. Two terminals that are told the same from the beginning of a session, keys and between two
+/// of them the same bytes, cut in any two ways, give the same bytes and stand alike: they show the same picture. And what a
+/// run over a line does with its list of keys is what a terminal does that is worked so: it hears the run's events, and is
+/// pressed the run's keys in turn.
+pub fn work_law()
+    ensures agrees { WorkAgrees }
+    ensures runs { RunsAreWorked }
 {}
 
 /// What comes of a host's run at a checked screen. Where `check` says yes, and the operator's keys, of which none sends, are

@@ -1,4 +1,4 @@
-//! What a run is told by: what one event does.
+//! What a session is told by: what one event does.
 
 use crate::fault::RunFault;
 use crate::turn::Turn;
@@ -6,8 +6,8 @@ use std::alloc::Global;
 use tn_wire::Event;
 
 /// A machine that takes events and gives bytes.
-pub(crate) trait Machine {
-    ghost use Rattle.std.specs.Prelude.{◌≡◌, ℕ, ◌+◌, ◌≤◌, ◌<◌, ◌^◌, [], OnOk};
+pub(crate) trait Machine: Drop {
+    ghost use Rattle.std.specs.Prelude.{◌≡◌, []};
     ghost use Rattle.tn_wire.specs.Stream.{Told};
     ghost use Rattle.tn_wire.specs.Calls.{told_of};
     ghost use Rattle.tn_session.specs.Runs.{Log};
@@ -15,9 +15,6 @@ pub(crate) trait Machine {
 
     /// What an event does to it.
     ghost act: { Self → Told → Log Self };
-
-    /// A bound on its counts, that an event raises by one at most.
-    ghost weight: { Self → ℕ };
 
     /// Takes an event, with the bytes that are then due in `due`, which held none.
     fn take(
@@ -27,7 +24,5 @@ pub(crate) trait Machine {
         due: &mut Vec<u8>,
     ) -> Result<Turn, RunFault>
         requires empty { due.old.items ≡ [] }
-        requires light { weight self.old + 1 < 2 ^ 64 }
-        ensures does { Does (act self.old (told_of event.now)) result self.new due.new.items }
-        ensures light { OnOk result (weight self.new ≤ weight self.old + 1) };
+        ensures { Does (act self.old (told_of event.now)) result self.new due.new.items };
 }

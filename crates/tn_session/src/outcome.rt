@@ -22,7 +22,8 @@ pub struct HostOutcome {
     pub fields: Vec<(usize, Vec<u8>)>,
 }
 
-fn owned(alloc: Global, bytes: &[u8]) -> Result<Vec<u8>, AllocError>
+/// A copy of bytes.
+pub(crate) fn owned(alloc: Global, bytes: &[u8]) -> Result<Vec<u8>, AllocError>
     ensures { IfOk result (λ copy. copy.items ≡ bytes.now) }
 {
     let mut copy = Vec::with_capacity(alloc, bytes.len())?;

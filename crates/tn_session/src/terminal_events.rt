@@ -1,14 +1,15 @@
 //! What an event does to a terminal's run.
 
-ghost use Rattle.std.specs.Prelude.{◌≡◌, ◌+◌, ◌<◌, ◌≤◌, ◌^◌, [], length, OnOk};
+ghost use Rattle.std.specs.Prelude.{◌≡◌, []};
 ghost use Rattle.tn_wire.specs.Calls.{told_of};
 ghost use Rattle.tn_wire.specs.Header.{header_of};
 ghost use Rattle.tn_cores.specs.Terminal.{terminal_agreed};
 ghost use Rattle.tn_session.specs.Ran.{Does};
-ghost use Rattle.tn_session.specs.TerminalLog.{counted, taken_data, taken_headed, taken_record, terminal_act};
+ghost use Rattle.tn_session.specs.TerminalLog.{taken_data, taken_headed, taken_record, terminal_act};
 
 use crate::fault::RunFault;
 use crate::terminal_state::TerminalState;
+use crate::terminal_turns::one_more;
 use crate::turn::Turn;
 use ds_keys::Key;
 use std::alloc::Global;
@@ -26,12 +27,9 @@ fn take_data(
     bytes: &[u8],
 ) -> Result<Turn, RunFault>
     requires empty { due.old.items ≡ [] }
-    requires light { counted state.old + length keys.old.now + 1 < 2 ^ 64 }
-    ensures does { Does (taken_data agreed header
+    ensures { Does (taken_data agreed header
         (record { state = state.old; keys = keys.old.now }) bytes.now) result
         (record { state = state.new; keys = keys.new.now }) due.new.items }
-    ensures light { OnOk result (counted state.new + length keys.new.now
-        ≤ counted state.old + length keys.old.now + 1) }
 {
     state.receive(alloc, due, agreed, header, bytes)?;
     state.press_all(alloc, due, agreed, keys)?;
@@ -52,12 +50,9 @@ fn take_headed(
     bytes: &[u8],
 ) -> Result<Turn, RunFault>
     requires empty { due.old.items ≡ [] }
-    requires light { counted state.old + length keys.old.now + 1 < 2 ^ 64 }
-    ensures does { Does (taken_headed agreed
+    ensures { Does (taken_headed agreed
         (record { state = state.old; keys = keys.old.now }) (header_of bytes.now)) result
         (record { state = state.new; keys = keys.new.now }) due.new.items }
-    ensures light { OnOk result (counted state.new + length keys.new.now
-        ≤ counted state.old + length keys.old.now + 1) }
 {
     let (header, data) = match Header::read(bytes) {
         Ok(read) => read,
@@ -66,7 +61,7 @@ fn take_headed(
     match header.data_type {
         DataType::Data3270 => take_data(alloc, due, state, keys, agreed, header, data),
         _ => {
-            state.passed += 1;
+            state.passed = one_more(state.passed);
             Ok(Turn::Goes)
         }
     }
@@ -81,12 +76,9 @@ fn take_record(
     bytes: &[u8],
 ) -> Result<Turn, RunFault>
     requires empty { due.old.items ≡ [] }
-    requires light { counted state.old + length keys.old.now + 1 < 2 ^ 64 }
-    ensures does { Does (taken_record (record { state = state.old; keys = keys.old.now })
+    ensures { Does (taken_record (record { state = state.old; keys = keys.old.now })
         (terminal_agreed state.old.core) bytes.now) result
         (record { state = state.new; keys = keys.new.now }) due.new.items }
-    ensures light { OnOk result (counted state.new + length keys.new.now
-        ≤ counted state.old + length keys.old.now + 1) }
 {
     let Some(agreed) = state.core.agreed() else {
         return Ok(Turn::Goes);
@@ -112,12 +104,9 @@ pub(crate) fn take_event_of(
     event: &Event<'_>,
 ) -> Result<Turn, RunFault>
     requires empty { due.old.items ≡ [] }
-    requires light { counted state.old + length keys.old.now + 1 < 2 ^ 64 }
-    ensures does { Does (terminal_act (record { state = state.old; keys = keys.old.now })
+    ensures { Does (terminal_act (record { state = state.old; keys = keys.old.now })
         (told_of event.now)) result
         (record { state = state.new; keys = keys.new.now }) due.new.items }
-    ensures light { OnOk result (counted state.new + length keys.new.now
-        ≤ counted state.old + length keys.old.now + 1) }
 {
     let mut reply = Out::new();
     if let Err(why) = state.core.step(event, &mut reply) {

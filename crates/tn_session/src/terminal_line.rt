@@ -10,14 +10,14 @@ ghost use Rattle.tn_session.specs.TerminalRuns.{TerminalRan, HasFailed};
 use crate::fault::RunFault;
 use crate::report::Report;
 use crate::run::run_over;
+use crate::session::Session;
 use crate::terminal_machine::TerminalRun;
 use crate::terminal_state::TerminalState;
 use crate::wire::Wire;
 use ds_keys::Key;
-use ds_terminal::Terminal;
 use std::alloc::Global;
 use std::io::{Read, Write};
-use tn_cores::{Device, TermCore};
+use tn_cores::Device;
 
 /// Runs a terminal of this device over a line: it answers the host, and its operator presses these keys, each as soon as the
 /// keyboard doesn't wait for a record. `enhanced` says whether it takes TN3270E, `responses` whether it asks for RESPONSES
@@ -69,17 +69,8 @@ fn run_terminal<L: Read + Write>(
     requires counts { wire.old.reads + 1000000 ≤ u64.MAX }
     ensures { TerminalRan device enhanced responses keys.now wire.old result wire.new }
 {
-    let terminal = Terminal::new(alloc, device.geometry())?;
-    let state = TerminalState {
-        core: TermCore::new(device, enhanced, responses),
-        terminal,
-        sequence: 0,
-        was_free: false,
-        answers: 0,
-        passed: 0,
-        refused: 0,
-    };
-    let mut run = TerminalRun { state, keys };
-    let finish = run_over(alloc, wire, &mut run, &[])?;
-    Ok(run.report(finish))
+    let state = TerminalState::new(alloc, device, enhanced, responses)?;
+    let mut session = Session::new(alloc, TerminalRun { state, keys })?;
+    let finish = run_over(alloc, wire, &mut session, &[])?;
+    Ok(session.machine().report(finish))
 }

@@ -26,12 +26,27 @@ impl<'a> Model for TerminalRun<'a> {
     ghost view = { λ r. record { state = r.state; keys = r.keys.now } };
 }
 
+impl Machine for TerminalState {
+    ghost use Rattle.tn_session.specs.TerminalTalk.{heard_act};
+
+    ghost act = { heard_act };
+
+    fn take(
+        &mut self,
+        alloc: Global,
+        event: &Event<'_>,
+        due: &mut Vec<u8>,
+    ) -> Result<Turn, RunFault> {
+        let mut no_keys: &[Key] = &[];
+        let _turn = take_event_of(alloc, due, self, &mut no_keys, event)?;
+        Ok(Turn::Goes)
+    }
+}
+
 impl<'a> Machine for TerminalRun<'a> {
-    ghost use Rattle.tn_session.specs.TerminalLog.{terminal_act, terminal_weight};
+    ghost use Rattle.tn_session.specs.TerminalLog.{terminal_act};
 
     ghost act = { terminal_act };
-
-    ghost weight = { terminal_weight };
 
     fn take(
         &mut self,

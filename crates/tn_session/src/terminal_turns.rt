@@ -1,9 +1,14 @@
 //! What a record and a key do to a terminal's run.
 
-ghost use Rattle.std.specs.Prelude.{◌≡◌, ◌+◌, ◌<◌, ◌≤◌, ◌^◌, ◌++◌, length, OnOk};
-ghost use Rattle.tn_session.specs.TerminalLog.{counted, is_free, is_waiting, answer_due, after_answer, replied, received_data, key_replied, typed_key, typing};
+ghost use Rattle.std.specs.Prelude.{◌≡◌, ◌++◌, IfOk, OnOk};
+ghost use Rattle.tn_session.specs.TerminalLog.{one_more, is_free, is_waiting, answer_due, after_answer, replied, received_data, key_replied, typed_key, typing};
+ghost use Rattle.tn_session.specs.Kept.{keep_record, keep_key};
+ghost use Rattle.tn_session.specs.TerminalTalk.{key_answer, worked};
 ghost use Rattle.ds_terminal.specs.Seen.{reply_seen, key_reply_seen};
+ghost use Rattle.ds_terminal.specs.Terminal.{pressed};
 
+use crate::kept::{KeptRecords, aid_of};
+use crate::pressed::Pressed;
 use crate::responses::{push_negative, push_positive};
 use crate::sent::{next_sequence, push_data};
 use crate::terminal_state::TerminalState;
@@ -26,18 +31,54 @@ fn is_waiting(lock: Lock) -> bool
     matches!(lock, Lock::Waiting)
 }
 
+/// One more, up to the most that is counted.
+pub(crate) fn one_more(count: u64) -> u64
+    ensures { result ≡ one_more count }
+{
+    if count < u64::MAX { count + 1 } else { count }
+}
+
+/// Keeps what a record leaves, at a terminal that keeps records.
+fn keep_record(
+    alloc: Global,
+    kept: &mut Option<KeptRecords>,
+    bytes: &[u8],
+    reply: &RecordReply,
+) -> Result<(), AllocError>
+    ensures { OnOk result
+        (kept.new ≡ keep_record kept.old bytes.now (reply_seen reply.now)) }
+{
+    match kept {
+        Some(kept) => kept.take_record(alloc, bytes, reply),
+        None => Ok(()),
+    }
+}
+
+/// Keeps what a key leaves, at a terminal that keeps records.
+fn keep_key(
+    alloc: Global,
+    kept: &mut Option<KeptRecords>,
+    aid: Option<u8>,
+    reply: &KeyReply,
+) -> Result<(), AllocError>
+    ensures { OnOk result (kept.new ≡ keep_key kept.old aid (key_reply_seen reply.now)) }
+{
+    match kept {
+        Some(kept) => kept.take_key(alloc, aid, reply),
+        None => Ok(()),
+    }
+}
+
 impl TerminalState {
     /// Answers, as to Read Modified.
     fn answer(&mut self, due: &mut Vec<u8>, agreed: Agreed, bytes: &[u8]) -> Result<(), AllocError>
-        requires { counted self.old + 1 < 2 ^ 64 }
         ensures due { OnOk result
             (due.new.items ≡ due.old.items ++ answer_due agreed self.old bytes.now) }
         ensures after { OnOk result (self.new ≡ after_answer self.old) }
-        ensures light { OnOk result (counted self.new ≤ counted self.old + 1) }
     {
         push_data(due, agreed, 0, self.sequence, bytes)?;
         self.sequence = next_sequence(self.sequence);
-        self.answers += 1;
+        self.answers = one_more(self.answers);
         Ok(())
     }
 
@@ -50,15 +91,14 @@ impl TerminalState {
         header: Header,
         bytes: &[u8],
     ) -> Result<(), AllocError>
-        requires { counted self.old + 1 < 2 ^ 64 }
         ensures due { OnOk result (due.new.items
             ≡ due.old.items ++ (received_data agreed header self.old bytes.now).due) }
         ensures after { OnOk result
             (self.new ≡ (received_data agreed header self.old bytes.now).state) }
-        ensures light { OnOk result (counted self.new ≤ counted self.old + 1) }
     {
         let reply = self.terminal.receive(alloc, bytes)?;
         self.was_free = self.was_free || is_free(self.terminal.screen().lock());
+        keep_record(alloc, &mut self.kept, bytes, &reply)?;
         self.reply(due, agreed, header, reply)
     }
 
@@ -70,26 +110,25 @@ impl TerminalState {
         header: Header,
         reply: RecordReply,
     ) -> Result<(), AllocError>
-        requires { counted self.old + 1 < 2 ^ 64 }
         ensures due { OnOk result (due.new.items
             ≡ due.old.items ++ (replied agreed header self.old (reply_seen reply)).due) }
         ensures after { OnOk result
             (self.new ≡ (replied agreed header self.old (reply_seen reply)).state) }
-        ensures light { OnOk result (counted self.new ≤ counted self.old + 1) }
     {
         match reply {
             RecordReply::Shown(_) | RecordReply::Nothing => {
                 push_positive(due, agreed, header)?;
+                self.taken = one_more(self.taken);
                 Ok(())
             }
             RecordReply::Sent(answer) => {
                 push_positive(due, agreed, header)?;
-                self.answer(due, agreed, &answer)?;
-                Ok(())
+                self.taken = one_more(self.taken);
+                self.answer(due, agreed, &answer)
             }
             RecordReply::Refused(why) => {
                 push_negative(due, agreed, header, why)?;
-                self.refused += 1;
+                self.refused = one_more(self.refused);
                 Ok(())
             }
         }
@@ -102,14 +141,16 @@ impl TerminalState {
         due: &mut Vec<u8>,
         agreed: Agreed,
         key: Key,
-    ) -> Result<(), AllocError>
-        requires { counted self.old + 1 < 2 ^ 64 }
+    ) -> Result<Pressed, AllocError>
         ensures due { OnOk result
             (due.new.items ≡ due.old.items ++ (typed_key agreed self.old key).due) }
         ensures after { OnOk result (self.new ≡ (typed_key agreed self.old key).state) }
-        ensures light { OnOk result (counted self.new ≤ counted self.old + 1) }
+        ensures answer { IfOk result (λ answer.
+            answer ≡ key_answer (pressed self.old.terminal key).reply) }
     {
+        let aid = aid_of(&key);
         let reply = self.terminal.press(alloc, key)?;
+        keep_key(alloc, &mut self.kept, aid, &reply)?;
         self.key_reply(due, agreed, reply)
     }
 
@@ -119,18 +160,40 @@ impl TerminalState {
         due: &mut Vec<u8>,
         agreed: Agreed,
         reply: KeyReply,
-    ) -> Result<(), AllocError>
-        requires { counted self.old + 1 < 2 ^ 64 }
+    ) -> Result<Pressed, AllocError>
         ensures due { OnOk result (due.new.items
             ≡ due.old.items ++ (key_replied agreed self.old (key_reply_seen reply)).due) }
         ensures after { OnOk result
             (self.new ≡ (key_replied agreed self.old (key_reply_seen reply)).state) }
-        ensures light { OnOk result (counted self.new ≤ counted self.old + 1) }
+        ensures answer { IfOk result (λ answer. answer ≡ key_answer (key_reply_seen reply)) }
     {
         match reply {
-            KeyReply::Sent(bytes) => self.answer(due, agreed, &bytes),
-            KeyReply::Done | KeyReply::Inhibited | KeyReply::Ignored => Ok(()),
+            KeyReply::Sent(bytes) => {
+                self.answer(due, agreed, &bytes)?;
+                Ok(Pressed::Sent)
+            }
+            KeyReply::Done => Ok(Pressed::Done),
+            KeyReply::Inhibited => Ok(Pressed::Inhibited),
+            KeyReply::Ignored => Ok(Pressed::Ignored),
         }
+    }
+
+    /// Presses a key, which is ignored before the session is ready.
+    pub(crate) fn work(
+        &mut self,
+        alloc: Global,
+        due: &mut Vec<u8>,
+        key: Key,
+    ) -> Result<Pressed, AllocError>
+        ensures due { OnOk result
+            (due.new.items ≡ due.old.items ++ (worked self.old key).due) }
+        ensures after { OnOk result (self.new ≡ (worked self.old key).state) }
+        ensures answer { IfOk result (λ answer. answer ≡ (worked self.old key).answer) }
+    {
+        let Some(agreed) = self.core.agreed() else {
+            return Ok(Pressed::Ignored);
+        };
+        self.press(alloc, due, agreed, key)
     }
 
     /// Presses keys one after the other, until the keyboard waits for a record.
@@ -141,19 +204,16 @@ impl TerminalState {
         agreed: Agreed,
         keys: &mut &[Key],
     ) -> Result<(), AllocError>
-        requires { counted self.old + length keys.old.now < 2 ^ 64 }
         ensures due { OnOk result
             (due.new.items ≡ due.old.items ++ (typing agreed self.old keys.old.now).due) }
         ensures after { OnOk result (record { state = self.new; keys = keys.new.now }
             ≡ (typing agreed self.old keys.old.now).running) }
-        ensures light { OnOk result (counted self.new + length keys.new.now
-            ≤ counted self.old + length keys.old.now) }
     {
         'keys: while let Some((key, rest)) = keys.split_first() {
             if is_waiting(self.terminal.screen().lock()) {
                 return Ok(());
             }
-            self.press(alloc, due, agreed, *key)?;
+            let _answer = self.press(alloc, due, agreed, *key)?;
             *keys = rest;
         }
         Ok(())

@@ -159,16 +159,18 @@ fn first_listed(cells: &PlaneCells) -> Option<u32> {
     Some(probed.item(0))
 }
 
-/// The attribute before a place, and how many were looked at to find it.
+/// The attribute before a place, and how many positions and blocks of the index were looked at to find it.
 fn push_looked(row: &mut Row, cells: &PlaneCells, place: u32) {
+    row.word_number("among ", cells.probed().len());
     let mut probed = cells.probed();
-    row.word_number("among ", probed.len());
     match attr_before_counted(&mut probed, place) {
         Some(q) => row.word_number(" at ", q),
         None => row.word(" none"),
     }
     row.word(" looks ");
     row.show(&probed.probes());
+    row.word(" blocks ");
+    row.show(&probed.blocks());
     if let Some(first) = first_listed(cells) {
         row.word_number(" first ", first);
     }

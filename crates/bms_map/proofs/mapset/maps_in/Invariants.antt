@@ -1,4 +1,4 @@
-use Rattle.std.proofs.Common.{◌≤◌, ◌+◌, ◌≡◌, length}
+use Rattle.std.proofs.Common.{◌+◌, ◌≡◌, length}
 use Rattle.bms_map.proofs.mapset.maps_in.Given as goal
 
 abbrev pub invariant-loop-rest : goal.invariant-loop-rest

@@ -3,4 +3,4 @@ use Rattle.tn_session.proofs.RunStates.{RunSoFar}
 
 abbrev pub invariant-reads : goal.invariant-reads
 invariant-reads g l =
-    RunSoFar g.M.Machine.act g.M.Machine.weight l.opening l.initial.machine l.fn.wire l.deframer l.machine l.wire l._turn
+    RunSoFar g.M.Machine.act l.opening l.initial.session l.fn.wire l.session l.wire l._turn

@@ -1,9 +1,10 @@
-use Rattle.std.proofs.Common.{sym, refl, ◌∙◌, inr}
+use Rattle.std.proofs.Common.{subst, sym, refl, ◌∙◌, inr}
 use Rattle.std.proofs.lemmas.List.{drop_more}
 use Rattle.std.specs.List.{flat_map}
 use Rattle.std.specs.String.{string_bytes}
 use Rattle.term_commands.proofs.Causes.{sent, unsent}
 use Rattle.term_commands.proofs.Pieces.{goes_on, ends_at, stops}
+use Rattle.term_commands.specs.Causes.{HasFailed}
 use Rattle.term_commands.proofs.output.pieces.write_lines.Goals as goal
 
 pub returns-in-Err-clause-prints : goal.returns-in-Err-clause-prints
@@ -34,4 +35,5 @@ returns-then-write_text-clause-cause g c =
 
 pub returns-clause-cause : goal.returns-clause-cause
 returns-clause-cause g c =
-    inr (unsent (g.W.TakesBytes.failures c.loop-one.writer) (g.W.TakesBytes.failures c.write_text.new.writer) c.write_text.result c.if-write_text.false c.write_text.ensures.cause)
+    inr (subst (λ n. HasFailed n (g.W.TakesBytes.failures c.write_text.new.writer)) c.loop-one.invariant.cause
+    (unsent (g.W.TakesBytes.failures c.loop-one.writer) (g.W.TakesBytes.failures c.write_text.new.writer) c.write_text.result c.if-write_text.false c.write_text.ensures.cause))

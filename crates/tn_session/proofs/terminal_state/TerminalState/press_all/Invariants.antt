@@ -1,12 +1,11 @@
-use Rattle.std.proofs.Common.{◌≡◌, ◌+◌, ◌≤◌, ◌++◌, length}
-use Rattle.tn_session.specs.TerminalLog.{counted, typing}
+use Rattle.std.proofs.Common.{◌≡◌, ◌++◌, length}
+use Rattle.tn_session.specs.TerminalLog.{typing}
 use Rattle.tn_session.proofs.terminal_state.TerminalState.press_all.Given as goal
 
 abbrev pub invariant-keys : goal.invariant-keys
 invariant-keys l = record {
   due : l.initial.due.items ++ (typing l.agreed l.initial.self l.initial.keys.now).due ≡ l.due.items ++ (typing l.agreed l.self l.keys.now).due;
   after : (typing l.agreed l.initial.self l.initial.keys.now).running ≡ (typing l.agreed l.self l.keys.now).running;
-  few : counted l.self + length l.keys.now ≤ counted l.initial.self + length l.initial.keys.now;
 }
 
 abbrev pub decreases-keys : goal.decreases-keys
