@@ -12,7 +12,7 @@ failed=0
 commands_of_help() { "$program" --help | awk '/^[A-Z].*:$/ { inside = $0 == "Commands:" } inside && /^  [a-z]/ { print $1 }' | sort; }
 
 # The long options of a help; with a command, of its help.
-options_of_help() { "$program" "$@" --help | awk '/^[A-Z].*:$/ { inside = $0 == "Options:" } inside' | grep -oE -e '--[a-z]+' | sort -u; }
+options_of_help() { "$program" "$@" --help | awk '/^[A-Z].*:$/ { inside = $0 == "Options:" } inside' | grep -oE -e '--[a-z]+(-[a-z]+)*' | sort -u; }
 
 compare() {
   if [ "$(echo $2)" = "$(echo $3)" ]; then
@@ -35,7 +35,7 @@ tags_of_page() { awk -v name="$1" '/^\.SH/ { inside = $0 == ".SH " name } inside
 # A line of the zsh completion's case, and its commands.
 line_of_zsh() { grep -E "^    $1\) " "$root/completions/_term3270"; }
 commands_of_zsh() { sed -n "s/^    '\([a-z]*\):.*/\1/p" "$root/completions/_term3270" | sort; }
-options_in() { grep -oE -e '--[a-z]+' | sort -u; }
+options_in() { grep -oE -e '--[a-z]+(-[a-z]+)*' | sort -u; }
 
 commands=$(commands_of_help)
 compare 'the manual page, commands' "$commands" "$(tags_of_page COMMANDS | sed 's/^\.B //' | sort)"
@@ -78,6 +78,7 @@ compare 'a long text that is not written' 'term3270: standard output: No space l
 # a reading of their records by another program says. The golden cases of a form have in common what each of the form has.
 if command -v python3 > /dev/null; then
   compare 'the logs of SARIF' '0 failed' "$(PYTHONDONTWRITEBYTECODE=1 python3 "$root/tests/sarif.py" "$program" | tail -n 1 | sed 's/.*, //')"
+  compare 'maps drawn at random' '1020 passed, 0 failed' "$(PYTHONDONTWRITEBYTECODE=1 python3 "$root/tests/maps.py" "$program" | tail -n 1)"
   compare 'where findings come from' '300 passed, 0 failed' "$(PYTHONDONTWRITEBYTECODE=1 python3 "$root/tests/origins.py" "$program" | tail -n 1)"
   compare 'what a help says ends its finding' '300 passed, 0 failed' "$(PYTHONDONTWRITEBYTECODE=1 python3 "$root/tests/helps.py" "$program" | tail -n 1)"
   compare 'what the golden cases have in common' '0 failed' "$(PYTHONDONTWRITEBYTECODE=1 python3 "$root/tests/forms.py" "$program" | tail -n 1 | sed 's/.*, //')"

@@ -1,2 +1,3 @@
 pub mod OrderLaws
 pub mod OverlapLaws
+pub mod TextLaws

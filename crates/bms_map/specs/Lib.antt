@@ -1,2 +1,3 @@
 pub mod Record
 pub mod Overlaps
+pub mod Texts

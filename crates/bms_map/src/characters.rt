@@ -1,5 +1,8 @@
 //! Characters of strings, as EBCDIC codes.
 
+ghost use Rattle.std.specs.Prelude.{◌≡◌};
+ghost use Rattle.bms_map.specs.Texts.{code_of};
+
 /// The codes of the characters from the space to the tilde.
 const CODES: [u8; 95] = [
     0x40, 0x5A, 0x7F, 0x7B, 0x5B, 0x6C, 0x50, 0x7D, 0x4D, 0x5D, 0x5C, 0x4E, 0x6B, 0x60, 0x4B, 0x61, //
@@ -11,7 +14,10 @@ const CODES: [u8; 95] = [
 ];
 
 /// The code of a character, if it is one of the 95.
-pub(crate) fn code_of(character: u8) -> Option<u8> {
+#[tactic(auto, unfolding(crate::specs::Texts::code_of))]
+pub(crate) fn code_of(character: u8) -> Option<u8>
+    ensures { result ≡ code_of character }
+{
     match character {
         b' '..=b'~' => Some(CODES[usize::from(character - b' ')]),
         _ => None,

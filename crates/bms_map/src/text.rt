@@ -1,6 +1,8 @@
 //! The texts of INITIAL and XINIT.
 
-ghost use Rattle.std.specs.Prelude.{◌<◌, ◌≤◌, IfSome, length};
+ghost use Rattle.std.specs.Prelude.{◌≡◌, ◌<◌, ◌≤◌, IfSome, IfOk, length};
+ghost use Rattle.bms_map.specs.Texts.{are_doubled, is_doubled, after_front, codes_in, seen};
+ghost use Rattle.std.specs.Option.{option_map};
 
 use crate::characters::code_of;
 use crate::values::between;
@@ -16,47 +18,58 @@ pub(crate) enum Text {
 }
 
 /// Whether the apostrophes inside a string stand in pairs.
-fn are_doubled(inner: &[Letter]) -> bool {
+fn are_doubled(inner: &[Letter]) -> bool
+    ensures { result ≡ are_doubled inner.now }
+{
     let mut rest = inner;
     while let [first, others @ ..] = rest {
-        rest = others;
-        if first.code == b'\'' {
-            match others {
-                [second, after @ ..] if second.code == b'\'' => rest = after,
-                _ => return false,
-            }
+        if first.code != b'\'' {
+            rest = others;
+            continue;
+        }
+        match others {
+            [second, after @ ..] if second.code == b'\'' => rest = after,
+            _ => return false,
         }
     }
     true
 }
 
-/// The character at the front of a string, and what comes after it.
-fn front(first: Letter, others: &[Letter]) -> Option<(u8, &[Letter])>
-    ensures { IfSome result (λ found. length found.1.now ≤ length others.now) }
+/// Whether a character stands for itself where it is doubled: an apostrophe or an ampersand.
+fn is_doubled(code: u8) -> bool
+    ensures { result ≡ is_doubled code }
 {
-    if first.code == b'\'' || first.code == b'&' {
-        return match others {
-            [second, after @ ..] if second.code == first.code => Some((
-                code_of(first.code)?,
-                after,
-            )),
-            _ => None,
-        };
-    }
-    Some((code_of(first.code)?, others))
+    code == b'\'' || code == b'&'
 }
 
-fn codes_in(alloc: Global, inner: &[Letter]) -> Result<Text, AllocError> {
+/// What comes after the character at the front of a string, if that one is whole.
+fn after_front(first: Letter, others: &[Letter]) -> Option<&[Letter]>
+    ensures after { option_map (λ after. after.now) result ≡ after_front first others.now }
+    ensures shorter { IfSome result (λ after. length after.now ≤ length others.now) }
+{
+    if !is_doubled(first.code) {
+        return Some(others);
+    }
+    match others {
+        [second, after @ ..] if second.code == first.code => Some(after),
+        _ => None,
+    }
+}
+
+fn codes_in(alloc: Global, inner: &[Letter]) -> Result<Text, AllocError>
+    ensures { IfOk result (λ text. seen text ≡ codes_in inner.now) }
+{
     let mut codes = Vec::new(alloc);
     let mut rest = inner;
     while let [first, others @ ..] = rest {
-        match front(*first, others) {
-            Some((code, after)) => {
-                codes.push(code)?;
-                rest = after;
-            }
-            None => return Ok(Text::Bad(first.place)),
-        }
+        let Some(after) = after_front(*first, others) else {
+            return Ok(Text::Bad(first.place));
+        };
+        let Some(code) = code_of(first.code) else {
+            return Ok(Text::Bad(first.place));
+        };
+        codes.push(code)?;
+        rest = after;
     }
     Ok(Text::Codes(codes))
 }

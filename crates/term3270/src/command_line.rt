@@ -141,9 +141,9 @@ Output:
   what the symbolic map says that the program reads.
 
 Example:
-  $ term3270 map examples/signon.bms
-  # map SIGNON at line 3, screen 24x80
-  F5C211405D1DF0E2C9C7D540D6D511C3F81DF0E4E2C5D9C9C411C4C21D401311C44B1DF0
+  $ term3270 map examples/signon.bms | term3270 show
+  screen 24x80 cursor 259 keyboard free aid 60
+  ..
 
 Statuses:
   0 done, 2 the source is refused, 3 the file can't be read, or a write failed, 4 out of memory";
