@@ -6,7 +6,7 @@ use ds_keys::{Pressed, key_of_line, press};
 use ds_screen::{Cells, Screen};
 use test_words::Row;
 
-fn push_pressed(row: &mut Row, told: Pressed, cursor: u32) {
+pub(crate) fn push_pressed(row: &mut Row, told: Pressed, cursor: u32) {
     match told {
         Pressed::Done => row.word_number("done ", cursor),
         Pressed::Inhibited => row.word_number("inhibited ", cursor),

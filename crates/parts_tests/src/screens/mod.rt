@@ -10,6 +10,7 @@ mod outlines;
 mod records;
 mod ring;
 mod searches;
+mod strokes;
 mod terminal;
 mod words;
 
@@ -21,6 +22,7 @@ use test_words::Row;
 fn push_own_answer<C: Cells>(row: &mut Row, setup: &Setup, verb: &str, words: &str) -> bool {
     match verb {
         "each" => keys::push_each::<C>(row, setup, words),
+        "strokes" => strokes::push_strokes::<C>(row, setup, words),
         "take" => terminal::push_two::<C>(row, setup, words),
         "reserved" => searches::push_reserved::<C>(row, words),
         _ => return false,
