@@ -1,5 +1,9 @@
 //! The command `check --map`.
 
+ghost use Rattle.std.specs.Prelude.{◌+◌, IfOk, IfErr};
+ghost use Rattle.term_commands.specs.Causes.{ReadsNothing, ToldBy};
+ghost use Rattle.cli_maps.specs.Ends.{IsVerdict, EndsSo};
+
 use crate::asked::Asked;
 use crate::mapping::record_asked;
 use crate::refusal::refused;
@@ -116,7 +120,9 @@ fn verdict_of(
     map: &Map,
     layout: &Layout,
     asked: Asked<'_>,
-) -> Result<Verdict, CommandError> {
+) -> Result<Verdict, CommandError>
+    ensures { IfErr result ReadsNothing }
+{
     let record = record_asked(alloc, map, asked)?;
     Ok(check(alloc, &[record.as_slice()], layout)?)
 }
@@ -127,7 +133,9 @@ fn push_map(
     out: &mut String,
     map: &Map,
     asked: Asked<'_>,
-) -> Result<bool, CommandError> {
+) -> Result<bool, CommandError>
+    ensures { IfErr result ReadsNothing }
+{
     let text = layout_text(alloc, map)?;
     let layout = Layout::from_text(alloc, text.as_str())?;
     let overlaps = overlaps_of(alloc, map)?;
@@ -148,7 +156,10 @@ fn push_map(
     }
 }
 
-fn checked(alloc: Global, maps: &[Map], asked: Asked<'_>) -> Result<Answer, CommandError> {
+fn checked(alloc: Global, maps: &[Map], asked: Asked<'_>) -> Result<Answer, CommandError>
+    ensures status { IfOk result (λ answer. IsVerdict answer.status) }
+    ensures cause { IfErr result ReadsNothing }
+{
     let mut text = String::new(alloc);
     let mut status = Status::Done;
     for map in maps {
@@ -168,7 +179,10 @@ pub fn check_map_text(
     alloc: Global,
     source: &[u8],
     asked: Asked<'_>,
-) -> Result<Answer, CommandError> {
+) -> Result<Answer, CommandError>
+    ensures status { IfOk result (λ answer. IsVerdict answer.status) }
+    ensures cause { IfErr result ReadsNothing }
+{
     let source = within_limit(source)?;
     match maps_asked(alloc, source, asked.name) {
         Ok(maps) => checked(alloc, &maps, asked),
@@ -180,7 +194,10 @@ fn check_read<R: GivesBytes>(
     alloc: Global,
     reader: &mut R,
     asked: Asked<'_>,
-) -> Result<Answer, CommandError> {
+) -> Result<Answer, CommandError>
+    ensures status { IfOk result (λ answer. IsVerdict answer.status) }
+    ensures cause { ToldBy (R.failures reader.old) (R.failures reader.new) result }
+{
     let source = read_text(alloc, reader)?;
     check_map_text(alloc, &source, asked)
 }
@@ -193,7 +210,10 @@ pub fn run_check_map<R: GivesBytes, W: TakesBytes>(
     reader: &mut R,
     writer: &mut W,
     asked: Asked<'_>,
-) -> Status {
+) -> Status
+    ensures { EndsSo (R.failures reader.old + W.failures writer.old)
+        (R.failures reader.new + W.failures writer.new) result }
+{
     let answer = check_read(alloc, reader, asked);
     finish(alloc, writer, answer)
 }

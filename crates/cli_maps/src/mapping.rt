@@ -1,5 +1,9 @@
 //! The command `map`.
 
+ghost use Rattle.std.specs.Prelude.{◌+◌, IfOk, IfErr};
+ghost use Rattle.term_commands.specs.Causes.{ReadsNothing, ToldBy};
+ghost use Rattle.cli_maps.specs.Ends.{IsVerdict, EndsSo};
+
 use crate::asked::{Asked, Form};
 use crate::refusal::{refused, without_place};
 use crate::told::{maps_asked, push_name};
@@ -26,7 +30,9 @@ pub(crate) fn record_asked(
     alloc: Global,
     map: &Map,
     asked: Asked<'_>,
-) -> Result<Vec<u8>, CommandError> {
+) -> Result<Vec<u8>, CommandError>
+    ensures { IfErr result ReadsNothing }
+{
     match record_of(alloc, map, asked.control) {
         Ok(bytes) => Ok(bytes),
         Err(Unwritable::OutOfMemory) => Err(CommandError::OutOfMemory),
@@ -39,7 +45,9 @@ fn push_record(
     out: &mut String,
     map: &Map,
     asked: Asked<'_>,
-) -> Result<(), CommandError> {
+) -> Result<(), CommandError>
+    ensures { IfErr result ReadsNothing }
+{
     push_header(out, map)?;
     let bytes = record_asked(alloc, map, asked)?;
     push_bytes(out, &bytes)?;
@@ -48,7 +56,10 @@ fn push_record(
 }
 
 /// The lines of the maps' records.
-fn records_of(alloc: Global, maps: &[Map], asked: Asked<'_>) -> Result<Answer, CommandError> {
+fn records_of(alloc: Global, maps: &[Map], asked: Asked<'_>) -> Result<Answer, CommandError>
+    ensures status { IfOk result (λ answer. IsVerdict answer.status) }
+    ensures cause { IfErr result ReadsNothing }
+{
     let mut text = String::new(alloc);
     for map in maps {
         push_record(alloc, &mut text, map, asked)?;
@@ -60,7 +71,10 @@ fn records_of(alloc: Global, maps: &[Map], asked: Asked<'_>) -> Result<Answer, C
 }
 
 /// The layout of the one map.
-fn layout_of(alloc: Global, maps: &[Map]) -> Result<Answer, CommandError> {
+fn layout_of(alloc: Global, maps: &[Map]) -> Result<Answer, CommandError>
+    ensures status { IfOk result (λ answer. IsVerdict answer.status) }
+    ensures cause { IfErr result ReadsNothing }
+{
     match maps {
         [map] => Ok(Answer {
             text: layout_text(alloc, map)?,
@@ -80,7 +94,10 @@ pub fn map_text(
     source: &[u8],
     asked: Asked<'_>,
     form: Form,
-) -> Result<Answer, CommandError> {
+) -> Result<Answer, CommandError>
+    ensures status { IfOk result (λ answer. IsVerdict answer.status) }
+    ensures cause { IfErr result ReadsNothing }
+{
     let source = within_limit(source)?;
     match (maps_asked(alloc, source, asked.name), form) {
         (Ok(maps), Form::Records) => records_of(alloc, &maps, asked),
@@ -94,7 +111,10 @@ fn map_read<R: GivesBytes>(
     reader: &mut R,
     asked: Asked<'_>,
     form: Form,
-) -> Result<Answer, CommandError> {
+) -> Result<Answer, CommandError>
+    ensures status { IfOk result (λ answer. IsVerdict answer.status) }
+    ensures cause { ToldBy (R.failures reader.old) (R.failures reader.new) result }
+{
     let source = read_text(alloc, reader)?;
     map_text(alloc, &source, asked, form)
 }
@@ -109,7 +129,10 @@ pub fn run_map<R: GivesBytes, W: TakesBytes>(
     writer: &mut W,
     asked: Asked<'_>,
     form: Form,
-) -> Status {
+) -> Status
+    ensures { EndsSo (R.failures reader.old + W.failures writer.old)
+        (R.failures reader.new + W.failures writer.new) result }
+{
     let answer = map_read(alloc, reader, asked, form);
     finish(alloc, writer, answer)
 }

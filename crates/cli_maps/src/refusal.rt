@@ -1,5 +1,9 @@
 //! The line of a refusal.
 
+ghost use Rattle.std.specs.Prelude.{IfOk, IfErr};
+ghost use Rattle.term_commands.specs.Causes.{ReadsNothing};
+ghost use Rattle.cli_maps.specs.Ends.{IsVerdict};
+
 use bms_source::{Refusal, SourceError, Why};
 use std::alloc::{AllocError, Global};
 use term_commands::{Answer, CommandError, Status};
@@ -12,7 +16,10 @@ fn line_of(alloc: Global, refusal: &Refusal) -> Result<String, AllocError> {
 }
 
 /// What is printed for a refusal.
-pub(crate) fn refused(alloc: Global, error: SourceError) -> Result<Answer, CommandError> {
+pub(crate) fn refused(alloc: Global, error: SourceError) -> Result<Answer, CommandError>
+    ensures status { IfOk result (λ answer. IsVerdict answer.status) }
+    ensures cause { IfErr result ReadsNothing }
+{
     match error {
         SourceError::Refused(refusal) => Ok(Answer {
             text: line_of(alloc, &refusal)?,
