@@ -8,3 +8,4 @@ pub mod Statement
 pub mod Operand
 pub mod Results
 pub mod Seen
+pub mod Printed

@@ -13,6 +13,6 @@ mod words;
 
 pub use letter::{Letter, Place};
 pub use operand::{Operand, next_operand};
-pub use refusal::{Refusal, SourceError, Why};
+pub use refusal::{Refusal, SourceError, Why, push_codes};
 pub use statement::{Operation, Read, Statement, lines_of, read_statement};
 pub use words::{is_digit, is_named, is_symbol, upper, upper_word};

@@ -170,8 +170,19 @@ impl SourceError {
 }
 
 impl Refusal {
+    ghost use Rattle.std.specs.Prelude.{◌≡◌, ◌++◌, OnOk};
+    ghost use Rattle.std.specs.String.{string_bytes};
+    ghost use Rattle.bms_source.specs.Printed.{refusal_text};
+
     /// Adds `R14 UnknownOperand LEN at line 3 column 27`, without the word or the place where there is none.
-    pub fn push_text(&self, out: &mut String) -> Result<(), AllocError> {
+    ///
+    /// # Errors
+    ///
+    /// Where a request for memory was refused.
+    pub fn push_text(&self, out: &mut String) -> Result<(), AllocError>
+        ensures { OnOk result
+            (string_bytes out.new ≡ string_bytes out.old ++ refusal_text self.now) }
+    {
         out.push_str(self.why.words())?;
         push_word(out, self.word.as_slice())?;
         match self.place {
@@ -181,18 +192,38 @@ impl Refusal {
     }
 }
 
-fn push_word(out: &mut String, word: &[u8]) -> Result<(), AllocError> {
-    if word.is_empty() {
-        return Ok(());
-    }
-    out.push_str(" ")?;
-    for code in word {
+ghost use Rattle.std.specs.Prelude.{Some};
+ghost use Rattle.bms_source.specs.Printed.{printed_codes, word_text, place_text};
+
+/// Adds the characters of these codes.
+///
+/// # Errors
+///
+/// Where a request for memory was refused.
+pub fn push_codes(out: &mut String, codes: &[u8]) -> Result<(), AllocError>
+    ensures { OnOk result
+        (string_bytes out.new ≡ string_bytes out.old ++ printed_codes codes.now) }
+{
+    for code in codes {
         out.push(char::from(*code))?;
     }
     Ok(())
 }
 
-fn push_place(out: &mut String, place: Place) -> Result<(), AllocError> {
+fn push_word(out: &mut String, word: &[u8]) -> Result<(), AllocError>
+    ensures { OnOk result (string_bytes out.new ≡ string_bytes out.old ++ word_text word.now) }
+{
+    if word.is_empty() {
+        return Ok(());
+    }
+    out.push_str(" ")?;
+    push_codes(out, word)
+}
+
+fn push_place(out: &mut String, place: Place) -> Result<(), AllocError>
+    ensures { OnOk result
+        (string_bytes out.new ≡ string_bytes out.old ++ place_text (Some place)) }
+{
     let Place { line, column } = place;
     write!(out, " at line {line} column {column}")
 }
