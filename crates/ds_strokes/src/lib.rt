@@ -1,5 +1,5 @@
-//! What an operator strikes beside keys: insert mode, and the keys of the characters duplicate and field mark, above the keys of
-//! `ds_keys`.
+//! What an operator strikes beside keys: insert mode, and the keys of the characters duplicate and field mark, above those
+//! of `ds_keys`.
 #![tactic(auto)]
 
 mod controls;
