@@ -10,7 +10,7 @@ _term3270() {
     show) COMPREPLY=($(compgen -W '--format --color --layout --help' -- "$word") $(compgen -f -- "$word")) ;;
     check) COMPREPLY=($(compgen -W '--demo --records --format --map --map-name --freekb --frset --help' -- "$word") $(compgen -f -- "$word")) ;;
     talk) COMPREPLY=($(compgen -W '--help' -- "$word") $(compgen -f -- "$word")) ;;
-    press) COMPREPLY=($(compgen -W '--help' -- "$word") $(compgen -f -- "$word")) ;;
+    press) COMPREPLY=($(compgen -W '--strokes --help' -- "$word") $(compgen -f -- "$word")) ;;
     convert) COMPREPLY=($(compgen -W '--back --help' -- "$word")) ;;
     draft) COMPREPLY=($(compgen -W '--help' -- "$word")) ;;
     bind) COMPREPLY=($(compgen -W '--text --help' -- "$word") $(compgen -f -- "$word")) ;;

@@ -8,7 +8,7 @@ use std::io;
 use std::io::{Read, Write};
 use term_commands::{
     Demos, GivesBytes, Status, TakesBytes, Watched, failure, run_check, run_convert,
-    run_convert_back, run_press, run_show, run_talk,
+    run_convert_back, run_press, run_press_strokes, run_show, run_talk,
 };
 use test_words::{Row, push_word_number};
 
@@ -19,6 +19,7 @@ pub(crate) enum Command {
     Convert,
     Back,
     Press,
+    Strike,
     Check,
     Demo,
     Talk,
@@ -31,6 +32,7 @@ pub(crate) fn command_of(name: &str) -> Option<Command> {
         "convert" => Some(Command::Convert),
         "back" => Some(Command::Back),
         "press" => Some(Command::Press),
+        "strike" => Some(Command::Strike),
         "check" => Some(Command::Check),
         "demo" => Some(Command::Demo),
         "talk" => Some(Command::Talk),
@@ -51,6 +53,7 @@ fn run_with_file<R: GivesBytes, F: GivesBytes, W: TakesBytes>(
         Command::Convert => run_convert(alloc, input, writer),
         Command::Back => run_convert_back(alloc, input, writer),
         Command::Press => run_press(alloc, input, file, writer),
+        Command::Strike => run_press_strokes(alloc, input, file, writer),
         Command::Check => run_check(alloc, file, input, writer, Demos::Omitted),
         _ => run_check(alloc, file, input, writer, Demos::Printed),
     }

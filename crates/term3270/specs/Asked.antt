@@ -15,7 +15,7 @@ use Rattle.term3270.specs.declared.asked.When.TheVariants.{Auto, Always, Never}
 use Rattle.term3270.specs.declared.asked.ReportForm.{ReportForm}
 use Rattle.term3270.specs.declared.asked.ReportForm.TheVariants.{Json, Sarif}
 use Rattle.term3270.specs.declared.asked.Asked.{Asked}
-use Rattle.term3270.specs.declared.asked.Asked.TheVariants.{Show, Draw, Annotate, Undrawn, Check, Report, Talk, Press, Convert, ConvertBack, Draft, Bind, Records, Serve, Attach, Map, CheckMap, NoLayout, Unreported}
+use Rattle.term3270.specs.declared.asked.Asked.TheVariants.{Show, Draw, Annotate, Undrawn, Check, Report, Talk, Press, Strike, Convert, ConvertBack, Draft, Bind, Records, Serve, Attach, Map, CheckMap, NoLayout, Unreported}
 use Rattle.term_pictures.specs.declared.annotated.Annotated.{Annotated}
 use Rattle.term_pictures.specs.declared.annotated.Annotated.TheVariants as annotated
 use Rattle.term_pictures.specs.declared.drawing.Drawing.TheVariants as drawings
@@ -122,7 +122,8 @@ IsCheck rows asked = (is_some (first_of (codes "map") rows) ≡ true → IsMapCh
     × (is_some (first_of (codes "map") rows) ≡ false → is_some (first_of (codes "LAYOUT") rows) ≡ false → asked ≡ NoLayout)
 
 abbrev pub IsPress : List Row → Asked → Type 0
-IsPress rows (Press keys) = IsText (codes "KEYS") rows keys
+IsPress rows (Press keys) = IsText (codes "KEYS") rows keys × IsOption (codes "strokes") rows false
+IsPress rows (Strike strokes) = IsText (codes "KEYS") rows strokes × IsOption (codes "strokes") rows true
 IsPress rows _ = ⊥
 
 abbrev pub IsConvert : List Row → Asked → Type 0

@@ -58,6 +58,9 @@ pub(crate) enum Asked<'a> {
     Press {
         keys: &'a str,
     },
+    Strike {
+        strokes: &'a str,
+    },
     Convert,
     ConvertBack,
     Draft,
@@ -128,9 +131,7 @@ fn command_of<'a>(name: &str, words: &ArgMatches<'a>) -> Asked<'a>
         "show" => show_of(words),
         "check" => check_of(words),
         "talk" => Asked::Talk,
-        "press" => Asked::Press {
-            keys: text_in(words, "KEYS"),
-        },
+        "press" => press_of(words),
         "convert" => convert_of(words),
         "draft" => Asked::Draft,
         "bind" => Asked::Bind {
@@ -336,6 +337,20 @@ fn side_in(words: &ArgMatches<'_>) -> Side
         Side::Terminal
     } else {
         Side::Host
+    }
+}
+
+fn press_of<'a>(words: &ArgMatches<'a>) -> Asked<'a>
+    ensures { IsPress (rows_of (found_of words.now)) result }
+{
+    if is_given(words, "strokes") {
+        Asked::Strike {
+            strokes: text_in(words, "KEYS"),
+        }
+    } else {
+        Asked::Press {
+            keys: text_in(words, "KEYS"),
+        }
     }
 }
 

@@ -76,6 +76,8 @@ const PRESS: &str = "Input:
   Keys are one a line: 'type XX' (a code from 40 to FE), left, right, up, down, tab, backtab, newline, home,
   eraseeof, eraseinput, delete, reset, enter, clear, pf1 to pf24, pa1 to pa3. Records are in hexadecimal, one
   a line, on standard input, as for show. Empty lines and lines that begin with '#' are ignored.
+  With --strokes lines are also 'insert' (insert mode, until reset or a key that sends), 'dup' (the character 1C,
+  and then Tab) and 'fieldmark' (1E).
 
 Example:
   $ printf 'type C2\\nenter\\n' > keys
@@ -363,11 +365,18 @@ const SCREENS: &[Described<'_>] = &[
         name: "press",
         about: "Press keys on the screen that the records leave, and print what is sent",
         after_help: PRESS,
-        arguments: &[Argument {
-            name: "KEYS",
-            takes: Takes::Operand,
-            help: KEYS_HELP,
-        }],
+        arguments: &[
+            Argument {
+                name: "KEYS",
+                takes: Takes::Operand,
+                help: KEYS_HELP,
+            },
+            Argument {
+                name: "strokes",
+                takes: Takes::Nothing,
+                help: "Take the lines 'insert', 'dup' and 'fieldmark' too",
+            },
+        ],
     },
 ];
 

@@ -14,7 +14,7 @@ use std::io::{IsTerminal, Stdin, Stdout};
 use term_binds::{Form, run_bind};
 use term_commands::{
     Demos, GivesBytes, Status, Watched, run_check, run_convert, run_convert_back, run_press,
-    run_show, run_talk,
+    run_press_strokes, run_show, run_talk,
 };
 use term_drafts::run_draft;
 use term_findings::{Paths, Report, run_report};
@@ -96,6 +96,12 @@ pub(crate) fn report(
 pub(crate) fn press(rt: &HostRuntime, keys: &str) -> Status {
     let mut keys = file_at(rt, keys);
     run_press(rt.alloc(), &mut input(rt), &mut keys, &mut output(rt))
+}
+
+/// `press --strokes`, with the strokes of a file.
+pub(crate) fn strike(rt: &HostRuntime, strokes: &str) -> Status {
+    let mut strokes = file_at(rt, strokes);
+    run_press_strokes(rt.alloc(), &mut input(rt), &mut strokes, &mut output(rt))
 }
 
 /// `convert`.

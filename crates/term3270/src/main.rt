@@ -40,6 +40,7 @@ fn run(rt: &HostRuntime, asked: Asked<'_>, matches: &ArgMatches<'_>) -> Status {
         } => commands::report(rt, layout, records, form),
         Asked::Talk => commands::talk(rt, matches),
         Asked::Press { keys } => commands::press(rt, keys),
+        Asked::Strike { strokes } => commands::strike(rt, strokes),
         Asked::Convert => commands::convert(rt),
         Asked::ConvertBack => commands::convert_back(rt),
         Asked::Draft => commands::draft(rt),

@@ -29,12 +29,7 @@ heard_goes state new keys event due turns.Finishes does = ap unkeyed does
 may_ask : (c : Course TerminalRunning) → MayAsk c → MayAsk (without_keys c)
 may_ask (goes running) asks = tt
 may_ask (finishes running) asks = tt
-may_ask (fails (Bind why)) asks = tt
-may_ask (fails (Wire why)) asks = absurd asks
-may_ask (fails (Header why)) asks = absurd asks
-may_ask (fails (Session why)) asks = absurd asks
-may_ask (fails (Inbound why)) asks = absurd asks
-may_ask (fails OutOfMemory) asks = absurd asks
+may_ask (fails why) asks = absurd asks
 
 pub heard_fails : (state : TerminalState) (event : Told) (why : RunFault) (cause : Cause) → FailsAs (bare state event) why cause → FailsAs (heard_act state event) why cause
 heard_fails state event why of_memory asks = may_ask (bare state event).course asks
