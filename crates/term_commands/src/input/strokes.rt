@@ -57,7 +57,8 @@ fn line_told(line: &[u8]) -> StrokeLine
 
 /// One more stroke.
 fn add(told: &mut Strokes, stroke: Stroke) -> Result<(), CommandError>
-    ensures { Finds (λ done. strokes_seen told.new) result (one_more (strokes_seen told.old) stroke) }
+    ensures { Finds (λ done. strokes_seen told.new) result
+        (one_more (strokes_seen told.old) stroke) }
 {
     if told.strokes.len() >= MOST_STROKES {
         return Err(CommandError::Fault(Fault::TooLong));
@@ -94,7 +95,8 @@ impl TakesLines for Strokes {
 /// The strokes that the lines of a text add, or their first fault.
 fn take_strokes(alloc: Global, text: &[u8], none: Strokes) -> Result<Strokes, CommandError>
     requires { length text.now ≤ 16777216 }
-    ensures { Gives strokes_seen result (taken take_stroke 1 (strokes_seen none) (lines_in text.now)) }
+    ensures { Gives strokes_seen result
+        (taken take_stroke 1 (strokes_seen none) (lines_in text.now)) }
 {
     take_lines(alloc, text, none)
 }
