@@ -1,3 +1,4 @@
 pub mod Record
 pub mod Overlaps
 pub mod Texts
+pub mod LayoutText

@@ -1,6 +1,7 @@
 //! The maps of a source.
 
-ghost use Rattle.std.specs.Prelude.{◌≤◌, ◌<◌, ◌^◌, IfSome, length};
+ghost use Rattle.std.specs.Prelude.{◌≡◌, ◌≤◌, ◌<◌, ◌^◌, map, IfOk, IfSome, length};
+ghost use Rattle.bms_map.specs.LayoutText.{lower};
 
 use crate::field::{Field, Later, Looks};
 use crate::list::Bits;
@@ -106,7 +107,9 @@ fn name_twice(alloc: Global, statement: &Statement, name: &[u8]) -> SourceError 
 }
 
 /// A character of a layout name.
-fn lower(code: u8) -> u8 {
+fn lower(code: u8) -> u8
+    ensures { result ≡ lower code }
+{
     match code {
         b'A'..=b'Z' => code + 32,
         b'@' | b'#' | b'$' => b'_',
@@ -115,7 +118,9 @@ fn lower(code: u8) -> u8 {
 }
 
 /// The layout name of a label.
-pub(crate) fn name_of(alloc: Global, label: &[u8]) -> Result<Vec<u8>, AllocError> {
+pub(crate) fn name_of(alloc: Global, label: &[u8]) -> Result<Vec<u8>, AllocError>
+    ensures { IfOk result (λ name. name.items ≡ map lower label.now) }
+{
     label.iter().map(|code| lower(*code)).collect(alloc)
 }
 
