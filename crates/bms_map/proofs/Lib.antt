@@ -1,3 +1,4 @@
 pub mod OrderLaws
 pub mod OverlapLaws
 pub mod TextLaws
+pub mod FormedLaws

@@ -2,3 +2,4 @@ pub mod Record
 pub mod Overlaps
 pub mod Texts
 pub mod LayoutText
+pub mod Formed

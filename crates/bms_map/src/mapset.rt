@@ -1,6 +1,8 @@
 //! The maps of a source.
 
-ghost use Rattle.std.specs.Prelude.{◌≡◌, ◌≤◌, ◌<◌, ◌^◌, map, IfOk, IfSome, length};
+ghost use Rattle.std.specs.Prelude.{◌≡◌, ◌≤◌, ◌<◌, ◌^◌, ◌+◌, ℕ, drop, map, IfOk, IfSome, length};
+ghost use Rattle.bms_source.specs.Rows.{lines_in};
+ghost use Rattle.bms_map.specs.Formed.{AreFormed, end_in};
 ghost use Rattle.bms_map.specs.LayoutText.{lower};
 
 use crate::field::{Field, Later, Looks};
@@ -719,7 +721,9 @@ fn maps_of(alloc: Global, mapset: Mapset, place: Place) -> Result<Vec<Map>, Sour
 }
 
 /// Takes what stands at the front of lines; the place of END, where it is that.
-fn take_read(alloc: Global, mapset: &mut Mapset, read: Read) -> Result<Option<Place>, SourceError> {
+fn take_read(alloc: Global, mapset: &mut Mapset, read: Read) -> Result<Option<Place>, SourceError>
+    ensures { IfOk result (λ end. end ≡ end_in read) }
+{
     match read {
         Read::Passed => Ok(None),
         Read::End(place) => Ok(Some(place)),
@@ -741,9 +745,20 @@ fn nothing(alloc: Global) -> Mapset {
     }
 }
 
+/// The lines behind so many.
+fn behind<'a, 'b>(lines: &'b [&'a [u8]], count: usize) -> &'b [&'a [u8]]
+    requires { count ≤ length lines.now }
+    ensures lines { map (λ line. line.now) result.now ≡ drop count (map (λ line. line.now) lines.now) }
+    ensures count { length result.now + count ≡ length lines.now }
+{
+    lines.split_at(count).1
+}
+
 /// The maps of lines.
 fn maps_in(alloc: Global, lines: &[&[u8]]) -> Result<Vec<Map>, SourceError>
     requires { length lines.now < 2 ^ 62 }
+    ensures { IfOk result (λ maps. (steps : ℕ)
+        × AreFormed steps 1 (map (λ line. line.now) lines.now)) }
 {
     let mut mapset = nothing(alloc);
     let mut number = 1usize;
@@ -753,7 +768,7 @@ fn maps_in(alloc: Global, lines: &[&[u8]]) -> Result<Vec<Map>, SourceError>
         if let Some(place) = take_read(alloc, &mut mapset, read)? {
             return maps_of(alloc, mapset, place);
         }
-        rest = &rest[count..];
+        rest = behind(rest, count);
         number += count;
     }
     maps_of(
@@ -773,6 +788,7 @@ fn maps_in(alloc: Global, lines: &[&[u8]]) -> Result<Vec<Map>, SourceError>
 /// The first refusal; out of memory.
 pub fn read_maps(alloc: Global, text: &[u8]) -> Result<Vec<Map>, SourceError>
     requires { length text.now < 2 ^ 62 }
+    ensures { IfOk result (λ maps. (steps : ℕ) × AreFormed steps 1 (lines_in text.now)) }
 {
     let lines = lines_of(alloc, text)?;
     maps_in(alloc, lines.as_slice())
