@@ -748,7 +748,8 @@ fn nothing(alloc: Global) -> Mapset {
 /// The lines behind so many.
 fn behind<'a, 'b>(lines: &'b [&'a [u8]], count: usize) -> &'b [&'a [u8]]
     requires { count ≤ length lines.now }
-    ensures lines { map (λ line. line.now) result.now ≡ drop count (map (λ line. line.now) lines.now) }
+    ensures lines { map (λ line. line.now) result.now
+        ≡ drop count (map (λ line. line.now) lines.now) }
     ensures count { length result.now + count ≡ length lines.now }
 {
     lines.split_at(count).1
