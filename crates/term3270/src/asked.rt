@@ -2,7 +2,7 @@
 
 ghost use Rattle.std.specs.Prelude.{◌≡◌, is_some, option_map};
 ghost use Rattle.clap.specs.Words.{first_of, found_of, rows_of, subcommand_rows_of};
-ghost use Rattle.term3270.specs.Asked.{AreDemos, AsksFor, IsCheck, IsDrawn, IsForm, IsConvert, IsNumber, IsOption, IsPath, IsShow, IsSide, IsSource, IsText, IsWhen, IsWithLayout, IsMap, IsMapForm, IsMapCheck, IsLayoutCheck, AreControls};
+ghost use Rattle.term3270.specs.Asked.{AreDemos, AsksFor, IsCheck, IsDrawn, IsForm, IsConvert, IsNumber, IsOption, IsPath, IsPress, IsShow, IsSide, IsSource, IsText, IsWhen, IsWithLayout, IsMap, IsMapForm, IsMapCheck, IsLayoutCheck, AreControls};
 
 use bms_map::Control;
 use clap::ArgMatches;
