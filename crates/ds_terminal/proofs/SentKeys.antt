@@ -1,5 +1,6 @@
 -- What a key that sends leaves.
 use Rattle.std.proofs.Common.{◌≡◌, ℕ, ◌&&◌, Bool, true, false, not, cond, eqb, List, [], ◌∷◌, length, refl, sym, ◌∙◌, ap}
+use Rattle.std.specs.Prelude.{Result, Ok, Err, OnErr}
 use Rattle.std.proofs.lemmas.Bool.{eqb-true}
 use Rattle.ds_codec.specs.Aid.{is_long_aid, is_short_aid}
 use Rattle.ds_codec.specs.Character.{is_graphic}
@@ -14,7 +15,7 @@ use Rattle.ds_keys.specs.declared.pressed.Pressed.TheVariants.{Done, Inhibited, 
 use Rattle.ds_keys.specs.KeyStep.{Step, step, step_under, step_of, free_step, typed_step, erase_eof_step, delete_step, attention_step, error_step, is_sending, ignored, inhibited, sent as sends}
 use Rattle.ds_keys.specs.KeyRuns.{is_sent}
 use Rattle.ds_keys.specs.Laws.{is_clear}
-use Rattle.ds_terminal.specs.Terminal.{key_turn, key_reply, sent, pressed}
+use Rattle.ds_terminal.specs.Terminal.{key_turn, key_reply, sent, ignored as unheard, is_locked, IsSent, pressed}
 use Rattle.ds_inbound.specs.Answer.{written_answer, short_answer, bytes_sent}
 use Rattle.ds_inbound.proofs.Again.{answer_short}
 
@@ -45,6 +46,32 @@ clear_pressed v w aid byte key told bytes named is sends one clear =
     let step_is : step w (Sent aid) ≡ step_of v (Attention 0x6D) = ap (step w) (sym sends) ∙ is ∙ ap (step_of v) named in
     ap (λ (b : List ℕ). key_turn w (sent b)) (one ∙ ap (λ (b : ℕ). b ∷ []) clear ∙ sym (clear_sends v w aid step_is))
     ∙ answered_so v w (Attention 0x6D) (Sent aid) step_is
+
+-- on a keyboard that isn't free it is ignored
+clear_under : (lock : Lock) (v : Picture) → is_locked lock ≡ true → step_under lock v (Attention 0x6D) ≡ ignored v
+clear_under Free v locked = absurd cc
+clear_under Waiting v locked = refl
+clear_under Error v locked = refl
+
+pub locked_clear : (v : Picture) → is_locked v.lock ≡ true → key_turn v unheard ≡ pressed v (Attention 0x6D)
+unfolding step_of
+locked_clear v locked = ap (λ (s : Step). key_turn s.after (key_reply s.pressed s.after)) (sym (clear_under v.lock v locked))
+
+free_under : (lock : Lock) (v : Picture) → is_locked lock ≡ false
+    → IsSent (key_reply (step_under lock v (Attention 0x6D)).pressed (step_under lock v (Attention 0x6D)).after)
+unfolding free_step attention_step is_long_aid is_short_aid
+free_under Free v free = tt
+free_under Waiting v free = absurd cc
+free_under Error v free = absurd cc
+
+-- and on a free one it sends
+pub free_clear : (v : Picture) → is_locked v.lock ≡ false → IsSent (pressed v (Attention 0x6D)).reply
+unfolding step_of
+free_clear v free = free_under v.lock v free
+
+pub so_where_refused : {T E P : Type 0} (r : Result T E) → P → OnErr r P
+so_where_refused (Ok value) holds = tt
+so_where_refused (Err why) holds = holds
 
 -- ---- every other key: with the lock and the attention identifier of before it is undone
 abbrev Undoes : Picture → Step → Type 0

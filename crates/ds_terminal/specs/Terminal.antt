@@ -1,6 +1,6 @@
 -- What one record and one key do to a terminal: the picture that it shows afterwards, and what it replies. Where memory
 -- for the bytes of a reply was refused, there is no reply and the picture is as before.
-use Rattle.std.specs.Prelude.{ℕ, true, false, List, Result, Ok, Err}
+use Rattle.std.specs.Prelude.{ℕ, Bool, true, false, List, Result, Ok, Err}
 use Rattle.ds_codec.specs.declared.command.Command.{Command}
 use Rattle.ds_codec.specs.declared.command.Command.TheVariants.{ReadBuffer, ReadModified, ReadModifiedAll, NoOperation}
 use Rattle.ds_codec.specs.declared.refused.Refused as codec
@@ -8,6 +8,8 @@ use Rattle.ds_codec.specs.Order.{Site}
 use Rattle.ds_codec.specs.Record.{Message}
 use Rattle.ds_codec.specs.Reading.{read_of}
 use Rattle.ds_screen.specs.declared.effect.Effect.{Effect}
+use Rattle.ds_screen.specs.declared.lock.Lock.{Lock}
+use Rattle.ds_screen.specs.declared.lock.Lock.TheVariants.{Free, Waiting, Error}
 use Rattle.ds_screen.specs.declared.refused.Refused as screen
 use Rattle.ds_screen.specs.Picture.{Picture}
 use Rattle.ds_screen.specs.Records.{shown_of, told_of}
@@ -27,6 +29,11 @@ pub data Reply : Type 0 where
   answered : (bytes : List ℕ) → Reply
   nothing : Reply
   refused : (why : Refused) → Reply
+
+-- a read, whose answer takes memory
+abbrev pub IsAnswered : Reply → Type 0
+IsAnswered (answered bytes) = Unit {0}
+IsAnswered reply = ⊥
 
 pub record Turn : Type 0 where
   pub after : Picture
@@ -63,6 +70,17 @@ pub data KeyReply : Type 0 where
   inhibited : KeyReply
   ignored : KeyReply
   sent : (bytes : List ℕ) → KeyReply
+
+-- the keyboard takes no attention key
+abbrev pub is_locked : Lock → Bool
+is_locked Free = false
+is_locked Waiting = true
+is_locked Error = true
+
+-- a key that sends, which takes memory
+abbrev pub IsSent : KeyReply → Type 0
+IsSent (sent bytes) = Unit {0}
+IsSent reply = ⊥
 
 pub record KeyTurn : Type 0 where
   pub after : Picture

@@ -30,7 +30,7 @@ impl<C: Cells> Terminal<C> {
     ghost use Rattle.ds_codec.specs.Reading.{read_of};
     ghost use Rattle.ds_screen.specs.Records.{new_picture, RecordShows, IsRefusedBy};
     ghost use Rattle.ds_terminal.specs.Taking.{Takes};
-    ghost use Rattle.ds_terminal.specs.Terminal.{turn, received, key_turn, pressed};
+    ghost use Rattle.ds_terminal.specs.Terminal.{turn, received, IsAnswered, key_turn, pressed, IsSent};
     ghost use Rattle.ds_terminal.specs.Seen.{reply_seen, key_reply_seen};
 
     /// A new terminal of this geometry: nulls of the default size, the cursor at 0, the keyboard waiting
@@ -72,23 +72,25 @@ impl<C: Cells> Terminal<C> {
         ensures turned { IfOk result
             (λ reply. turn self.new (reply_seen reply) ≡ received self.old bytes.now) }
         ensures unchanged { OnErr result (self.new ≡ self.old) }
+        ensures asks { OnErr result (IsAnswered (received self.old bytes.now).reply) }
     {
         receive_record(alloc, &mut self.screen, bytes)
     }
 
-    /// Presses a key, and gives the bytes that it sends. Only these take memory; where it was refused, the
-    /// key isn't pressed and nothing is changed.
+    /// Presses a key, and gives the bytes that it sends. Only these take memory, so a key that sends nothing is never refused;
+    /// where memory was refused, the key isn't pressed and nothing is changed.
     pub fn press(&mut self, alloc: Global, key: Key) -> Result<KeyReply, AllocError>
         ensures turned { IfOk result
             (λ reply. key_turn self.new (key_reply_seen reply) ≡ pressed self.old key) }
         ensures unchanged { OnErr result (self.new ≡ self.old) }
+        ensures asks { OnErr result (IsSent (pressed self.old key).reply) }
     {
         press_key(alloc, &mut self.screen, key)
     }
 }
 
 ghost use Rattle.std.specs.Prelude.{◌≡◌, IfOk, OnErr};
-ghost use Rattle.ds_terminal.specs.Terminal.{turn, received};
+ghost use Rattle.ds_terminal.specs.Terminal.{turn, received, IsAnswered};
 ghost use Rattle.ds_terminal.specs.Seen.{reply_seen};
 
 /// Takes a record, on the terminal's screen.
@@ -100,6 +102,7 @@ fn receive_record<C: Cells>(
     ensures turned { IfOk result
         (λ reply. turn screen.new (reply_seen reply) ≡ received screen.old bytes.now) }
     ensures unchanged { OnErr result (screen.new ≡ screen.old) }
+    ensures asks { OnErr result (IsAnswered (received screen.old bytes.now).reply) }
 {
     let record = match read_record(screen, bytes) {
         Ok(record) => record,

@@ -92,7 +92,7 @@ takes_on starved piece result given new not_over takes = (subst IsNotOver (sym t
 waits_on : (state : TerminalState) (left : List ℕ) (key : Key) (result : Result Pressed RunFault) (given : List ℕ) (new : Talk TerminalState)
     → PressesKey state left key result given new → IsNotOver new
 waits_on state left key (Ok answer) given new (answer_is, due, is) = subst IsNotOver (sym is) tt
-waits_on state left key (Err why) given new (why_is, none, is) = subst IsNotOver (sym is) tt
+waits_on state left key (Err why) given new (why_is, none, sends, is) = subst IsNotOver (sym is) tt
 
 pub presses_on : (old : Talk TerminalState) (key : Key) (result : Result Pressed RunFault) (given : List ℕ) (new : Talk TerminalState)
     → IsNotOver old → Presses old key result given new → IsNotOver new

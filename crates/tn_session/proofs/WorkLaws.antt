@@ -74,7 +74,7 @@ starved_works (keyed key ∷ acts) given n (result, first, mid, rest, presses, l
 waits_pressed : (s : TerminalState) (l : List ℕ) (key : Key) (result : Result Pressed RunFault) (first : List ℕ) (m : At) → PressesKey s l key result first (stands m)
     → KeyOn (waits s l) key first m
 waits_pressed s l key (Ok answer) first m (answer_is, due, is) = (due, stands_same is)
-waits_pressed s l key (Err why) first m (why_is, none, is) = let clash : ◌≡◌ {A = Talk TerminalState} (stands m) starved = is in absurd cc
+waits_pressed s l key (Err why) first m (why_is, none, sends, is) = let clash : ◌≡◌ {A = Talk TerminalState} (stands m) starved = is in absurd cc
 
 key_pressed : (a m : At) (key : Key) (result : Result Pressed RunFault) (first : List ℕ) → Presses (stands a) key result first (stands m) → KeyOn a key first m
 key_pressed (waits s l) m key result first presses = waits_pressed s l key result first m presses

@@ -60,13 +60,14 @@ worked state key = worked_under (terminal_agreed state.core) state key
 abbrev pub GivesKey : TerminalState → Key → Result Pressed RunFault → List ℕ → TerminalState → Type 0
 GivesKey state key (Ok answer) given new =
     (answer ≡ (worked state key).answer) × (given ≡ (worked state key).due) × (new ≡ (worked state key).state)
-GivesKey state key (Err why) given new = (why ≡ faults.OutOfMemory) × (given ≡ [])
+GivesKey state key (Err why) given new = (why ≡ faults.OutOfMemory) × (given ≡ []) × ((worked state key).answer ≡ keyed.Sent)
 
--- where memory was refused the session is over with that
+-- Where memory was refused, which only a key that sends takes, the session is over with that.
 abbrev pub PressesKey : TerminalState → List ℕ → Key → Result Pressed RunFault → List ℕ → Talk TerminalState → Type 0
 PressesKey state left key (Ok answer) given new =
     (answer ≡ (worked state key).answer) × (given ≡ (worked state key).due) × (new ≡ stands (waits (worked state key).state left))
-PressesKey state left key (Err why) given new = (why ≡ faults.OutOfMemory) × (given ≡ []) × (new ≡ starved)
+PressesKey state left key (Err why) given new =
+    (why ≡ faults.OutOfMemory) × (given ≡ []) × ((worked state key).answer ≡ keyed.Sent) × (new ≡ starved)
 
 abbrev pub Unchanged : Talk TerminalState → Result Pressed RunFault → Result Pressed RunFault → List ℕ → Talk TerminalState → Type 0
 Unchanged old word result given new = (result ≡ word) × (given ≡ []) × (new ≡ old)

@@ -1,9 +1,10 @@
 //! The records that made the screen which is shown.
 
-ghost use Rattle.std.specs.Prelude.{◌≡◌, true, map, None, Some, OnOk, option_map, if◌then◌else◌};
+ghost use Rattle.std.specs.Prelude.{◌≡◌, true, map, None, Some, OnOk, OnErr, option_map, if◌then◌else◌};
 ghost use Rattle.tn_session.specs.Kept.{nothing_kept, has_room, one_kept, with_record, is_erase_code, is_read_code, begins_with, kept_record, kept_attention, aid_of, kept_key};
 ghost use Rattle.tn_session.specs.KeptView.{kept_view};
 ghost use Rattle.ds_terminal.specs.Seen.{reply_seen, key_reply_seen};
+ghost use Rattle.ds_terminal.specs.Terminal.{IsSent};
 
 use crate::outcome::owned;
 use ds_keys::Key;
@@ -210,7 +211,8 @@ impl KeptRecords {
         aid: Option<u8>,
         reply: &KeyReply,
     ) -> Result<(), AllocError>
-        ensures { OnOk result (self.new ≡ kept_key self.old aid (key_reply_seen reply.now)) }
+        ensures kept { OnOk result (self.new ≡ kept_key self.old aid (key_reply_seen reply.now)) }
+        ensures asks { OnErr result (IsSent (key_reply_seen reply.now)) }
     {
         match reply {
             KeyReply::Sent(_) => self.take_attention(alloc, aid),

@@ -216,6 +216,8 @@ fn press_key(
 {
     made.clear();
     let answer = state.work(alloc, made, key)?;
-    due.extend_from_slice(made)?;
+    if matches!(answer, Pressed::Sent) {
+        due.extend_from_slice(made)?;
+    }
     Ok(answer)
 }

@@ -103,8 +103,8 @@ impl TerminalSession {
     ///
     /// # Errors
     ///
-    /// The fault of a session that failed, or `OutOfMemory` where a request for memory was refused, which is then its last
-    /// word.
+    /// The fault of a session that failed, or `OutOfMemory` where a request for memory was refused, which only a key that sends
+    /// makes; it is then the session's last word.
     pub fn press(&mut self, alloc: Global, key: Key, due: &mut Vec<u8>) -> Result<Pressed, RunFault>
         ensures pressed { Adds due.old.items due.new.items (λ given.
             Presses self.old.talk key result given self.new.talk) }

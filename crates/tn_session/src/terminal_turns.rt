@@ -1,11 +1,12 @@
 //! What a record and a key do to a terminal's run.
 
-ghost use Rattle.std.specs.Prelude.{◌≡◌, ◌++◌, IfOk, OnOk};
+ghost use Rattle.std.specs.Prelude.{◌≡◌, ◌++◌, IfOk, OnOk, OnErr};
+ghost use Rattle.tn_session.specs.declared.pressed.Pressed.TheVariants.{Sent};
 ghost use Rattle.tn_session.specs.TerminalLog.{one_more, is_free, is_waiting, answer_due, after_answer, replied, received_data, key_replied, typed_key, typing};
 ghost use Rattle.tn_session.specs.Kept.{keep_record, keep_key};
 ghost use Rattle.tn_session.specs.TerminalTalk.{key_answer, worked};
 ghost use Rattle.ds_terminal.specs.Seen.{reply_seen, key_reply_seen};
-ghost use Rattle.ds_terminal.specs.Terminal.{pressed};
+ghost use Rattle.ds_terminal.specs.Terminal.{pressed, IsSent};
 
 use crate::kept::{KeptRecords, aid_of};
 use crate::pressed::Pressed;
@@ -61,7 +62,8 @@ fn keep_key(
     aid: Option<u8>,
     reply: &KeyReply,
 ) -> Result<(), AllocError>
-    ensures { OnOk result (kept.new ≡ keep_key kept.old aid (key_reply_seen reply.now)) }
+    ensures kept { OnOk result (kept.new ≡ keep_key kept.old aid (key_reply_seen reply.now)) }
+    ensures asks { OnErr result (IsSent (key_reply_seen reply.now)) }
 {
     match kept {
         Some(kept) => kept.take_key(alloc, aid, reply),
@@ -147,6 +149,7 @@ impl TerminalState {
         ensures after { OnOk result (self.new ≡ (typed_key agreed self.old key).state) }
         ensures answer { IfOk result (λ answer.
             answer ≡ key_answer (pressed self.old.terminal key).reply) }
+        ensures asks { OnErr result (IsSent (pressed self.old.terminal key).reply) }
     {
         let aid = aid_of(&key);
         let reply = self.terminal.press(alloc, key)?;
@@ -166,6 +169,7 @@ impl TerminalState {
         ensures after { OnOk result
             (self.new ≡ (key_replied agreed self.old (key_reply_seen reply)).state) }
         ensures answer { IfOk result (λ answer. answer ≡ key_answer (key_reply_seen reply)) }
+        ensures asks { OnErr result (IsSent (key_reply_seen reply)) }
     {
         match reply {
             KeyReply::Sent(bytes) => {
@@ -189,6 +193,7 @@ impl TerminalState {
             (due.new.items ≡ due.old.items ++ (worked self.old key).due) }
         ensures after { OnOk result (self.new ≡ (worked self.old key).state) }
         ensures answer { IfOk result (λ answer. answer ≡ (worked self.old key).answer) }
+        ensures asks { OnErr result ((worked self.old key).answer ≡ Sent) }
     {
         let Some(agreed) = self.core.agreed() else {
             return Ok(Pressed::Ignored);

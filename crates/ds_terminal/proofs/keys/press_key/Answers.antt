@@ -1,7 +1,8 @@
 use Rattle.std.proofs.Common.{◌≡◌, sym, ◌∙◌, subst}
-use Rattle.std.specs.Result.{IfOk}
+use Rattle.std.specs.Result.{IfOk, OnErr}
 use Rattle.ds_keys.specs.declared.key.Key.{Key}
-use Rattle.ds_terminal.specs.Terminal.{key_turn, pressed}
+use Rattle.ds_keys.specs.declared.key.Key.TheVariants.{Attention}
+use Rattle.ds_terminal.specs.Terminal.{key_turn, pressed, IsSent}
 use Rattle.ds_terminal.specs.Seen.{key_reply_seen}
 use Rattle.ds_terminal.proofs.SentKeys.{clear_is, undone}
 use Rattle.ds_terminal.proofs.keys.press_key.Goals as goal
@@ -9,7 +10,13 @@ use Rattle.ds_terminal.proofs.keys.press_key.Goals as goal
 pub returns-then-is_clear : goal.returns-then-is_clear
 returns-then-is_clear g c =
     let P : Key → Type 0 = λ key. IfOk c.press_clear.result (λ reply. key_turn c.press_clear.new.screen (key_reply_seen reply) ≡ pressed c.args.screen.now key) in
-    record { turned = subst P (sym (clear_is c.args.key (sym c.is_clear.ensures ∙ c.if-is_clear.true))) c.press_clear.ensures.turned; unchanged = c.press_clear.ensures.unchanged }
+    let Q : Key → Type 0 = λ key. OnErr c.press_clear.result (IsSent (pressed c.args.screen.now key).reply) in
+    let clear : Attention 0x6D ≡ c.args.key = sym (clear_is c.args.key (sym c.is_clear.ensures ∙ c.if-is_clear.true)) in
+    record {
+      turned = subst P clear c.press_clear.ensures.turned;
+      unchanged = c.press_clear.ensures.unchanged;
+      asks = subst Q clear c.press_clear.ensures.asks;
+    }
 
 pub returns-in-Err-clause-unchanged : goal.returns-in-Err-clause-unchanged
 returns-in-Err-clause-unchanged g c =
