@@ -36,7 +36,8 @@ enum {
   TAKVORN_DONE = 0,
   /* The text is findings, of takvorn_check, takvorn_check_json, takvorn_talk or takvorn_draft, a line each. */
   TAKVORN_FINDINGS = 1,
-  /* The text is one line, the first fault of the inputs; or answers of takvorn_bind, not all of which are bound. */
+  /* The text is one line, the first fault of the inputs; or answers of takvorn_bind, not all of which are bound; or of
+   * takvorn_records what came before the fault, and its line. */
   TAKVORN_BAD_INPUT = 2,
   /* A request for memory was refused; no text. */
   TAKVORN_NO_MEMORY = 4
@@ -74,6 +75,17 @@ int32_t takvorn_show_colored(const uint8_t *records, size_t records_length, uint
 int32_t takvorn_show_json(const uint8_t *records, size_t records_length, uint8_t *out, size_t out_length,
                           size_t *needed);
 
+/* The screen that keys leave, one a line, pressed in turn on the one that the records leave; as a line of JSON, or as a
+ * drawing in SVG. What the keys send is takvorn_press's. */
+int32_t takvorn_show_pressed(const uint8_t *records, size_t records_length, const uint8_t *keys, size_t keys_length,
+                             bool json, uint8_t *out, size_t out_length, size_t *needed);
+
+/* Which order of the records wrote last at each position of a terminal of the layout's sizes: a line for each position of
+ * the larger size, the record and the byte of it at which the order begins, both counted from 0, or `-` where no order
+ * wrote. Records are taken up to the first against which something stands. */
+int32_t takvorn_origins(const uint8_t *layout, size_t layout_length, const uint8_t *records, size_t records_length,
+                        uint8_t *out, size_t out_length, size_t *needed);
+
 /* `yes`, or a line for each finding that stands against the records and the layout, which is TOML. With `demos` a line
  * `sends` and hexadecimal digits follows each finding that has keys: what the terminal sends once they are pressed. */
 int32_t takvorn_check(const uint8_t *layout, size_t layout_length, const uint8_t *records, size_t records_length,
@@ -110,6 +122,12 @@ int32_t takvorn_draft(const uint8_t *records, size_t records_length, uint8_t *ou
  * or with `text` their characters. */
 int32_t takvorn_bind(const uint8_t *layout, size_t layout_length, const uint8_t *answers, size_t answers_length,
                      bool text, uint8_t *out, size_t out_length, size_t *needed);
+
+/* The records of a session: of a trace of x3270, s3270 or c3270, or with `stream` of bytes that were captured, in
+ * hexadecimal; the host's or, with `answers`, the terminal's. After TAKVORN_BAD_INPUT the text goes up to the line that is
+ * refused or has a fault, and tells it. A line has at most TAKVORN_MOST_BYTES; there is no other limit. */
+int32_t takvorn_records(const uint8_t *trace, size_t trace_length, bool stream, bool answers, uint8_t *out,
+                        size_t out_length, size_t *needed);
 
 #ifdef __cplusplus
 }

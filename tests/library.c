@@ -55,6 +55,7 @@ static takvorn_text contents(FILE *file) {
 static bool is_form(const char *option, const char *value) {
   bool is_show = !strcmp(command, "show");
   if (is_show && !strcmp(option, "--color") && !strcmp(value, "always")) return form = "color", true;
+  if (!strcmp(command, "records")) return !strcmp(option, "--from") && (!strcmp(value, "trace") || !strcmp(value, "stream")) ? (form = value, true) : false;
   if (strcmp(option, "--format")) return false;
   if (!strcmp(value, "text") || (!strcmp(value, "json") && (is_show || !strcmp(command, "check")))) return form = value, true;
   return is_show && (!strcmp(value, "svg") || !strcmp(value, "html")) ? (form = value, true) : false;
@@ -69,7 +70,8 @@ static bool take_words(int count, char **words) {
       i++;
       continue;
     }
-    const char *taken = !strcmp(command, "check") ? "--demo" : !strcmp(command, "convert") ? "--back" : !strcmp(command, "bind") ? "--text" : "";
+    const char *taken = !strcmp(command, "check") ? "--demo" : !strcmp(command, "convert") ? "--back" : !strcmp(command, "bind") ? "--text" : !strcmp(command, "records") ? "--answers"
+                        : !strcmp(command, "pressed") ? "--json" : "";
     if (words[i][0] == '-') {
       if (is_flagged || strcmp(words[i], taken)) return false;
       is_flagged = flag = true;
@@ -81,9 +83,9 @@ static bool take_words(int count, char **words) {
       fclose(file);
     }
   }
-  size_t wanted = !strcmp(command, "check") || !strcmp(command, "bind") || !strcmp(command, "press") ? 1 : 0;
+  size_t wanted = !strcmp(command, "check") || !strcmp(command, "bind") || !strncmp(command, "press", 5) || !strcmp(command, "origins") ? 1 : 0;
   if (!strcmp(command, "talk")) return file_count > 0;
-  return file_count == wanted && (wanted || !strcmp(command, "show") || !strcmp(command, "convert") || !strcmp(command, "draft"));
+  return file_count == wanted && (wanted || !strcmp(command, "show") || !strcmp(command, "convert") || !strcmp(command, "draft") || !strcmp(command, "records"));
 }
 
 static int call(uint8_t *out, size_t room, size_t *needed) {
@@ -94,7 +96,11 @@ static int call(uint8_t *out, size_t room, size_t *needed) {
             : *form == 'j' ? takvorn_show_json : takvorn_show)(r->bytes, r->length, out, room, needed);
   case 'd': return takvorn_draft(r->bytes, r->length, out, room, needed);
   case 't': return takvorn_talk(files, file_count, r->bytes, r->length, out, room, needed);
-  case 'p': return takvorn_press(r->bytes, r->length, f->bytes, f->length, out, room, needed);
+  case 'o': return takvorn_origins(f->bytes, f->length, r->bytes, r->length, out, room, needed);
+  case 'r': return takvorn_records(r->bytes, r->length, *form == 's', flag, out, room, needed);
+  case 'p':
+    if (!strcmp(command, "pressed")) return takvorn_show_pressed(r->bytes, r->length, f->bytes, f->length, flag, out, room, needed);
+    return takvorn_press(r->bytes, r->length, f->bytes, f->length, out, room, needed);
   case 'b': return takvorn_bind(f->bytes, f->length, r->bytes, r->length, flag, out, room, needed);
   }
   if (!strcmp(command, "check") && *form == 'j') return takvorn_check_json(f->bytes, f->length, r->bytes, r->length, out, room, needed);

@@ -53,7 +53,7 @@ fi
 # ---- the golden cases
 left_out=0
 for folder in "$root"/tests/cases/show "$root"/tests/cases/check "$root"/tests/cases/talk "$root"/tests/cases/press \
-  "$root"/tests/cases/convert "$root"/tests/cases/convert_back "$root"/tests/cases/draft "$root"/tests/cases/bind; do
+  "$root"/tests/cases/convert "$root"/tests/cases/convert_back "$root"/tests/cases/draft "$root"/tests/cases/bind "$root"/tests/cases/records; do
   for case in "$folder"/*/; do
     name=${case#"$root"/tests/cases/}
     rm -rf "$work/in" && cp -r "$case" "$work/in"
@@ -81,6 +81,25 @@ for folder in "$root"/tests/cases/show "$root"/tests/cases/check "$root"/tests/c
     fi
   done
 done
+
+# ---- what no command prints: the screen that keys leave, which is that of the records where there is none, and orders by position
+call() { (cd "$root/examples" && "$work/library" answer "$@" < signon.hex); }
+: > "$work/none"
+printf 'type C1\n' > "$work/one"
+for form in svg json; do
+  [ $form = json ] && flag=--json || flag=
+  call show --format $form > "$work/shown"
+  # shellcheck disable=SC2086
+  call pressed "$work/none" $flag > "$work/stdout"
+  if cmp -s "$work/shown" "$work/stdout"; then good; else bad "the screen without keys isn't that of show, as $form"; fi
+done
+# After Set Buffer Address 4, 19 stands the input at 258: A is its first character, the cursor one on, and the tag is set.
+pressed=$(call pressed "$work/one" --json | grep -o '"cursor":260\|"at":258,"attribute":"01"\|USERID@A\.')
+[ "$(echo "$pressed" | wc -l)" = 3 ] && good || bad "the screen after a key: $pressed"
+# The title's attribute stands at 29, written by the Start Field at byte 5 of record 0; its text begins at byte 7; the cursor's
+# place 259 was written by no order.
+origins=$(call origins signon.toml | sed -n '30p;31p;260p;$=' | tr '\n' ',')
+[ "$origins" = '0 5,0 7,-,1920,' ] && good || bad "the orders by position: $origins"
 
 [ $left_out = 0 ] || echo "$left_out golden cases left out, which are about the command line or a missing file"
 
@@ -134,6 +153,11 @@ signon.hex press $work/keys
 first.hex convert
 $work/lines convert --back
 signon.hex draft
+signon.hex pressed $work/keys
+signon.hex pressed $work/keys --json
+signon.hex origins signon.toml
+session.trc records
+session.trc records --answers
 $work/answers bind signon.toml
 $work/answers bind signon.toml --text
 END

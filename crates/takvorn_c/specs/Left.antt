@@ -4,8 +4,17 @@ use Rattle.term_binds.specs.declared.fields.Form.{Form}
 use Rattle.term_binds.specs.declared.fields.Form.TheVariants.{Hexadecimal, Text}
 use Rattle.term_commands.specs.declared.output.demo.Demos.{Demos}
 use Rattle.term_commands.specs.declared.output.demo.Demos.TheVariants.{Omitted, Printed as PrintedDemos}
-use Rattle.term_commands.specs.Printed.{Printed}
+use Rattle.term_commands.specs.declared.status.Status.{Status}
+use Rattle.term_commands.specs.Printed.{Printed, printed}
 use Rattle.term_commands.specs.Status.{code_of}
+use Rattle.term_pictures.specs.declared.drawing.Drawing.{Drawing}
+use Rattle.term_pictures.specs.declared.drawing.Drawing.TheVariants.{Json, Svg}
+use Rattle.term_traces.specs.declared.asked.Asked.{Asked}
+use Rattle.term_traces.specs.declared.asked.Source.{Source}
+use Rattle.term_traces.specs.declared.asked.Source.TheVariants.{Trace, Stream}
+use Rattle.term_traces.specs.Told.{TellsRecords}
+use Rattle.tn_traces.specs.declared.line.Side.{Side}
+use Rattle.tn_traces.specs.declared.line.Side.TheVariants.{Host, Terminal}
 
 -- what fits of a text is written from the buffer's first byte on, and the rest of the buffer stays
 abbrev pub laid_over : List ℕ → List ℕ → List ℕ
@@ -22,7 +31,30 @@ IsRefused old new needed status = (new ≡ old) × (needed ≡ 0) × (status ≡
 abbrev pub Leaves : Printed → List ℕ → List ℕ → ℕ → ℤ → Type 0
 Leaves due old new needed status = IsTold due old new needed status ⊎ IsRefused old new needed status
 
+-- what `records` tells of a text
+abbrev pub LeavesRecords : Asked → List ℕ → List ℕ → List ℕ → ℕ → ℤ → Type 0
+LeavesRecords asked input old new needed status =
+    ((text : List ℕ) × (ends : Status) × TellsRecords asked input text ends × IsTold (printed text ends) old new needed status)
+    ⊎ IsRefused old new needed status
+
 -- ---- flags
+
+-- a line of JSON where that is asked for, else a drawing
+abbrev pub drawing_of : Bool → Drawing
+drawing_of true = Json
+drawing_of false = Svg
+
+-- a captured stream where that is said, else a trace; the terminal's side where its answers are asked for, else the host's
+abbrev pub source_of : Bool → Source
+source_of true = Stream
+source_of false = Trace
+
+abbrev pub side_of : Bool → Side
+side_of true = Terminal
+side_of false = Host
+
+abbrev pub asked_of : Bool → Bool → Asked
+asked_of stream answers = record { source = source_of stream; side = side_of answers }
 
 -- demos are printed where they are asked for
 abbrev pub demos_of : Bool → Demos

@@ -1,14 +1,17 @@
 //! What a call leaves to C: a buffer, a length and a status.
 
-ghost use Rattle.std.specs.Prelude.{◌≡◌, pos, Result};
+ghost use Rattle.std.specs.Prelude.{◌≡◌, ℕ, List, pos, Result, IfOk};
 ghost use Rattle.term_commands.specs.declared.fault.Fault.{Fault};
 ghost use Rattle.term_commands.specs.Fault.{Gives, GivesOrFails};
 ghost use Rattle.term_commands.specs.Held.{answer_seen};
 ghost use Rattle.term_commands.specs.Printed.{Printed, printed_or_fault};
-ghost use Rattle.takvorn_c.specs.Left.{laid_over, IsTold, Leaves};
+ghost use Rattle.term_traces.specs.declared.asked.Asked.{Asked};
+ghost use Rattle.term_traces.specs.Told.{TellsRecords};
+ghost use Rattle.takvorn_c.specs.Left.{laid_over, IsTold, Leaves, LeavesRecords};
 
-use std::alloc::Global;
+use std::alloc::{AllocError, Global};
 use term_commands::{Answer, CommandError, Status, printed};
+use term_traces::Told;
 
 /// Lays a text over a buffer, as far as it fits.
 fn lay(out: &mut [u8], text: &[u8])
@@ -46,6 +49,29 @@ pub fn leave(
 {
     match printed(alloc, answer) {
         Ok(told) => tell(out, needed, &told),
+        Err(_) => {
+            *needed = 0;
+            Status::NoMemory.code()
+        }
+    }
+}
+
+/// Leaves what `records` tells of a text; or nothing, where memory was refused.
+pub fn leave_records(
+    told: Result<Told, AllocError>,
+    out: &mut [u8],
+    needed: &mut usize,
+) -> u8
+    ensures { (asked : Asked) (input : List ℕ)
+        → IfOk told (λ told. TellsRecords asked input told.text.items told.status)
+        → LeavesRecords asked input out.old out.new needed.new (pos result) }
+{
+    match told {
+        Ok(told) => {
+            lay(out, told.text.as_slice());
+            *needed = told.text.len();
+            told.status.code()
+        }
         Err(_) => {
             *needed = 0;
             Status::NoMemory.code()

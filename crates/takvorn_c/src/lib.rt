@@ -11,21 +11,25 @@ ghost use Rattle.term_commands.specs.Press.{printed_press};
 ghost use Rattle.term_commands.specs.Show.{printed_show};
 ghost use Rattle.term_commands.specs.Talk.{printed_talk};
 ghost use Rattle.term_drafts.specs.Draft.{printed_draft};
+ghost use Rattle.term_findings.specs.Origins.{printed_origins};
 ghost use Rattle.term_findings.specs.Report.{printed_report};
 ghost use Rattle.term_pictures.specs.Picture.{printed_picture};
-ghost use Rattle.takvorn_c.specs.Left.{Leaves, demos_of, form_of};
+ghost use Rattle.term_pictures.specs.Pressed.{printed_pressed};
+ghost use Rattle.takvorn_c.specs.Left.{Leaves, LeavesRecords, asked_of, demos_of, drawing_of, form_of};
 
 mod left;
 
-use left::leave;
+use left::{leave, leave_records};
 use std::alloc::Global;
 use term_binds::{Form, bind_texts};
 use term_commands::{
     Demos, check_texts, convert_back_text, convert_text, press_texts, show_text, talk_texts,
 };
 use term_drafts::draft_text;
-use term_findings::{Report, report_texts};
-use term_pictures::{Drawing, picture_text};
+use term_findings::{Report, origins_text, report_texts};
+use term_pictures::{Drawing, picture_text, pressed_text};
+use term_traces::{Asked, Source, records_text};
+use tn_traces::Side;
 
 fn demos_of(printed: bool) -> Demos
     ensures { result ≡ demos_of printed }
@@ -41,6 +45,24 @@ fn form_of(text: bool) -> Form
     ensures { result ≡ form_of text }
 {
     if text { Form::Text } else { Form::Hexadecimal }
+}
+
+fn drawing_of(json: bool) -> Drawing
+    ensures { result ≡ drawing_of json }
+{
+    if json { Drawing::Json } else { Drawing::Svg }
+}
+
+fn asked_of(stream: bool, answers: bool) -> Asked
+    ensures { result ≡ asked_of stream answers }
+{
+    let source = if stream {
+        Source::Stream
+    } else {
+        Source::Trace
+    };
+    let side = if answers { Side::Terminal } else { Side::Host };
+    Asked { source, side }
 }
 
 /// `show`: the screen that records leave.
@@ -232,4 +254,51 @@ pub extern "C" fn takvorn_bind(
 {
     let answer = bind_texts(alloc, layout, answers, form_of(text));
     i32::from(leave(alloc, answer, out, needed))
+}
+
+/// The screen that keys leave, pressed in turn on the one that records leave: as a line of JSON, or as a drawing in SVG.
+#[unsafe(no_mangle)]
+pub extern "C" fn takvorn_show_pressed(
+    alloc: Global,
+    records: &[u8],
+    keys: &[u8],
+    json: bool,
+    out: &mut [u8],
+    needed: &mut usize,
+) -> i32
+    ensures { Leaves (printed_pressed (drawing_of json) records.now keys.now) out.old out.new
+        needed.new result }
+{
+    let answer = pressed_text(alloc, drawing_of(json), records, keys);
+    i32::from(leave(alloc, answer, out, needed))
+}
+
+/// Which order of the records wrote last at each position.
+#[unsafe(no_mangle)]
+pub extern "C" fn takvorn_origins(
+    alloc: Global,
+    layout: &[u8],
+    records: &[u8],
+    out: &mut [u8],
+    needed: &mut usize,
+) -> i32
+    ensures { Leaves (printed_origins layout.now records.now) out.old out.new needed.new result }
+{
+    i32::from(leave(alloc, origins_text(alloc, layout, records), out, needed))
+}
+
+/// `records`: the records of a side of a session that was traced, or captured as a stream.
+#[unsafe(no_mangle)]
+pub extern "C" fn takvorn_records(
+    alloc: Global,
+    trace: &[u8],
+    stream: bool,
+    answers: bool,
+    out: &mut [u8],
+    needed: &mut usize,
+) -> i32
+    ensures { LeavesRecords (asked_of stream answers) trace.now out.old out.new needed.new result }
+{
+    let told = records_text(alloc, asked_of(stream, answers), trace);
+    i32::from(leave_records(told, out, needed))
 }

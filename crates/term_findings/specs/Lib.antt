@@ -1,5 +1,6 @@
 pub mod Rule
 pub mod Name
+pub mod Origins
 pub mod Facts
 pub mod FieldName
 pub mod Help

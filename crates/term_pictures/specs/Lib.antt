@@ -4,6 +4,7 @@ pub mod Html
 pub mod Colored
 pub mod Json
 pub mod Picture
+pub mod Pressed
 pub mod Marks
 pub mod Annotated
 pub mod Laws

@@ -11,6 +11,7 @@ mod look;
 mod marks;
 mod notes;
 mod picture;
+mod pressed;
 mod seen;
 mod svg;
 
@@ -18,3 +19,4 @@ pub use annotated::{Annotated, annotated_text, run_annotated};
 pub use drawing::Drawing;
 pub use law::{drawing_law, looks_law, names_law};
 pub use picture::{picture_text, run_picture};
+pub use pressed::pressed_text;

@@ -37,7 +37,7 @@ fn drawn(alloc: Global, drawing: Drawing, screen: &Screen<PlaneCells>) -> Result
 }
 
 /// What is printed of a screen in a form.
-fn drawn_answer(
+pub(crate) fn drawn_answer(
     alloc: Global,
     drawing: Drawing,
     screen: &Screen<PlaneCells>,

@@ -6,3 +6,4 @@ pub mod Printed
 pub mod Reading
 pub mod Taking
 pub mod Text
+pub mod Told

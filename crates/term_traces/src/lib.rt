@@ -10,7 +10,9 @@ mod piece;
 mod run;
 mod spelled;
 mod text;
+mod told;
 
 pub use asked::{Asked, Source};
 pub use law::{pieces_law, text_law};
 pub use run::run_records;
+pub use told::{Told, records_text};

@@ -1,0 +1,53 @@
+// What somebody works on, and its form in the fragment of the page's address: nothing of it leaves the page.
+
+/** @typedef {{records: string, layouts: string[], keys: string[], step: number | null, map: string}} State */
+
+export const EMPTY = Object.freeze({ records: "", layouts: [""], keys: [], step: null, map: "" });
+
+/**
+ * Bytes through a stream of the browser's own.
+ * @param {Uint8Array} bytes
+ * @param {GenericTransformStream} coder
+ */
+async function through(bytes, coder) {
+  const stream = new Blob([bytes]).stream().pipeThrough(coder);
+  return new Uint8Array(await new Response(stream).arrayBuffer());
+}
+
+/** @param {Uint8Array} bytes */
+function toLetters(bytes) {
+  let letters = "";
+  bytes.forEach((byte) => (letters += String.fromCharCode(byte)));
+  return btoa(letters).replace(/\+/g, "-").replace(/\//g, "_").replace(/=+$/, "");
+}
+
+/** @param {string} letters */
+const fromLetters = (letters) => Uint8Array.from(atob(letters.replace(/-/g, "+").replace(/_/g, "/")), (letter) => letter.charCodeAt(0));
+
+/**
+ * The fragment of a state, `#1` and its letters.
+ * @param {State} state
+ */
+export async function toFragment(state) {
+  const bytes = new TextEncoder().encode(JSON.stringify(state));
+  return `#1${toLetters(await through(bytes, new CompressionStream("deflate-raw")))}`;
+}
+
+/**
+ * The state that a fragment tells; none where it tells none.
+ * @param {string} fragment
+ * @returns {Promise<State | null>}
+ */
+export async function fromFragment(fragment) {
+  if (!fragment.startsWith("#1")) return null;
+  try {
+    const bytes = await through(fromLetters(fragment.slice(2)), new DecompressionStream("deflate-raw"));
+    const told = JSON.parse(new TextDecoder().decode(bytes));
+    const isText = (/** @type {unknown} */ value) => typeof value === "string";
+    const isTexts = (/** @type {unknown} */ value) => Array.isArray(value) && value.every(isText);
+    const isState = isText(told.records) && isText(told.map) && isTexts(told.layouts) && isTexts(told.keys);
+    return isState ? { ...EMPTY, ...told, step: Number.isInteger(told.step) ? told.step : null } : null;
+  } catch {
+    return null;
+  }
+}
