@@ -28,8 +28,11 @@ pub mod GeometryLaws
 pub mod TalkKeeps
 pub mod AnyKeys
 pub mod AnyTalk
+pub mod PenLaws
+pub mod PenVerdict
 pub mod OwnTalk
 pub mod AnyRows
+pub mod PenRows
 pub mod OriginLaws
 pub mod Rows
 pub mod TracedLaws

@@ -34,7 +34,7 @@ pub promise_of : (layout : Declaration) (records : List (List ℕ)) (opened : Pi
 promise_of layout records opened opens sound clean =
     keeps_promise layout opened (opened_so layout records opened opens sound) clean
 
-clean_promised : (layout : Declaration) (records : List (List ℕ)) (opened : Picture) → opening_of layout records ≡ Ok opened → IsSound opened
+pub clean_promised : (layout : Declaration) (records : List (List ℕ)) (opened : Picture) → opening_of layout records ≡ Ok opened → IsSound opened
     → findings_of layout opened ≡ [] → IsPromised layout records
 clean_promised layout records opened opens sound clean =
     record {
@@ -53,16 +53,20 @@ pub yes_promised : (layout : Declaration) (records : List (List ℕ)) (r : Resul
 yes_promised layout records r verdict opens sound listed is =
     told_promised layout records r (sym opens) sound (sym listed ∙ ap findings_in is)
 
-told_for_any : (layout : Declaration) (records : List (List ℕ)) (r : Result Picture Finding) → opening_of layout records ≡ r → IfOk r IsSound → told layout r ≡ [] → IsPromisedForAny layout records
-told_for_any layout records (Err finding) opens sound none = absurd cc
-told_for_any layout records (Ok opened) opens sound none =
+pub clean_for_any : (layout : Declaration) (records : List (List ℕ)) (opened : Picture) → opening_of layout records ≡ Ok opened → IsSound opened
+    → findings_of layout opened ≡ [] → IsPromisedForAny layout records
+clean_for_any layout records opened opens sound clean =
     record {
       opened = opened;
       opens = opens;
       anywhere = leads_from_every layout records opened opens;
       sound = sound;
-      promise = answers_for_any layout opened (opened_so layout records opened opens sound) none;
+      promise = answers_for_any layout opened (opened_so layout records opened opens sound) clean;
     }
+
+told_for_any : (layout : Declaration) (records : List (List ℕ)) (r : Result Picture Finding) → opening_of layout records ≡ r → IfOk r IsSound → told layout r ≡ [] → IsPromisedForAny layout records
+told_for_any layout records (Err finding) opens sound none = absurd cc
+told_for_any layout records (Ok opened) opens sound none = clean_for_any layout records opened opens sound none
 
 pub yes_for_any : (layout : Declaration) (records : List (List ℕ)) (r : Result Picture Finding) (verdict : Verdict) → r ≡ opening_of layout records → IfOk r IsSound
     → findings_in verdict ≡ told layout r → verdict ≡ Yes → IsPromisedForAny layout records

@@ -6,7 +6,7 @@ use Rattle.scr_layout.specs.Entry.{Declared}
 use Rattle.scr_check.specs.declared.finding.Demo.{Demo}
 use Rattle.scr_check.specs.declared.finding.Overlong.{Overlong}
 use Rattle.scr_check.specs.declared.finding.Finding.{Finding}
-use Rattle.scr_check.specs.declared.finding.Finding.TheVariants.{RecordRefused, NoRecord, FirstNotErase, NotAWrite, KeyboardLocked, OtherSize, Unformatted, Undeclared, UndeclaredFixed, Missing, TooLong, OtherKind, EmptyModified, CursorDependent}
+use Rattle.scr_check.specs.declared.finding.Finding.TheVariants.{RecordRefused, NoRecord, FirstNotErase, NotAWrite, KeyboardLocked, OtherSize, Unformatted, Undeclared, UndeclaredFixed, Missing, TooLong, OtherKind, EmptyModified, CursorDependent, Selectable}
 
 -- the number behind the F of a finding's line
 abbrev pub finding_number : Finding → ℕ
@@ -24,6 +24,7 @@ finding_number (TooLong found) = 11
 finding_number (OtherKind index) = 12
 finding_number (EmptyModified place) = 13
 finding_number (CursorDependent index) = 14
+finding_number (Selectable place) = 15
 
 -- the keys that show a finding
 abbrev pub demo_of : Finding → Option Demo
@@ -75,3 +76,4 @@ finding_text entries (TooLong found) = overlong_text (name_at entries found.entr
 finding_text entries (OtherKind index) = other_kind_text (name_at entries index)
 finding_text entries (EmptyModified place) = codes "F13 empty modified field at " ++ decimal place
 finding_text entries (CursorDependent index) = codes "F14 record " ++ (decimal index ++ codes " depends on the cursor")
+finding_text entries (Selectable place) = codes "F15 selectable at " ++ decimal place

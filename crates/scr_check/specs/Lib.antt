@@ -9,6 +9,7 @@ pub mod Promise
 pub mod Leads
 pub mod Any
 pub mod Demos
+pub mod Pen
 pub mod FindingText
 pub mod BindFaultText
 pub mod Walk

@@ -9,7 +9,7 @@ use Rattle.ds_screen.specs.Fields.{field_there}
 use Rattle.scr_layout.specs.Entry.{Declared}
 use Rattle.scr_layout.specs.Layout.{Declaration}
 use Rattle.scr_check.specs.declared.finding.Finding.{Finding}
-use Rattle.scr_check.specs.declared.finding.Finding.TheVariants.{Undeclared, UndeclaredFixed, Missing, TooLong, OtherKind, EmptyModified}
+use Rattle.scr_check.specs.declared.finding.Finding.TheVariants.{Undeclared, UndeclaredFixed, Missing, TooLong, OtherKind, EmptyModified, Selectable}
 use Rattle.scr_check.specs.declared.origins.Origin.{Origin}
 use Rattle.scr_check.specs.declared.traced.Traced.{Traced}
 use Rattle.scr_check.specs.Opening.{opening_of}
@@ -29,6 +29,7 @@ abbrev pub place_found : List Declared → Finding → Option ℕ
 place_found entries (Undeclared place demo) = Some place
 place_found entries (UndeclaredFixed place demo) = Some place
 place_found entries (EmptyModified place) = Some place
+place_found entries (Selectable place) = Some place
 place_found entries (Missing index) = entry_place entries index
 place_found entries (OtherKind index) = entry_place entries index
 place_found entries (TooLong found) = entry_place entries found.entry

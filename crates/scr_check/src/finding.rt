@@ -59,10 +59,13 @@ pub enum Finding {
     EmptyModified(u32),
     /// F14: this record of a later turn of a dialogue writes where the operator left the cursor. `check` never tells it.
     CursorDependent(usize),
+    /// F15: selecting the field at this place, by Cursor Select or a light pen, changes a protected field or sets the tag of one
+    /// without cells. Told only where the pen is asked for.
+    Selectable(u32),
 }
 
 impl Finding {
-    /// The number that stands behind the F of its line, 1 to 14.
+    /// The number that stands behind the F of its line, 1 to 15.
     pub fn number(&self) -> u8
         ensures { result ≡ finding_number self.now }
     {
@@ -81,6 +84,7 @@ impl Finding {
             Finding::OtherKind(_) => 12,
             Finding::EmptyModified(_) => 13,
             Finding::CursorDependent(_) => 14,
+            Finding::Selectable(_) => 15,
         }
     }
 

@@ -107,6 +107,13 @@ fn push_empty(out: &mut String, place: u32) -> Result<(), AllocError>
     write!(out, "F13 empty modified field at {place}")
 }
 
+fn push_selectable(out: &mut String, place: u32) -> Result<(), AllocError>
+    ensures { OnOk result (string_bytes out.new
+        ≡ string_bytes out.old ++ finding_text [] (Finding.Selectable place)) }
+{
+    write!(out, "F15 selectable at {place}")
+}
+
 impl Finding {
     ghost use Rattle.std.specs.Prelude.{◌≡◌, ◌++◌, OnOk};
     ghost use Rattle.std.specs.String.{string_bytes};
@@ -139,6 +146,7 @@ impl Finding {
             Finding::CursorDependent(index) => {
                 push_record(out, "F14 record ", index, " depends on the cursor")
             }
+            Finding::Selectable(place) => push_selectable(out, place),
         }
     }
 }

@@ -3,6 +3,7 @@
 ghost use Rattle.scr_check.specs.Bindable.{BindsExactly};
 ghost use Rattle.scr_check.specs.Any.{LeavesInSteps, OwnKeysArePromised, OwnKeysLeave, YesMeansForAny};
 ghost use Rattle.scr_check.specs.Leads.{YesMeans};
+ghost use Rattle.scr_check.specs.Pen.{SelectingLeaves, YesMeansWithPen};
 
 /// An answer is bound exactly where no characters stand before its first field, each field's place is an
 /// entry's that declares no fewer characters, and no entry comes twice; and it is bound to one pair for each
@@ -31,4 +32,12 @@ pub fn own_keys_law()
     ensures steps { LeavesInSteps }
     ensures keys { OwnKeysLeave }
     ensures promised { OwnKeysArePromised }
+{}
+
+/// What a yes means for any terminal that has Cursor Select or a light pen, where the pen was asked for: on what an operator
+/// left and then selected, in whatever order, what is protected still stands, so it is what an operator can leave; and Enter and
+/// each PF key send its modified fields, each as it is declared.
+pub fn pen_law()
+    ensures leaves { SelectingLeaves }
+    ensures promised { YesMeansWithPen }
 {}

@@ -21,7 +21,7 @@ use std::alloc::{AllocError, Global};
 #[derive(Clone, Copy, Debug, PartialEq, Eq)]
 pub struct Traced {
     pub finding: Finding,
-    /// The order that wrote last where the attribute of the finding's field stands, or is missing: F8 to F13.
+    /// The order that wrote last where the attribute of the finding's field stands, or is missing: F8 to F13, and F15.
     pub origin: Option<Origin>,
     /// The order that wrote last where the attribute stands that ends the field.
     pub end: Option<Origin>,
@@ -52,7 +52,8 @@ fn place_found(entries: &[Entry], finding: &Finding) -> Option<u32>
     match finding {
         Finding::Undeclared(place, _)
         | Finding::UndeclaredFixed(place, _)
-        | Finding::EmptyModified(place) => Some(*place),
+        | Finding::EmptyModified(place)
+        | Finding::Selectable(place) => Some(*place),
         Finding::Missing(index) | Finding::OtherKind(index) => entry_place(entries, *index),
         Finding::TooLong(found) => entry_place(entries, found.entry),
         _ => None,

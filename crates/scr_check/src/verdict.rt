@@ -23,7 +23,7 @@ pub enum Verdict {
     No(Vec<Finding>),
 }
 
-fn verdict_of(findings: Vec<Finding>) -> Verdict
+pub(crate) fn verdict_of(findings: Vec<Finding>) -> Verdict
     ensures listed { findings_in result ≡ findings.items }
     ensures yes { result ≡ Verdict.Yes ↔ findings.items ≡ [] }
     ensures some { TellsSome result }

@@ -28,3 +28,4 @@ pub mod ToldRecords
 pub mod ToldDrafts
 pub mod DemoNeeds
 pub mod Turned
+pub mod OwnStrokes

@@ -17,6 +17,7 @@ use Rattle.scr_check.specs.declared.finding.Finding.TheVariants.{FirstNotErase, 
 use Rattle.scr_check.specs.Opening.{erases, writes, unless_found, applied, taken, taken_from, is_free, is_size, is_none_of, ready, opening_of}
 use Rattle.scr_check.specs.Findings.{findings_of, told, answer_of}
 use Rattle.scr_check.specs.FindingText.{demo_of, finding_text}
+use Rattle.scr_check.specs.Pen.{selectable_of, told_with_pen, answer_with_pen}
 use Rattle.term_commands.specs.DemoLines.{sends_on, asked, finding_lines, shown_on}
 use Rattle.term_commands.specs.declared.status.Status.TheVariants.{Findings}
 use Rattle.term_commands.specs.Printed.{printed}
@@ -25,6 +26,7 @@ use Rattle.ds_terminal.specs.Taking.{applying}
 use Rattle.term_commands.specs.declared.output.demo.Demos.{Demos}
 use Rattle.term_commands.specs.declared.output.demo.Demos.TheVariants.{Omitted, Printed}
 use Rattle.term_commands.specs.Check.{printed_verdict, printed_answer}
+use Rattle.term_commands.specs.PenCheck.{printed_pen_answer}
 
 -- the picture is shown, or the finding has no demo
 abbrev Fits : Result Picture Finding → Result Picture RefusedRecord → Type 0
@@ -94,3 +96,15 @@ by_opening demos layout (Err finding) shown none =
 pub from_shown : (demos : Demos) (layout : Declaration) (records : List (List ℕ))
     → printed_verdict (finding_lines layout.entries (asked demos (shown_on layout records))) (answer_of layout records) ≡ printed_answer demos layout records
 from_shown demos layout records = by_opening demos layout (opening_of layout records) (shown_on layout records) (opening_fits layout records)
+
+-- the same with the fields that may not be selected
+with_pen : (demos : Demos) (layout : Declaration) (opened : Result Picture Finding) (shown : Result Picture RefusedRecord) → Fits opened shown
+    → printed_verdict (finding_lines layout.entries (asked demos shown)) (told_with_pen layout opened) ≡ printed_verdict (finding_lines layout.entries (asked demos opened)) (told_with_pen layout opened)
+with_pen demos layout (Ok v) shown is =
+    ap (λ (from : Option Picture). printed_verdict (finding_lines layout.entries from) (findings_of layout v ++ selectable_of v.cells)) (asked_same demos v shown is)
+with_pen demos layout (Err finding) shown none =
+    ap (λ (line : List ℕ). printed (line ++ []) Findings) (one_finding layout.entries (asked demos shown) (asked {E = Finding} demos (Err finding)) finding none)
+
+pub pen_from_shown : (demos : Demos) (layout : Declaration) (records : List (List ℕ))
+    → printed_verdict (finding_lines layout.entries (asked demos (shown_on layout records))) (answer_with_pen layout records) ≡ printed_pen_answer demos layout records
+pen_from_shown demos layout records = with_pen demos layout (opening_of layout records) (shown_on layout records) (opening_fits layout records)

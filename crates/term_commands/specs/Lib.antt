@@ -15,6 +15,7 @@ pub mod Screen
 pub mod Show
 pub mod DemoLines
 pub mod Check
+pub mod PenCheck
 pub mod Press
 pub mod Strike
 pub mod Convert
@@ -27,6 +28,7 @@ pub mod Pieces
 pub mod Says
 pub mod SaysDrafts
 pub mod Law
+pub mod OwnStrokes
 pub mod Turns
 pub mod TurnsHeld
 pub mod Talk

@@ -1,7 +1,6 @@
 -- What `press --strokes` prints, as a function of its two inputs, and its status.
 use Rattle.std.specs.Prelude.{ℕ, false, List, [], ◌∷◌, ◌++◌, Result, Ok}
 use Rattle.ds_codec.specs.Reading.{◌>>=◌}
-use Rattle.ds_screen.specs.Picture.{Picture}
 use Rattle.ds_terminal.specs.Terminal.{KeyTurn, key_turn, key_reply}
 use Rattle.ds_strokes.specs.declared.stroke.Stroke.{Stroke}
 use Rattle.ds_strokes.specs.StrokeStep.{Operating, operating, after_stroke, stroke_answer}

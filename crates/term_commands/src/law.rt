@@ -1,6 +1,7 @@
-//! Laws on lines, and on `convert`.
+//! Laws on lines, on `convert`, and on strokes at a checked screen.
 
 ghost use Rattle.term_commands.specs.Law.{ConvertsBack};
+ghost use Rattle.term_commands.specs.OwnStrokes.{OwnStrokesArePromised, OwnStrokesLeave};
 ghost use Rattle.term_commands.specs.SaysDrafts.{DraftsAreTold};
 ghost use Rattle.term_commands.specs.Says.{KeysAreNamed, RecordsAreTold, TellFirstFaults};
 
@@ -17,4 +18,12 @@ pub fn lines_law()
     ensures records { RecordsAreTold }
     ensures drafts { DraftsAreTold }
     ensures faults { TellFirstFaults }
+{}
+
+/// The strokes of this terminal, insert mode, duplicate and field mark among them, leave what any terminal can leave, so what a yes
+/// of `check` promises of any terminal holds of each list of strokes of which none sends, with insert mode on at first or off. It
+/// does nothing: its contract is the law.
+pub fn own_strokes_law()
+    ensures strokes { OwnStrokesLeave }
+    ensures promised { OwnStrokesArePromised }
 {}

@@ -13,8 +13,8 @@ mod streams;
 
 pub use commands::{
     check_answer, check_texts, convert_back_text, convert_text, lent, press_strokes_texts,
-    press_texts, run_check, run_convert, run_convert_back, run_press, run_press_strokes, run_show,
-    run_talk, show_text, talk_texts,
+    press_texts, run_check, run_check_pen, run_convert, run_convert_back, run_press,
+    run_press_strokes, run_show, run_talk, show_text, talk_texts,
 };
 pub use fault::{CommandError, Fault, failure};
 pub use input::ahead::ReadAhead;
@@ -24,7 +24,7 @@ pub use input::layout::{layout_in, read_layout};
 pub use input::next::{next_line, without_end};
 pub use input::records::{Records, read_records, records_in};
 pub use input::sizes::SizeLine;
-pub use law::{convert_law, lines_law};
+pub use law::{convert_law, lines_law, own_strokes_law};
 pub use output::answer::{Answer, finish, printed};
 pub use output::demo::{Demos, demo_sends, demo_terminal};
 pub use output::screen::{lock_word, push_field_lines, push_screen_line};

@@ -82,7 +82,7 @@ fn found(
 }
 
 /// `yes`, or the findings.
-fn verdict_text(
+pub(crate) fn verdict_text(
     alloc: Global,
     layout: &Layout,
     records: &[Vec<u8>],

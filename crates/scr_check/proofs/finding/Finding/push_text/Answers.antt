@@ -46,3 +46,7 @@ returns-in-EmptyModified c =
 pub returns-in-CursorDependent : goal.returns-in-CursorDependent
 returns-in-CursorDependent c =
     subst (λ finding. OnOk c.push_record-in-CursorDependent.result (string_bytes c.push_record-in-CursorDependent.new.out ≡ string_bytes c.args.out.now ++ finding_text c.args.entries.now finding)) (sym c.in-CursorDependent.is) c.push_record-in-CursorDependent.ensures
+
+pub returns-in-Selectable : goal.returns-in-Selectable
+returns-in-Selectable c =
+    subst (λ finding. OnOk c.push_selectable.result (string_bytes c.push_selectable.new.out ≡ string_bytes c.args.out.now ++ finding_text c.args.entries.now finding)) (sym c.in-Selectable.is) c.push_selectable.ensures
