@@ -2,11 +2,11 @@
 use Rattle.std.proofs.Common.{◌≡◌, ℕ, ◌<◌, List, ◌++◌, length, get_or, Option, Some, sym, ◌∙◌, ap, append_assoc}
 use Rattle.std.specs.Prelude.{slice_get}
 use Rattle.std.proofs.lemmas.Option.{slice_get-get_or}
-use Rattle.bms_map.specs.declared.field.Field.{Field}
+use Rattle.bms_map.specs.Maps.{Shown}
 use Rattle.bms_map.specs.declared.overlap.Overlap.{Overlap}
 use Rattle.bms_map.specs.Overlaps.{cell_of, end_in, end_of, nearest, overlapping, past_end, overlaps_at}
 
-pub one_field : (old mid : List Overlap) (fields : List Field) (last index : ℕ) (field : Field) (other : Option ℕ) (end : ℕ) → index < length fields → field ≡ get_or fields index field
+pub one_field : (old mid : List Overlap) (fields : List Shown) (last index : ℕ) (field : Shown) (other : Option ℕ) (end : ℕ) → index < length fields → field ≡ get_or fields index field
     → other ≡ nearest fields field.cell index → end ≡ end_of field → mid ≡ old ++ overlapping index other
     → mid ++ past_end index last end ≡ old ++ overlaps_at fields last index
 one_field old mid fields last index field other end lt is other_is end_is mid_is =

@@ -17,6 +17,12 @@ pub enum Overlap {
 }
 
 /// The position of a field's last character, not counted round the screen's end.
+fn cell_of(field: &Field) -> u32
+    ensures { result ≡ field.now.cell }
+{
+    field.cell
+}
+
 fn end_of(field: &Field) -> u32
     ensures { result ≡ end_of field.now }
 {
@@ -74,7 +80,7 @@ fn push_overlaps(
         (found.new.items ≡ found.old.items ++ overlaps_at fields.now last index) }
 {
     let field = &fields[index];
-    push_overlapping(found, index, nearest(fields, field.cell, index))?;
+    push_overlapping(found, index, nearest(fields, cell_of(field), index))?;
     push_past(found, index, last, end_of(field))
 }
 
