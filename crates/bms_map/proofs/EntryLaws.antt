@@ -1,5 +1,5 @@
 -- Fields and occurrences that are gone over one after the other.
-use Rattle.std.proofs.Common.{◌≡◌, ◌≤◌, ◌<◌, ◌+◌, ◌-◌, ℕ, zero, suc, true, false, cond, Bool, ◌||◌, List, [], ◌∷◌, ◌++◌, length, map, take, drop, get_or, Option, Some, None, Result, Ok, Err, refl, ap, sym, ◌∙◌, subst, append_assoc, arith}
+use Rattle.std.proofs.Common.{◌≡◌, ◌≤◌, ◌<◌, ◌+◌, ◌-◌, ℕ, suc, true, false, cond, Bool, ◌||◌, List, [], ◌∷◌, ◌++◌, length, map, take, drop, get_or, Result, Ok, refl, ap, sym, ◌∙◌, subst, append_assoc, arith}
 use Rattle.std.specs.Prelude.{nat_lt}
 use Rattle.std.specs.List.{list_any, flat_map, range_with_len, insert}
 use Rattle.std.proofs.lemmas.List.FromFn.{length-map-range_with_len}

@@ -1,5 +1,5 @@
 -- Operands that are judged one after the other.
-use Rattle.std.proofs.Common.{◌≡◌, ◌≤◌, ◌<◌, ◌+◌, ◌-◌, ℕ, zero, suc, List, [], ◌∷◌, ◌++◌, length, take, drop, get_or, Option, Some, None, Result, Ok, Err, refl, ap, sym, ◌∙◌, subst, append_assoc, arith}
+use Rattle.std.proofs.Common.{◌≡◌, ◌≤◌, ℕ, zero, suc, List, [], ◌∷◌, ◌++◌, length, take, drop, get_or, Option, Some, None, Result, Ok, Err, refl, ap, sym, ◌∙◌, append_assoc, arith}
 use Rattle.bms_source.specs.declared.letter.Letter.{Letter}
 use Rattle.bms_source.specs.declared.statement.Operation.{Operation}
 use Rattle.bms_source.specs.declared.refusal.SourceError.{SourceError}
@@ -8,7 +8,7 @@ use Rattle.bms_source.specs.Results.{Fails}
 use Rattle.bms_source.specs.Told.{Told, ◌>>=◌}
 use Rattle.bms_source.specs.Scan.{comma_in}
 use Rattle.bms_source.specs.Operand.{operand_in, after_comma, with_rest, next_operand}
-use Rattle.bms_map.specs.Operands.{Given, Row, row_of, row_from, with_operand, judge, judged, operands_of}
+use Rattle.bms_map.specs.Operands.{Given, Row, row_of, row_from, judge, judged}
 
 -- what is due of the operands at the front, behind those that were judged
 abbrev pub behind_row : Operation → List Given → Row → Result (List Given) Told

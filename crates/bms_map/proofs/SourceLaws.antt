@@ -1,5 +1,5 @@
 -- Statements that are judged one after the other.
-use Rattle.std.proofs.Common.{◌≡◌, ◌≤◌, ◌<◌, ◌+◌, ◌-◌, ℕ, zero, suc, List, [], ◌∷◌, length, drop, Option, Some, None, Result, Ok, Err, refl, ap, sym, ◌∙◌, subst, arith}
+use Rattle.std.proofs.Common.{◌≡◌, ◌≤◌, ◌<◌, ◌+◌, ◌-◌, ℕ, zero, suc, List, [], ◌∷◌, length, drop, Option, Some, None, Result, Ok, Err, refl, ap, sym, ◌∙◌, arith}
 use Rattle.bms_source.specs.declared.letter.Place.{Place}
 use Rattle.bms_source.specs.Statement.{Found, passed, ended, said, statement_in}
 use Rattle.bms_source.specs.declared.refusal.SourceError.{SourceError}
@@ -7,7 +7,7 @@ use Rattle.bms_source.specs.declared.refusal.SourceError.TheVariants.{OutOfMemor
 use Rattle.bms_source.specs.Results.{Fails}
 use Rattle.bms_source.specs.Told.{Told, place_at, ◌>>=◌}
 use Rattle.bms_map.specs.Maps.{Sheet}
-use Rattle.bms_map.specs.Source.{Source, ending, source_by, source_from, with_macro}
+use Rattle.bms_map.specs.Source.{Source, source_by, source_from}
 use Rattle.std.specs.Prelude.{IfOk}
 use Rattle.bms_map.specs.Mapset.{Progress, with_found, whole, told_by, progress_of, with_macro as told_with}
 

@@ -3,7 +3,6 @@ use Rattle.std.proofs.Common.{◌≡◌, ◌≤◌, ◌<◌, ◌+◌, ◌-◌, �
 use Rattle.std.proofs.Math.Nat.{pow-suc, mul-le-mul_right, one-le-pow, le-mul_of_pos_right}
 use Rattle.bms_source.specs.declared.letter.Letter.{Letter}
 use Rattle.std.proofs.lemmas.Grind.{common_steps}
-use Rattle.bms_source.specs.declared.letter.Place.{Place}
 use Rattle.bms_source.specs.Words.{is_digit}
 use Rattle.bms_map.specs.Values.{comma_in, digits_from, if_within, ◌>>?◌}
 use Rattle.bms_map.specs.Pictures.{positions_in, length_from}

@@ -1,8 +1,7 @@
 -- What is wrong with a field, and what it is.
-use Rattle.std.specs.Prelude.{ℕ, ◌+◌, ◌-◌, ◌*◌, Bool, true, false, not, ◌&&◌, ◌||◌, ◌==◌, nat_le, nat_lt, List, [], ◌∷◌, ◌++◌, map, codes, length, Option, Some, None, Result, Ok, Err, if◌then◌else◌}
+use Rattle.std.specs.Prelude.{ℕ, ◌+◌, ◌-◌, ◌*◌, Bool, false, not, ◌&&◌, ◌||◌, ◌==◌, nat_le, nat_lt, List, [], ◌∷◌, ◌++◌, map, codes, length, Option, Some, None, Result, Ok, Err, if◌then◌else◌}
 use Rattle.std.specs.List.{list_any, range_with_len}
 use Rattle.bms_source.specs.declared.letter.Letter.{Letter}
-use Rattle.bms_source.specs.declared.refusal.Why.{Why}
 use Rattle.bms_source.specs.declared.refusal.Why.TheVariants.{BadLabel, MissingLabel, BadValue, Conflict, MissingOperand, NameTwice, PosOutside, PosTwice, TooLong, BadGroup, TooMuch}
 use Rattle.bms_source.specs.Statement.{Said}
 use Rattle.bms_source.specs.Told.{Told, told_at, told_with, place_at, ◌>>=◌}

@@ -1,7 +1,6 @@
 -- What operands tell, looked up by their keywords.
-use Rattle.std.specs.Prelude.{ℕ, Bool, false, nat_lt, List, [], ◌∷◌, codes, Option, Some, None, Result, Ok, Err, if◌then◌else◌}
+use Rattle.std.specs.Prelude.{ℕ, Bool, false, List, [], ◌∷◌, codes, Option, Some, None, Result, Ok, Err, if◌then◌else◌}
 use Rattle.bms_source.specs.declared.letter.Letter.{Letter}
-use Rattle.bms_source.specs.declared.letter.Place.{Place}
 use Rattle.bms_source.specs.declared.refusal.Why.{Why}
 use Rattle.bms_source.specs.Told.{Told, told_with}
 use Rattle.bms_source.specs.Words.{upper_word, is_named}

@@ -1,5 +1,5 @@
-use Rattle.std.proofs.Common.{◌≡◌, ◌+◌, ◌-◌, ◌*◌, ◌≤◌, ◌<◌, ◌==◌, ◌++◌, List, length, map, take, drop}
-use Rattle.std.specs.List.{list_any, flat_map, range_with_len}
+use Rattle.std.proofs.Common.{◌≡◌, ◌-◌}
+use Rattle.std.specs.List.{range_with_len}
 use Rattle.bms_map.specs.Fields.{judge_each, judge_occurrence, judge_all}
 use Rattle.bms_map.proofs.groups.judge_all.Given as goal
 

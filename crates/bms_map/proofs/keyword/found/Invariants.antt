@@ -1,4 +1,4 @@
-use Rattle.std.proofs.Common.{◌≡◌, ◌+◌, ◌*◌, ◌^◌, ◌≤◌, length, map}
+use Rattle.std.proofs.Common.{◌≡◌, length}
 use Rattle.bms_map.specs.Values.{meaning_in}
 use Rattle.bms_map.specs.Tables.{entries_of}
 use Rattle.bms_map.proofs.keyword.found.Given as goal

@@ -1,4 +1,4 @@
-use Rattle.std.proofs.Common.{◌≡◌, ◌+◌, ◌*◌, ◌^◌, ◌≤◌, length, map}
+use Rattle.std.proofs.Common.{◌≡◌, length}
 use Rattle.bms_map.specs.Lists.{are_words}
 use Rattle.bms_map.proofs.list.are_words.Given as goal
 

@@ -1,4 +1,4 @@
-use Rattle.std.proofs.Common.{◌≡◌, ◌+◌, ◌*◌, ◌^◌, ◌≤◌, length, map}
+use Rattle.std.proofs.Common.{◌≡◌, length}
 use Rattle.bms_map.specs.Lists.{has}
 use Rattle.bms_map.proofs.list.has.Given as goal
 

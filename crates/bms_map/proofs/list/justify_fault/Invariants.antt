@@ -1,4 +1,4 @@
-use Rattle.std.proofs.Common.{◌≡◌, ◌+◌, ◌*◌, ◌^◌, ◌≤◌, length, map}
+use Rattle.std.proofs.Common.{◌≡◌, length}
 use Rattle.bms_map.specs.Lists.{justify_fault}
 use Rattle.bms_map.proofs.list.justify_fault.Given as goal
 

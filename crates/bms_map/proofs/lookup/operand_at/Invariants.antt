@@ -1,4 +1,4 @@
-use Rattle.std.proofs.Common.{◌≡◌, ◌+◌, ◌-◌, ◌*◌, ◌≤◌, ◌<◌, ◌==◌, ◌++◌, List, length, map, take, drop}
+use Rattle.std.proofs.Common.{◌≡◌, length}
 use Rattle.bms_map.specs.Lookup.{operand_at}
 use Rattle.bms_map.proofs.lookup.operand_at.Given as goal
 

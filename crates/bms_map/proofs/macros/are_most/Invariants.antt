@@ -1,5 +1,5 @@
-use Rattle.std.proofs.Common.{◌≡◌, ◌+◌, ◌-◌, ◌*◌, ◌≤◌, ◌<◌, ◌==◌, ◌++◌, List, length, map, take, drop}
-use Rattle.std.specs.Prelude.{nat_le, nat_lt, replicate}
+use Rattle.std.proofs.Common.{◌≡◌, ◌+◌, length}
+use Rattle.std.specs.Prelude.{nat_le}
 use Rattle.bms_map.specs.Entries.{attributes_of}
 use Rattle.bms_map.specs.Maps.{its_ground}
 use Rattle.bms_map.specs.declared.macros.TheConstants.{MOST_ATTRIBUTES}

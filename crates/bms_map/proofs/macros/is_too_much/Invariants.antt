@@ -1,5 +1,5 @@
-use Rattle.std.proofs.Common.{◌≡◌, ◌+◌, ◌-◌, ◌*◌, ◌≤◌, ◌<◌, ◌==◌, ◌++◌, List, length, map, take, drop}
-use Rattle.std.specs.Prelude.{nat_le, nat_lt, replicate}
+use Rattle.std.proofs.Common.{◌≡◌, ◌+◌, length}
+use Rattle.std.specs.Prelude.{nat_lt}
 use Rattle.bms_map.specs.Entries.{size_of}
 use Rattle.bms_map.specs.declared.macros.TheConstants.{MOST_BYTES}
 use Rattle.bms_map.proofs.macros.is_too_much.Given as goal

@@ -1,4 +1,4 @@
-use Rattle.std.proofs.Common.{◌≡◌, ◌+◌, ◌-◌, ◌*◌, ◌≤◌, ◌<◌, ◌==◌, ◌++◌, List, length, map, take, drop}
+use Rattle.std.proofs.Common.{◌≡◌, length}
 use Rattle.bms_map.specs.Operands.{operands_of}
 use Rattle.bms_map.proofs.OperandLaws.{operands_behind}
 use Rattle.bms_map.proofs.operands.operands_of.Given as goal

@@ -1,4 +1,4 @@
-use Rattle.std.proofs.Common.{◌≡◌, ◌+◌, ◌*◌, ◌^◌, ◌≤◌, length, map}
+use Rattle.std.proofs.Common.{◌≡◌, ◌+◌, length}
 use Rattle.bms_map.specs.Pictures.{close_in}
 use Rattle.bms_map.proofs.picture.close_in.Given as goal
 

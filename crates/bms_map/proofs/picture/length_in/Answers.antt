@@ -1,4 +1,4 @@
-use Rattle.std.proofs.Common.{◌≤◌, length, sym, ◌∙◌, arith}
+use Rattle.std.proofs.Common.{sym, ◌∙◌}
 use Rattle.bms_map.proofs.ValueLaws.{picture_next, is_some_list}
 use Rattle.bms_map.proofs.picture.length_in.Goals as goal
 

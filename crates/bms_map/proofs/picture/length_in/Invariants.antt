@@ -1,4 +1,4 @@
-use Rattle.std.proofs.Common.{◌≡◌, ◌+◌, ◌*◌, ◌^◌, ◌≤◌, ℕ, length, map}
+use Rattle.std.proofs.Common.{◌≡◌, ◌≤◌, ℕ, length}
 use Rattle.bms_map.specs.Pictures.{length_from}
 use Rattle.bms_map.proofs.picture.length_in.Given as goal
 

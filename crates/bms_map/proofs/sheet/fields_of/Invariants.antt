@@ -1,4 +1,4 @@
-use Rattle.std.proofs.Common.{◌≡◌, ◌+◌, ◌-◌, ◌*◌, ◌≤◌, ◌<◌, ◌==◌, ◌++◌, List, length, map, take, drop}
+use Rattle.std.proofs.Common.{◌≡◌, length}
 use Rattle.bms_map.specs.Entries.{placed_all, shown_of, in_order}
 use Rattle.bms_map.specs.Maps.{its_ground}
 use Rattle.bms_map.proofs.sheet.fields_of.Given as goal

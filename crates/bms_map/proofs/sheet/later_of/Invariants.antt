@@ -1,5 +1,5 @@
-use Rattle.std.proofs.Common.{◌≡◌, ◌+◌, ◌-◌, ◌*◌, ◌≤◌, ◌<◌, ◌==◌, ◌++◌, List, length, map, take, drop}
-use Rattle.std.specs.List.{list_any, flat_map, range_with_len}
+use Rattle.std.proofs.Common.{◌≡◌, ◌++◌, length}
+use Rattle.std.specs.List.{flat_map}
 use Rattle.bms_map.specs.Entries.{later_in}
 use Rattle.bms_map.specs.Maps.{its_ground}
 use Rattle.bms_map.proofs.sheet.later_of.Given as goal

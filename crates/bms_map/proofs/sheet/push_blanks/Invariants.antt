@@ -1,5 +1,5 @@
-use Rattle.std.proofs.Common.{◌≡◌, ◌+◌, ◌-◌, ◌*◌, ◌≤◌, ◌<◌, ◌==◌, ◌++◌, List, length, map, take, drop}
-use Rattle.std.specs.Prelude.{nat_le, nat_lt, replicate}
+use Rattle.std.proofs.Common.{◌≡◌, ◌++◌}
+use Rattle.std.specs.Prelude.{replicate}
 use Rattle.bms_map.proofs.sheet.push_blanks.Given as goal
 
 abbrev pub invariant-blanks : goal.invariant-blanks

@@ -1,4 +1,4 @@
-use Rattle.std.proofs.Common.{◌≡◌, ◌+◌, ◌-◌, ◌*◌, ◌≤◌, ◌<◌, ◌==◌, ◌++◌, List, length, map, take, drop}
+use Rattle.std.proofs.Common.{◌≡◌, ◌+◌, length}
 use Rattle.bms_map.specs.Entries.{rank_in}
 use Rattle.bms_map.proofs.sheet.rank_in.Given as goal
 

@@ -1,4 +1,4 @@
-use Rattle.std.proofs.Common.{◌≡◌, ◌+◌, ◌*◌, ◌^◌, ◌≤◌, length, map}
+use Rattle.std.proofs.Common.{◌≡◌, length}
 use Rattle.bms_map.specs.Texts.{bytes_in}
 use Rattle.bms_map.proofs.TextLaws.{behind}
 use Rattle.bms_map.proofs.text.bytes_in.Given as goal

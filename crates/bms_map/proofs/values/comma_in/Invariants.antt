@@ -1,4 +1,4 @@
-use Rattle.std.proofs.Common.{◌≡◌, ◌+◌, ◌*◌, ◌^◌, ◌≤◌, length, map}
+use Rattle.std.proofs.Common.{◌≡◌, ◌+◌, length}
 use Rattle.bms_map.specs.Values.{comma_in}
 use Rattle.bms_map.proofs.values.comma_in.Given as goal
 

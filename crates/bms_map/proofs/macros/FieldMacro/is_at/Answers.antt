@@ -1,4 +1,4 @@
-use Rattle.std.proofs.Common.{sym, ◌∙◌, ap, subst, ◌<◌}
+use Rattle.std.proofs.Common.{sym, ◌∙◌, subst, ◌<◌}
 use Rattle.bms_map.proofs.EntryLaws.{any_next}
 use Rattle.bms_map.proofs.macros.FieldMacro.is_at.Goals as goal
 

@@ -1,5 +1,5 @@
-use Rattle.std.proofs.Common.{◌≡◌, ◌+◌, ◌-◌, ◌*◌, ◌≤◌, ◌<◌, ◌==◌, ◌++◌, List, length, map, take, drop}
-use Rattle.std.specs.List.{list_any, flat_map, range_with_len}
+use Rattle.std.proofs.Common.{◌≡◌, ◌-◌, ◌==◌, map}
+use Rattle.std.specs.List.{list_any, range_with_len}
 use Rattle.bms_map.specs.Entries.{index_at, cells_from}
 use Rattle.bms_map.specs.Overlaps.{cell_in}
 use Rattle.bms_map.specs.Maps.{its_ground}
