@@ -1,5 +1,6 @@
 -- Fields that overlap, or go past the end of their map.
-use Rattle.std.specs.Prelude.{ℕ, zero, suc, ◌+◌, ◌-◌, ◌*◌, ◌/◌, ◌%◌, ◌^◌, min, Bool, ◌&&◌, ◌||◌, ◌==◌, not, nat_le, nat_lt, List, [], ◌∷◌, ◌++◌, length, slice_get, Option, Some, None, if◌then◌else◌}
+use Rattle.std.specs.List.{flat_map, range_with_len}
+use Rattle.std.specs.Prelude.{◌≡◌, ◌≤◌, ◌<◌, ℕ, zero, suc, ◌+◌, ◌-◌, ◌*◌, ◌/◌, ◌%◌, ◌^◌, min, Bool, ◌&&◌, ◌||◌, ◌==◌, not, nat_le, nat_lt, List, [], ◌∷◌, ◌++◌, length, slice_get, Option, Some, None, if◌then◌else◌}
 use Rattle.bms_map.specs.Maps.{Ground, Shown, Sheet}
 use Rattle.bms_map.specs.declared.overlap.Overlap.{Overlap}
 use Rattle.bms_map.specs.declared.overlap.Overlap.TheVariants.{Overlaps, PastEnd}
@@ -48,10 +49,27 @@ abbrev pub overlaps_at : List Shown → ℕ → ℕ → List Overlap
 overlaps_at fields last index =
     overlapping index (nearest fields (cell_of (slice_get fields index)) index) ++ past_end index last (end_in (slice_get fields index))
 
--- of the first so many fields
-abbrev pub overlaps_to : List Shown → ℕ → ℕ → List Overlap
-overlaps_to fields last zero = []
-overlaps_to fields last (suc index) = overlaps_to fields last index ++ overlaps_at fields last index
-
 abbrev pub overlaps_of : Sheet → List Overlap
-overlaps_of map = overlaps_to map.fields (last_of map.area) (length map.fields)
+overlaps_of map = flat_map (overlaps_at map.fields (last_of map.area)) (range_with_len 0 (length map.fields))
+
+-- ---- the same without a search
+
+-- the last of the first so many fields that reaches to a position: it does, and none between does; or none of them does
+abbrev pub IsNearest : List Shown → ℕ → ℕ → Option ℕ → Type 0
+IsNearest fields cell count None = (i : ℕ) → i < count → end_in (slice_get fields i) < cell
+IsNearest fields cell count (Some other) =
+    (other < count) × (cell ≤ end_in (slice_get fields other)) × ((i : ℕ) → other < i → i < count → end_in (slice_get fields i) < cell)
+
+-- of each field in turn the nearest before it that reaches to its attribute, and by how much it goes past the end
+abbrev pub AreOverlaps : Sheet → List Overlap → Type 0
+AreOverlaps map found =
+    (near : ℕ → Option ℕ)
+    × ((i : ℕ) → i < length map.fields → IsNearest map.fields (cell_of (slice_get map.fields i)) i (near i))
+    × (found ≡ flat_map (λ i. overlapping i (near i) ++ past_end i (last_of map.area) (end_in (slice_get map.fields i))) (range_with_len 0 (length map.fields)))
+
+abbrev pub OverlapsAreNearest : Type 0
+OverlapsAreNearest = (map : Sheet) → AreOverlaps map (overlaps_of map)
+
+-- and there is one answer
+abbrev pub NearestIsOne : Type 0
+NearestIsOne = (fields : List Shown) (cell count : ℕ) (one other : Option ℕ) → IsNearest fields cell count one → IsNearest fields cell count other → one ≡ other

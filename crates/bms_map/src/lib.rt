@@ -31,6 +31,6 @@ pub use field::{Field, Later, Looks};
 pub use layout::{layout_text, push_label};
 pub use map::Map;
 pub use mapset::read_maps;
-pub use overlap::{Overlap, overlaps_of};
+pub use overlap::{Overlap, nearest_is_one, overlaps_are_nearest, overlaps_of};
 pub use place::{Area, Extent};
 pub use record::{Control, record_of};
