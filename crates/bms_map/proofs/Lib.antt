@@ -1,4 +1,7 @@
 pub mod OrderLaws
 pub mod OverlapLaws
 pub mod TextLaws
-pub mod FormedLaws
+pub mod ValueLaws
+pub mod OperandLaws
+pub mod EntryLaws
+pub mod SourceLaws

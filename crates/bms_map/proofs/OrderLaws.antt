@@ -8,7 +8,7 @@ use Rattle.ds_codec.specs.declared.write.Unwritable.{Unwritable}
 use Rattle.ds_codec.specs.Order.{Item, start_field}
 use Rattle.order_lines.specs.Draft.{Partial, begun, bytes_in, with_order, with_orders}
 use Rattle.order_lines.proofs.Drafts.{written_in_turn}
-use Rattle.bms_map.specs.declared.map.Map.{Map}
+use Rattle.bms_map.specs.Maps.{Sheet}
 use Rattle.bms_map.specs.declared.record.Control.{Control}
 use Rattle.bms_map.specs.Record.{attribute_order, map_orders, command_of, IsRecordOf}
 
@@ -29,7 +29,7 @@ without_pairs attribute [] none = refl
 without_pairs attribute (byte ∷ pairs) none = absurd (omega (arith, none))
 
 -- what is written of a map's orders is its record
-pub is_record : (map : Map) (control : Control) (partial : Partial) (result : Result (Vec ℕ) Unwritable)
+pub is_record : (map : Sheet) (control : Control) (partial : Partial) (result : Result (Vec ℕ) Unwritable)
     → partial ≡ with_orders (begun Bits14 (map.area.screen.rows * map.area.screen.cols) (command_of map control)) (map_orders map)
     → IfOk result (λ bytes. bytes_in partial ≡ Ok bytes.items) → IfErr result (λ flaw. bytes_in partial ≡ Err flaw) → IsRecordOf map control result
 is_record map control partial (Ok bytes) is good bad =

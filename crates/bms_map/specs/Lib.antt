@@ -1,5 +1,15 @@
+pub mod Maps
 pub mod Record
 pub mod Overlaps
-pub mod Texts
 pub mod LayoutText
-pub mod Formed
+pub mod Values
+pub mod Lists
+pub mod Texts
+pub mod Pictures
+pub mod Operands
+pub mod Tables
+pub mod Lookup
+pub mod Entries
+pub mod Fields
+pub mod Source
+pub mod Mapset

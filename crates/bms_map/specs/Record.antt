@@ -10,9 +10,7 @@ use Rattle.ds_codec.specs.declared.write.Unwritable.{Unwritable}
 use Rattle.ds_codec.specs.declared.write.Unwritable.TheVariants.{OutOfMemory}
 use Rattle.ds_codec.specs.Order.{Item, text, start_field, start_field_extended, set_buffer_address, insert_cursor}
 use Rattle.order_lines.specs.Draft.{written_of}
-use Rattle.bms_map.specs.declared.field.Field.{Field}
-use Rattle.bms_map.specs.declared.field.Later.{Later}
-use Rattle.bms_map.specs.declared.map.Map.{Map}
+use Rattle.bms_map.specs.Maps.{LaterText, Shown, Sheet}
 use Rattle.bms_map.specs.declared.record.Control.{Control}
 
 -- a text of no character is no order
@@ -31,17 +29,19 @@ cursor_orders None cell = []
 cursor_orders (Some at) cell = if at == cell then insert_cursor ∷ [] else []
 
 -- a later field of a group: its text alone, at its place
-abbrev pub later_orders : Later → List Item
-later_orders later = set_buffer_address later.cell ∷ text_orders later.text.items
+abbrev pub later_orders : LaterText → List Item
+later_orders later = set_buffer_address later.cell ∷ text_orders later.text
 
--- a field: where its attribute stands, the six bits of the attribute, the cursor, its text, and the texts of the other fields of its group
-abbrev pub field_orders : Option ℕ → Field → List Item
-field_orders cursor field =
-    set_buffer_address field.cell ∷ attribute_order (field.attribute % 64) field.pairs.items ∷ cursor_orders cursor field.cell ++ text_orders field.text.items
-    ++ flat_map later_orders field.later.items
+-- where an attribute stands, its six bits, the cursor, its text, and the texts of the other fields of its group
+abbrev pub parts_orders : Option ℕ → ℕ → ℕ → List ℕ → List ℕ → List LaterText → List Item
+parts_orders cursor cell attribute pairs characters later =
+    set_buffer_address cell ∷ attribute_order (attribute % 64) pairs ∷ cursor_orders cursor cell ++ text_orders characters ++ flat_map later_orders later
 
-abbrev pub map_orders : Map → List Item
-map_orders map = flat_map (field_orders map.cursor) map.fields.items
+abbrev pub field_orders : Option ℕ → Shown → List Item
+field_orders cursor field = parts_orders cursor field.cell field.attribute field.pairs field.text field.later
+
+abbrev pub map_orders : Sheet → List Item
+map_orders map = flat_map (field_orders map.cursor) map.fields
 
 -- a bit is set
 abbrev pub with_bit : Bool → ℕ → ℕ → ℕ
@@ -53,13 +53,13 @@ abbrev pub control_bits : ℕ → Control → ℕ
 control_bits bits control = with_bit control.reset_modified 1 (with_bit control.free_keyboard 2 bits)
 
 -- a map of 24 lines is shown on the default screen, another on the alternate one
-abbrev pub command_of : Map → Control → Command
+abbrev pub command_of : Sheet → Control → Command
 command_of map control =
-    if map.area.screen.rows == 24 then EraseWrite (six_bit_code (control_bits map.control.bits control))
-    else EraseWriteAlternate (six_bit_code (control_bits map.control.bits control))
+    if map.area.screen.rows == 24 then EraseWrite (six_bit_code (control_bits map.control control))
+    else EraseWriteAlternate (six_bit_code (control_bits map.control control))
 
 -- the bytes of exactly these orders, for the map's screen; or why they can't be written; or memory was refused
-abbrev pub IsRecordOf : Map → Control → Result (Vec ℕ) Unwritable → Type 0
+abbrev pub IsRecordOf : Sheet → Control → Result (Vec ℕ) Unwritable → Type 0
 IsRecordOf map control (Ok bytes) =
     written_of Bits14 (map.area.screen.rows * map.area.screen.cols) (record { command = command_of map control; orders = map_orders map }) ≡ Ok bytes.items
 IsRecordOf map control (Err flaw) =

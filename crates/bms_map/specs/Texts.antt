@@ -1,7 +1,9 @@
 -- The texts of INITIAL and XINIT.
-use Rattle.std.specs.Prelude.{ℕ, ◌-◌, Bool, true, not, ◌&&◌, ◌||◌, ◌==◌, nat_le, List, [], ◌∷◌, slice_index, Option, Some, None, if◌then◌else◌}
+use Rattle.std.specs.Prelude.{ℕ, ◌+◌, ◌-◌, ◌*◌, ◌%◌, Bool, true, not, ◌&&◌, ◌||◌, ◌==◌, nat_le, List, [], ◌∷◌, length, slice_index, Option, Some, None, is_some, if◌then◌else◌}
+use Rattle.std.specs.List.{list_all}
 use Rattle.bms_source.specs.declared.letter.Letter.{Letter}
 use Rattle.bms_source.specs.declared.letter.Place.{Place}
+use Rattle.bms_map.specs.Values.{between, ◌>>?◌}
 use Rattle.bms_map.specs.declared.text.Text.{Text}
 use Rattle.bms_map.specs.declared.text.Text.TheVariants.{Codes, NoText, Bad}
 use Rattle.bms_map.specs.declared.characters.TheConstants.{CODES}
@@ -50,3 +52,43 @@ abbrev pub are_doubled : List Letter → Bool
 are_doubled [] = true
 are_doubled (a ∷ []) = not (a.code == 39)
 are_doubled (a ∷ b ∷ rest) = if a.code == 39 then (b.code == 39) && are_doubled rest else are_doubled (b ∷ rest)
+
+abbrev pub string_in : Option (List Letter) → Read
+string_in None = another
+string_in (Some inner) = if are_doubled inner then codes_in inner else another
+
+-- INITIAL
+abbrev pub string_of : List Letter → Read
+string_of value = string_in (between value 39 39)
+
+-- a hexadecimal digit, in either case
+unfoldable pub digit_of : ℕ → Option ℕ
+digit_of code =
+    if nat_le 48 code && nat_le code 57 then Some (code - 48)
+    else (if nat_le 65 code && nat_le code 70 then Some (code - 65 + 10) else (if nat_le 97 code && nat_le code 102 then Some (code - 97 + 10) else None))
+
+-- a null, or a byte of text
+abbrev pub text_byte : ℕ → Option ℕ
+text_byte byte = if (byte == 0) || (nat_le 0x40 byte && nat_le byte 0xFE) then Some byte else None
+
+abbrev pub byte_of : ℕ → ℕ → Option ℕ
+byte_of high low = digit_of high >>? λ h. digit_of low >>? λ l. text_byte (h * 16 + l)
+
+-- the bytes of pairs of digits, from left to right
+abbrev pub bytes_in : List Letter → Read
+bytes_in [] = codes []
+bytes_in (a ∷ []) = codes []
+bytes_in (a ∷ b ∷ rest) = before (byte_of a.code b.code) a.place (bytes_in rest)
+
+abbrev pub are_digits : List Letter → Bool
+are_digits value = list_all (λ letter. is_some (digit_of letter.code)) value
+
+-- XINIT
+abbrev pub digits_of : List Letter → Read
+digits_of value = if (length value % 2 == 1) || not (are_digits value) then another else bytes_in value
+
+-- the text that was read
+abbrev pub text_in : Read → Option (List ℕ)
+text_in (codes text) = Some text
+text_in another = None
+text_in (bad place) = None

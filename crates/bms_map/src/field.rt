@@ -1,6 +1,10 @@
 //! Fields of a map, as they stand on the screen.
 
-ghost use Rattle.std.specs.Prelude.{◌≤◌};
+ghost use Rattle.std.specs.Prelude.{◌≡◌, ◌≤◌};
+ghost use Rattle.bms_map.specs.Lookup.{or_else, looks_or};
+ghost use Rattle.bms_map.specs.Entries.{effect, effects};
+
+use std::marker::Model;
 
 /// The pairs that a field has besides its attribute: none, or a value, which is 0 where it has no effect.
 #[derive(Clone, Copy, Debug, PartialEq, Eq)]
@@ -13,7 +17,9 @@ pub struct Looks {
 
 impl Looks {
     /// These, and where they are absent the others.
-    pub(crate) fn or(self, others: Looks) -> Looks {
+    pub(crate) fn or(self, others: Looks) -> Looks
+        ensures { result ≡ looks_or self others }
+    {
         Looks {
             highlight: or(self.highlight, others.highlight),
             color: or(self.color, others.color),
@@ -24,13 +30,16 @@ impl Looks {
 
     /// How many pairs are written.
     pub(crate) fn count(self) -> u32
-        ensures { result ≤ 4 }
+        ensures count { result ≡ effects self }
+        ensures few { result ≤ 4 }
     {
         count(self.highlight) + count(self.color) + count(self.validation) + count(self.outline)
     }
 }
 
-fn or(value: Option<u8>, other: Option<u8>) -> Option<u8> {
+fn or(value: Option<u8>, other: Option<u8>) -> Option<u8>
+    ensures { result ≡ or_else value other }
+{
     match value {
         Some(value) => Some(value),
         None => other,
@@ -39,7 +48,8 @@ fn or(value: Option<u8>, other: Option<u8>) -> Option<u8> {
 
 /// Whether there is a value with an effect.
 fn count(value: Option<u8>) -> u32
-    ensures { result ≤ 1 }
+    ensures count { result ≡ effect value }
+    ensures few { result ≤ 1 }
 {
     match value {
         None | Some(0) => 0,
@@ -53,6 +63,14 @@ pub struct Later {
     /// The position of its first character on the screen.
     pub cell: u32,
     pub text: Vec<u8>,
+}
+
+impl Model for Later {
+    ghost use Rattle.bms_map.specs.Maps.{LaterText};
+
+    ghost Value = { LaterText };
+
+    ghost view = { λ l. record { cell = l.cell; text = l.text.items } };
 }
 
 /// A field, a group of fields, or one occurrence of a field.
@@ -78,6 +96,14 @@ pub struct Field {
     /// The line and the column of its attribute in the map, counted from 1.
     pub row: u32,
     pub column: u32,
+}
+
+impl Model for Field {
+    ghost use Rattle.bms_map.specs.Maps.{Shown};
+
+    ghost Value = { Shown };
+
+    ghost view = { λ f. record { cell = f.cell; length = f.length; attribute = f.attribute; pairs = f.pairs.items; text = f.text.items; later = f.later.items; label = f.label.items; occurrence = f.occurrence; line = f.line; row = f.row; column = f.column } };
 }
 
 impl Field {

@@ -1,11 +1,16 @@
 //! The operands of the three macros.
 
+ghost use Rattle.std.specs.Prelude.{◌≡◌};
+ghost use Rattle.bms_map.specs.Values.{meaning_in};
+ghost use Rattle.bms_map.specs.Operands.{of_mapset, of_map, of_field, keyword_of};
+ghost use Rattle.bms_map.specs.Tables.{entries_of};
+
 use bms_source::{Letter, Operation, is_named};
 
 /// What an operand means.
 #[derive(Clone, Copy, Debug, PartialEq, Eq)]
 pub(crate) enum Keyword {
-    Type,
+    Kind,
     Control,
     Color,
     Highlight,
@@ -34,7 +39,7 @@ pub(crate) enum Keyword {
     Terminal,
     /// Of any value, without effect.
     Ignored,
-    Unsupported,
+    Unmodelled,
 }
 
 struct Named {
@@ -45,7 +50,7 @@ struct Named {
 const OF_MAPSET: [Named; 29] = [
     Named {
         name: b"TYPE",
-        keyword: Keyword::Type,
+        keyword: Keyword::Kind,
     },
     Named {
         name: b"CTRL",
@@ -157,7 +162,7 @@ const OF_MAPSET: [Named; 29] = [
     },
     Named {
         name: b"PARTN",
-        keyword: Keyword::Unsupported,
+        keyword: Keyword::Unmodelled,
     },
 ];
 
@@ -256,7 +261,7 @@ const OF_MAP: [Named; 24] = [
     },
     Named {
         name: b"PARTN",
-        keyword: Keyword::Unsupported,
+        keyword: Keyword::Unmodelled,
     },
 ];
 
@@ -283,7 +288,7 @@ const OF_FIELD: [Named; 19] = [
     },
     Named {
         name: b"GINIT",
-        keyword: Keyword::Unsupported,
+        keyword: Keyword::Unmodelled,
     },
     Named {
         name: b"OCCURS",
@@ -339,20 +344,48 @@ const OF_FIELD: [Named; 19] = [
     },
 ];
 
-fn found(table: &[Named], word: &[Letter]) -> Option<Keyword> {
-    for named in table {
+/// What a word stands for in a table.
+fn found(table: &[Named], word: &[Letter]) -> Option<Keyword>
+    ensures { result ≡ meaning_in (entries_of table.now) word.now }
+{
+    let mut rest = table;
+    while let [named, others @ ..] = rest {
         if is_named(word, named.name) {
             return Some(named.keyword);
         }
+        rest = others;
     }
     None
 }
 
+#[tactic(auto, unfolding(crate::specs::Operands::of_mapset))]
+fn of_mapset(word: &[Letter]) -> Option<Keyword>
+    ensures { result ≡ meaning_in of_mapset word.now }
+{
+    found(&OF_MAPSET, word)
+}
+
+#[tactic(auto, unfolding(crate::specs::Operands::of_map))]
+fn of_map(word: &[Letter]) -> Option<Keyword>
+    ensures { result ≡ meaning_in of_map word.now }
+{
+    found(&OF_MAP, word)
+}
+
+#[tactic(auto, unfolding(crate::specs::Operands::of_field))]
+fn of_field(word: &[Letter]) -> Option<Keyword>
+    ensures { result ≡ meaning_in of_field word.now }
+{
+    found(&OF_FIELD, word)
+}
+
 /// The operand of a keyword, if the macro has it.
-pub(crate) fn keyword_of(operation: Operation, word: &[Letter]) -> Option<Keyword> {
+pub(crate) fn keyword_of(operation: Operation, word: &[Letter]) -> Option<Keyword>
+    ensures { result ≡ keyword_of operation word.now }
+{
     match operation {
-        Operation::Mapset => found(&OF_MAPSET, word),
-        Operation::Map => found(&OF_MAP, word),
-        _ => found(&OF_FIELD, word),
+        Operation::Mapset => of_mapset(word),
+        Operation::Map => of_map(word),
+        Operation::Field | Operation::Passed | Operation::End => of_field(word),
     }
 }

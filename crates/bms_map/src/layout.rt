@@ -1,12 +1,13 @@
 //! The layout of a map: what the symbolic map says that the program reads.
 
 ghost use Rattle.std.specs.Prelude.{◌≡◌, ◌++◌, [], codes, IfOk, OnOk};
+ghost use Rattle.std.specs.List.{flat_map};
 ghost use Rattle.std.specs.String.{string_bytes};
-ghost use Rattle.bms_map.specs.LayoutText.{comment, entry_if, entry_text, kind_line, kind_word, label_text, layout_text, name_line, numbered, place_lines, screen_line, screen_word, size_lines, top_lines};
+ghost use Rattle.bms_map.specs.LayoutText.{comment, entry_if, entry_text, kind_line, kind_word, label_text, layout_text, name_line, named_line, numbered, place_lines, screen_line, screen_word, size_lines, top_lines};
 
 use crate::field::Field;
 use crate::map::Map;
-use crate::mapset::name_of;
+use crate::names::name_of;
 use bms_source::push_codes;
 use std::alloc::{AllocError, Global};
 
@@ -70,15 +71,27 @@ fn push_enclosed(out: &mut String, number: u16) -> Result<(), AllocError>
     write!(out, "({number})")
 }
 
+fn push_named(
+    alloc: Global,
+    out: &mut String,
+    label: &[u8],
+    occurrence: u16,
+) -> Result<(), AllocError>
+    ensures { OnOk result
+        (string_bytes out.new ≡ string_bytes out.old ++ named_line label.now occurrence) }
+{
+    let name = name_of(alloc, label)?;
+    out.push_str("\n[[field]]\nname = \"")?;
+    push_codes(out, &name)?;
+    push_hyphened(out, occurrence)?;
+    out.push_str("\"\n")
+}
+
 fn push_name(alloc: Global, out: &mut String, field: &Field) -> Result<(), AllocError>
     ensures { OnOk result
         (string_bytes out.new ≡ string_bytes out.old ++ name_line field.now) }
 {
-    let name = name_of(alloc, &field.label)?;
-    out.push_str("\n[[field]]\nname = \"")?;
-    push_codes(out, &name)?;
-    push_hyphened(out, field.occurrence)?;
-    out.push_str("\"\n")
+    push_named(alloc, out, field.label.as_slice(), field.occurrence)
 }
 
 /// The row and the column of the first character, which may stand round the screen's end.
@@ -159,6 +172,19 @@ fn push_declared(
     push_entry(alloc, out, map, field)
 }
 
+/// Adds the entries of fields.
+fn push_all(alloc: Global, out: &mut String, map: &Map, fields: &[Field]) -> Result<(), AllocError>
+    ensures { OnOk result (string_bytes out.new
+        ≡ string_bytes out.old ++ flat_map (entry_if map.now) fields.now) }
+{
+    let mut rest = fields;
+    while let [field, others @ ..] = rest {
+        push_declared(alloc, out, map, field)?;
+        rest = others;
+    }
+    Ok(())
+}
+
 /// The layout of a map, as text.
 ///
 /// # Errors
@@ -169,8 +195,6 @@ pub fn layout_text(alloc: Global, map: &Map) -> Result<String, AllocError>
 {
     let mut out = String::new(alloc);
     push_top(&mut out, map)?;
-    for field in map.fields.as_slice() {
-        push_declared(alloc, &mut out, map, field)?;
-    }
+    push_all(alloc, &mut out, map, map.fields.as_slice())?;
     Ok(out)
 }

@@ -1,13 +1,19 @@
 //! BMS maps: from a source to maps, and of each map its record, its layout and its overlaps.
 #![tactic(auto)]
 
+mod bits;
 mod characters;
 mod field;
+mod fields;
+mod groups;
 mod keyword;
 mod layout;
 mod list;
+mod lookup;
+mod macros;
 mod map;
 mod mapset;
+mod names;
 mod operands;
 mod overlap;
 mod pairs;
@@ -15,15 +21,16 @@ mod picture;
 mod place;
 mod record;
 mod refuse;
+mod screen;
+mod sheet;
 mod text;
 mod values;
 
+pub use bits::Bits;
 pub use field::{Field, Later, Looks};
 pub use layout::{layout_text, push_label};
-pub use list::Bits;
 pub use map::Map;
 pub use mapset::read_maps;
-pub use overlap::{Overlap, overlaps_of};
-pub use place::Area;
+pub use overlap::{Overlap, nearest_is_one, overlaps_are_nearest, overlaps_of};
+pub use place::{Area, Extent};
 pub use record::{Control, record_of};
-pub use values::Extent;

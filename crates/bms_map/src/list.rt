@@ -1,408 +1,386 @@
 //! Values that are lists of words.
 
-ghost use Rattle.std.specs.Prelude.{◌≤◌, ◌<◌, IfOk, length, IfSome, ◌≡◌, None};
+ghost use Rattle.std.specs.Prelude.{◌≡◌, ◌≤◌, ◌<◌, IfOk, IfSome, length, map, nat_lt, ◌&&◌, if◌then◌else◌};
+ghost use Rattle.std.specs.List.{list_all, list_any};
+ghost use Rattle.std.specs.Option.{option_map};
+ghost use Rattle.bms_map.specs.Lists.{cut, items_of, words_of, is_of_word, is_word, are_words, is_among, are_among, has, are_same, has_twice, count_among, value_if, protections, intensities, attributes_conflict, attribute_bits, attribute_names, formats, controls_conflict, control_value, control_names, validation_value, validation_names, outline_value, outline_names, good_places, other_places, justify_fault, list_fault, never};
+ghost use Rattle.bms_map.specs.Operands.{places_fault};
 
 use crate::values::{between, comma_in};
-use bms_source::{Letter, Why, is_named};
+use bms_source::{Letter, Why, is_named, upper};
 use std::alloc::{AllocError, Global};
+use std::marker::Model;
 
 /// A word of a list.
-#[derive(Clone, Copy, Debug, PartialEq, Eq)]
-pub(crate) enum Word {
-    Unprotected,
-    Protected,
-    AutoSkip,
-    Numeric,
-    Modified,
-    Normal,
-    Detectable,
-    Bright,
-    Dark,
-    Cursor,
-    FreeKeyboard,
-    Alarm,
-    ResetModified,
-    Print,
-    EndOfMessage,
-    Line40,
-    Line64,
-    Line80,
-    MustFill,
-    MustEnter,
-    Trigger,
-    UserExit,
-    Box,
-    Left,
-    Over,
-    Right,
-    Under,
-    First,
-    Last,
-    Bottom,
+#[derive(Drop)]
+pub(crate) struct Word<'a> {
+    letters: &'a [Letter],
 }
 
-pub(crate) struct Named {
-    name: &'static [u8],
-    word: Word,
+impl<'a> Model for Word<'a> {
+    ghost use Rattle.std.specs.Prelude.{List};
+    ghost use Rattle.bms_source.specs.declared.letter.Letter.{Letter};
+
+    ghost Value = { List Letter };
+
+    ghost view = { λ w. w.letters.now };
 }
 
-pub(crate) const OF_ATTRIBUTE: [Named; 10] = [
-    Named {
-        name: b"UNPROT",
-        word: Word::Unprotected,
-    },
-    Named {
-        name: b"PROT",
-        word: Word::Protected,
-    },
-    Named {
-        name: b"ASKIP",
-        word: Word::AutoSkip,
-    },
-    Named {
-        name: b"NUM",
-        word: Word::Numeric,
-    },
-    Named {
-        name: b"FSET",
-        word: Word::Modified,
-    },
-    Named {
-        name: b"NORM",
-        word: Word::Normal,
-    },
-    Named {
-        name: b"DET",
-        word: Word::Detectable,
-    },
-    Named {
-        name: b"BRT",
-        word: Word::Bright,
-    },
-    Named {
-        name: b"DRK",
-        word: Word::Dark,
-    },
-    Named {
-        name: b"IC",
-        word: Word::Cursor,
-    },
+const ATTRIBUTES: [&[u8]; 10] = [
+    b"UNPROT", b"PROT", b"ASKIP", b"NUM", b"FSET", b"NORM", b"DET", b"BRT", b"DRK", b"IC",
 ];
 
-pub(crate) const OF_CONTROL: [Named; 8] = [
-    Named {
-        name: b"FREEKB",
-        word: Word::FreeKeyboard,
-    },
-    Named {
-        name: b"ALARM",
-        word: Word::Alarm,
-    },
-    Named {
-        name: b"FRSET",
-        word: Word::ResetModified,
-    },
-    Named {
-        name: b"PRINT",
-        word: Word::Print,
-    },
-    Named {
-        name: b"HONEOM",
-        word: Word::EndOfMessage,
-    },
-    Named {
-        name: b"L40",
-        word: Word::Line40,
-    },
-    Named {
-        name: b"L64",
-        word: Word::Line64,
-    },
-    Named {
-        name: b"L80",
-        word: Word::Line80,
-    },
+const PROTECTIONS: [&[u8]; 3] = [b"ASKIP", b"PROT", b"UNPROT"];
+
+const INTENSITIES: [&[u8]; 3] = [b"BRT", b"NORM", b"DRK"];
+
+const CONTROLS: [&[u8]; 8] = [
+    b"FREEKB", b"ALARM", b"FRSET", b"PRINT", b"HONEOM", b"L40", b"L64", b"L80",
 ];
 
-pub(crate) const OF_VALIDATION: [Named; 4] = [
-    Named {
-        name: b"MUSTFILL",
-        word: Word::MustFill,
-    },
-    Named {
-        name: b"MUSTENTER",
-        word: Word::MustEnter,
-    },
-    Named {
-        name: b"TRIGGER",
-        word: Word::Trigger,
-    },
-    Named {
-        name: b"USEREXIT",
-        word: Word::UserExit,
-    },
-];
+const FORMATS: [&[u8]; 4] = [b"HONEOM", b"L40", b"L64", b"L80"];
 
-pub(crate) const OF_OUTLINE: [Named; 5] = [
-    Named {
-        name: b"BOX",
-        word: Word::Box,
-    },
-    Named {
-        name: b"LEFT",
-        word: Word::Left,
-    },
-    Named {
-        name: b"OVER",
-        word: Word::Over,
-    },
-    Named {
-        name: b"RIGHT",
-        word: Word::Right,
-    },
-    Named {
-        name: b"UNDER",
-        word: Word::Under,
-    },
-];
+const VALIDATIONS: [&[u8]; 4] = [b"MUSTFILL", b"MUSTENTER", b"TRIGGER", b"USEREXIT"];
 
-pub(crate) const OF_JUSTIFY: [Named; 5] = [
-    Named {
-        name: b"LEFT",
-        word: Word::Left,
-    },
-    Named {
-        name: b"FIRST",
-        word: Word::First,
-    },
-    Named {
-        name: b"RIGHT",
-        word: Word::Right,
-    },
-    Named {
-        name: b"LAST",
-        word: Word::Last,
-    },
-    Named {
-        name: b"BOTTOM",
-        word: Word::Bottom,
-    },
-];
+const OUTLINES: [&[u8]; 5] = [b"BOX", b"LEFT", b"OVER", b"RIGHT", b"UNDER"];
 
-fn found(table: &[Named], letters: &[Letter]) -> Option<Word> {
-    for named in table {
-        if is_named(letters, named.name) {
-            return Some(named.word);
-        }
+const GOOD_PLACES: [&[u8]; 2] = [b"LEFT", b"FIRST"];
+
+const OTHER_PLACES: [&[u8]; 3] = [b"RIGHT", b"LAST", b"BOTTOM"];
+
+/// The item before the first comma and what comes after it, if there is one.
+fn cut(letters: &[Letter]) -> Option<(&[Letter], &[Letter])>
+    ensures cut { option_map (λ parts. (parts.0.now, parts.1.now)) result ≡ cut letters.now }
+    ensures shorter { IfSome result (λ parts. length parts.1.now < length letters.now) }
+{
+    let (item, others) = letters.split_at(comma_in(letters));
+    match others {
+        [] => None,
+        [_comma, after @ ..] => Some((item, after)),
     }
-    None
+}
+
+/// The items between the commas.
+fn items_of<'a>(alloc: Global, letters: &'a [Letter]) -> Result<Vec<Word<'a>>, AllocError>
+    ensures { IfOk result (λ items. items.items ≡ items_of letters.now) }
+{
+    let mut words = Vec::new(alloc);
+    let mut rest = letters;
+    while let Some((item, others)) = cut(rest) {
+        words.push(Word { letters: item })?;
+        rest = others;
+    }
+    words.push(Word { letters: rest })?;
+    Ok(words)
+}
+
+/// The items inside the parentheses of a list, or a word alone.
+pub(crate) fn words_of<'a>(alloc: Global, value: &'a [Letter]) -> Result<Vec<Word<'a>>, AllocError>
+    ensures { IfOk result (λ words. words.items ≡ words_of value.now) }
+{
+    match between(value, b'(', b')') {
+        Some(inner) => items_of(alloc, inner),
+        None => items_of(alloc, value),
+    }
+}
+
+fn is_of_word(code: u8) -> bool
+    ensures { result ≡ is_of_word code }
+{
+    !(code == b'(' || code == b')' || code == b',' || code == b'\'')
+}
+
+fn are_of_word(letters: &[Letter]) -> bool
+    ensures { result ≡ list_all (λ letter. is_of_word letter.code) letters.now }
+{
+    letters.iter().all(|letter| is_of_word(letter.code))
 }
 
 /// Whether letters are a word: some, without parentheses, commas and apostrophes.
-fn is_word(letters: &[Letter]) -> bool {
-    !letters.is_empty()
-        && letters.iter().all(|letter| !matches!(letter.code, b'(' | b')' | b',' | b'\''))
-}
-
-/// The word at the front of a list.
-fn first_word(letters: &[Letter]) -> &[Letter] {
-    &letters[..comma_in(letters)]
-}
-
-/// What comes after the first comma, if there is one.
-fn after_comma(letters: &[Letter]) -> Option<&[Letter]>
-    ensures { IfSome result (λ rest. length rest.now < length letters.now) }
+fn is_word(letters: &[Letter]) -> bool
+    ensures { result ≡ is_word letters.now }
 {
-    let at = comma_in(letters);
-    if at < letters.len() {
-        Some(&letters[at + 1..])
+    if letters.is_empty() {
+        return false;
+    }
+    are_of_word(letters)
+}
+
+fn are_words(words: &[Word<'_>]) -> bool
+    ensures { result ≡ are_words words.now }
+{
+    let mut rest = words;
+    while let [word, others @ ..] = rest {
+        if !is_word(word.letters) {
+            return false;
+        }
+        rest = others;
+    }
+    true
+}
+
+/// Whether a word is one of these.
+fn is_among(names: &[&[u8]], word: &[Letter]) -> bool
+    ensures { result ≡ is_among (map (λ name. name.now) names.now) word.now }
+{
+    let mut rest = names;
+    while let [name, others @ ..] = rest {
+        if is_named(word, name) {
+            return true;
+        }
+        rest = others;
+    }
+    false
+}
+
+fn are_among(names: &[&[u8]], words: &[Word<'_>]) -> bool
+    ensures { result ≡ are_among (map (λ name. name.now) names.now) words.now }
+{
+    let mut rest = words;
+    while let [word, others @ ..] = rest {
+        if !is_among(names, word.letters) {
+            return false;
+        }
+        rest = others;
+    }
+    true
+}
+
+/// Whether words have this one.
+pub(crate) fn has(words: &[Word<'_>], name: &[u8]) -> bool
+    ensures { result ≡ has words.now name.now }
+{
+    let mut rest = words;
+    while let [word, others @ ..] = rest {
+        if is_named(word.letters, name) {
+            return true;
+        }
+        rest = others;
+    }
+    false
+}
+
+/// Whether two words are one, in either case.
+pub(crate) fn are_same(one: &[Letter], other: &[Letter]) -> bool
+    ensures { result ≡ are_same one.now other.now }
+{
+    match one {
+        [] => other.is_empty(),
+        [a, others @ ..] => match other {
+            [] => false,
+            [b, rest @ ..] => upper(a.code) == upper(b.code) && are_same(others, rest),
+        },
+    }
+}
+
+fn is_again(word: &[Letter], words: &[Word<'_>]) -> bool
+    ensures { result ≡ list_any (are_same word.now) words.now }
+{
+    let mut rest = words;
+    while let [other, others @ ..] = rest {
+        if are_same(word, other.letters) {
+            return true;
+        }
+        rest = others;
+    }
+    false
+}
+
+/// Whether a word comes twice.
+fn has_twice(words: &[Word<'_>]) -> bool
+    ensures { result ≡ has_twice words.now }
+{
+    let mut rest = words;
+    while let [word, others @ ..] = rest {
+        if is_again(word.letters, others) {
+            return true;
+        }
+        rest = others;
+    }
+    false
+}
+
+fn number_if(is: bool) -> usize
+    ensures number { result ≡ (if is then 1 else 0) }
+    ensures few { result ≤ 1 }
+{
+    if is { 1 } else { 0 }
+}
+
+/// How many of the words are one of these.
+fn count_among(names: &[&[u8]], words: &[Word<'_>]) -> usize
+    ensures count { result ≡ count_among (map (λ name. name.now) names.now) words.now }
+{
+    let mut count = 0usize;
+    let mut rest = words;
+    while let [word, others @ ..] = rest {
+        let more = number_if(is_among(names, word.letters));
+        count += more;
+        rest = others;
+    }
+    count
+}
+
+fn value_if(has: bool, value: u8) -> u8
+    ensures value { result ≡ value_if has value }
+    ensures most { result ≤ value }
+{
+    if has { value } else { 0 }
+}
+
+/// Whether more than one of the words is one of these.
+fn are_several(names: &[&[u8]], words: &[Word<'_>]) -> bool
+    ensures { result ≡ nat_lt 1 (count_among (map (λ name. name.now) names.now) words.now) }
+{
+    1 < count_among(names, words)
+}
+
+#[tactic(auto, unfolding(crate::specs::Lists::attributes_conflict, crate::specs::Lists::protections, crate::specs::Lists::intensities))]
+fn attributes_conflict(words: &[Word<'_>]) -> bool
+    ensures { result ≡ attributes_conflict words.now }
+{
+    has_twice(words)
+        || are_several(&PROTECTIONS, words)
+        || are_several(&INTENSITIES, words)
+        || (has(words, b"DET") && has(words, b"DRK"))
+}
+
+/// The bits of an attribute that ATTRB tells.
+#[tactic(auto, unfolding(crate::specs::Lists::attribute_bits))]
+pub(crate) fn attribute_bits(words: &[Word<'_>]) -> u8
+    ensures bits { result ≡ attribute_bits words.now }
+    ensures six { result < 64 }
+{
+    value_if(has(words, b"PROT") || has(words, b"ASKIP"), 0x20)
+        + value_if(has(words, b"NUM") || has(words, b"ASKIP"), 0x10)
+        + value_if(has(words, b"BRT") || has(words, b"DRK"), 0x08)
+        + value_if(has(words, b"DET") || has(words, b"DRK"), 0x04)
+        + value_if(has(words, b"FSET"), 0x01)
+}
+
+#[tactic(auto, unfolding(crate::specs::Lists::controls_conflict, crate::specs::Lists::formats))]
+fn controls_conflict(words: &[Word<'_>]) -> bool
+    ensures { result ≡ controls_conflict words.now }
+{
+    has_twice(words) || are_several(&FORMATS, words)
+}
+
+/// The bits of the write control character that CTRL tells.
+#[tactic(auto, unfolding(crate::specs::Lists::control_value))]
+pub(crate) fn control_value(words: &[Word<'_>]) -> u8
+    ensures bits { result ≡ control_value words.now }
+    ensures six { result < 64 }
+{
+    value_if(has(words, b"L64") || has(words, b"L80"), 0x20)
+        + value_if(has(words, b"L40") || has(words, b"L80"), 0x10)
+        + value_if(has(words, b"PRINT"), 0x08)
+        + value_if(has(words, b"ALARM"), 0x04)
+        + value_if(has(words, b"FREEKB"), 0x02)
+        + value_if(has(words, b"FRSET"), 0x01)
+}
+
+/// The value of a pair for a validation; 0 for none.
+#[tactic(auto, unfolding(crate::specs::Lists::validation_value))]
+pub(crate) fn validation_value(words: &[Word<'_>]) -> u8
+    ensures { result ≡ validation_value words.now }
+{
+    value_if(has(words, b"MUSTFILL"), 0x04)
+        + value_if(has(words, b"MUSTENTER"), 0x02)
+        + value_if(has(words, b"TRIGGER"), 0x01)
+}
+
+/// The value of a pair for lines round a field.
+#[tactic(auto, unfolding(crate::specs::Lists::outline_value))]
+pub(crate) fn outline_value(words: &[Word<'_>]) -> u8
+    ensures { result ≡ outline_value words.now }
+{
+    value_if(has(words, b"LEFT") || has(words, b"BOX"), 0x08)
+        + value_if(has(words, b"OVER") || has(words, b"BOX"), 0x04)
+        + value_if(has(words, b"RIGHT") || has(words, b"BOX"), 0x02)
+        + value_if(has(words, b"UNDER") || has(words, b"BOX"), 0x01)
+}
+
+fn are_known(names: &[&[u8]], words: &[Word<'_>]) -> bool
+    ensures { result ≡ are_words words.now
+        && are_among (map (λ name. name.now) names.now) words.now }
+{
+    are_words(words) && are_among(names, words)
+}
+
+#[tactic(auto, unfolding(crate::specs::Lists::attribute_names))]
+pub(crate) fn attributes_fault(words: &[Word<'_>]) -> Option<Why>
+    ensures { result ≡ list_fault attribute_names attributes_conflict words.now }
+{
+    if !are_known(&ATTRIBUTES, words) {
+        return Some(Why::BadValue);
+    }
+    if attributes_conflict(words) {
+        Some(Why::Conflict)
     } else {
         None
     }
 }
 
-/// What is inside the parentheses of a list, or a word alone.
-fn inside(value: &[Letter]) -> &[Letter] {
-    match between(value, b'(', b')') {
-        Some(inner) => inner,
-        None => value,
-    }
-}
-
-/// Whether each item of a list is a word.
-fn are_words(letters: &[Letter]) -> bool {
-    let mut rest = letters;
-    while is_word(first_word(rest)) {
-        match after_comma(rest) {
-            Some(others) => rest = others,
-            None => return true,
-        }
-    }
-    false
-}
-
-/// The words of a list, unless one is not in the table.
-fn words_in(
-    alloc: Global,
-    table: &[Named],
-    letters: &[Letter],
-) -> Result<Option<Vec<Word>>, AllocError> {
-    let mut words = Vec::new(alloc);
-    let mut rest = letters;
-    while let Some(word) = found(table, first_word(rest)) {
-        words.push(word)?;
-        match after_comma(rest) {
-            Some(others) => rest = others,
-            None => return Ok(Some(words)),
-        }
-    }
-    Ok(None)
-}
-
-/// The words of a value, if it is a list of words of the table.
-pub(crate) fn list_of(
-    alloc: Global,
-    table: &[Named],
-    value: &[Letter],
-) -> Result<Option<Vec<Word>>, AllocError> {
-    let inner = inside(value);
-    if !are_words(inner) {
-        return Ok(None);
-    }
-    words_in(alloc, table, inner)
-}
-
-/// Whether words have this one.
-fn has(words: &[Word], word: Word) -> bool {
-    words.contains(&word)
-}
-
-fn value_if(words: &[Word], word: Word, value: u8) -> u8
-    ensures { result ≤ value }
+#[tactic(auto, unfolding(crate::specs::Lists::control_names))]
+pub(crate) fn controls_fault(words: &[Word<'_>]) -> Option<Why>
+    ensures { result ≡ list_fault control_names controls_conflict words.now }
 {
-    if has(words, word) { value } else { 0 }
-}
-
-/// How many of the words are one of these.
-fn count(words: &[Word], some: &[Word]) -> usize {
-    words.iter().filter(|word| some.contains(*word)).count()
-}
-
-/// Whether a word comes twice.
-fn has_twice(words: &[Word]) -> bool {
-    for i in 0..words.len() {
-        if has(&words[i + 1..], words[i]) {
-            return true;
-        }
+    if !are_known(&CONTROLS, words) {
+        return Some(Why::BadValue);
     }
-    false
-}
-
-/// Six bits of a write control character.
-#[derive(Clone, Copy, Debug, PartialEq, Eq)]
-pub struct Bits {
-    pub bits: u8,
-    ghost six: { bits < 64 },
-}
-
-/// The attribute and the cursor that ATTRB tells.
-#[derive(Clone, Copy, Debug, PartialEq, Eq)]
-pub(crate) struct Attribute {
-    pub(crate) bits: u8,
-    pub(crate) has_cursor: bool,
-    ghost six: { bits < 64 },
-}
-
-fn is_attribute_conflict(words: &[Word]) -> bool {
-    has_twice(words)
-        || 1 < count(words, &[Word::AutoSkip, Word::Protected, Word::Unprotected])
-        || 1 < count(words, &[Word::Bright, Word::Normal, Word::Dark])
-        || (has(words, Word::Detectable) && has(words, Word::Dark))
-}
-
-fn protection_of(words: &[Word]) -> u8
-    ensures { result ≤ 48 }
-{
-    if has(words, Word::AutoSkip) {
-        0x30
+    if controls_conflict(words) {
+        Some(Why::Conflict)
     } else {
-        value_if(words, Word::Protected, 0x20) + value_if(words, Word::Numeric, 0x10)
+        None
     }
 }
 
-fn display_of(words: &[Word]) -> u8
-    ensures { result ≤ 12 }
+#[tactic(auto, unfolding(crate::specs::Lists::validation_names))]
+pub(crate) fn validations_fault(words: &[Word<'_>]) -> Option<Why>
+    ensures { result ≡ list_fault validation_names never words.now }
 {
-    if has(words, Word::Dark) {
-        0x0C
+    if are_known(&VALIDATIONS, words) {
+        None
     } else {
-        value_if(words, Word::Bright, 0x08) + value_if(words, Word::Detectable, 0x04)
+        Some(Why::BadValue)
     }
 }
 
-pub(crate) fn attribute_of(words: &[Word]) -> Result<Attribute, Why>
-    ensures { IfOk result (λ attribute. attribute.bits < 64) }
+#[tactic(auto, unfolding(crate::specs::Lists::outline_names))]
+pub(crate) fn outlines_fault(words: &[Word<'_>]) -> Option<Why>
+    ensures { result ≡ list_fault outline_names never words.now }
 {
-    if is_attribute_conflict(words) {
-        return Err(Why::Conflict);
-    }
-    Ok(Attribute {
-        bits: protection_of(words) + display_of(words) + value_if(words, Word::Modified, 0x01),
-        has_cursor: has(words, Word::Cursor),
-    })
-}
-
-/// The format of a printout.
-fn format_of(words: &[Word]) -> u8
-    ensures { result ≤ 48 }
-{
-    if has(words, Word::Line80) {
-        0x30
+    if are_known(&OUTLINES, words) {
+        None
     } else {
-        value_if(words, Word::Line40, 0x10) + value_if(words, Word::Line64, 0x20)
+        Some(Why::BadValue)
     }
 }
 
-/// The bits of the write control character that CTRL tells.
-pub(crate) fn control_of(words: &[Word]) -> Result<Bits, Why> {
-    if has_twice(words)
-        || 1 < count(
-            words,
-            &[Word::EndOfMessage, Word::Line40, Word::Line64, Word::Line80],
-        )
-    {
-        return Err(Why::Conflict);
+/// The first word under which a map has no place of its own.
+#[tactic(auto, unfolding(crate::specs::Lists::good_places, crate::specs::Lists::other_places))]
+fn justify_fault(words: &[Word<'_>]) -> Option<Why>
+    ensures { result ≡ justify_fault words.now }
+{
+    let mut rest = words;
+    while let [word, others @ ..] = rest {
+        if !is_among(&GOOD_PLACES, word.letters) {
+            if is_among(&OTHER_PLACES, word.letters) {
+                return Some(Why::Unsupported);
+            }
+            return Some(Why::BadValue);
+        }
+        rest = others;
     }
-    let bits = format_of(words)
-        + value_if(words, Word::Print, 0x08)
-        + value_if(words, Word::Alarm, 0x04)
-        + value_if(words, Word::FreeKeyboard, 0x02)
-        + value_if(words, Word::ResetModified, 0x01);
-    Ok(Bits { bits })
+    None
 }
 
-/// The value of a pair for a validation; 0 for none.
-pub(crate) fn validation_of(words: &[Word]) -> u8 {
-    value_if(words, Word::MustFill, 0x04)
-        + value_if(words, Word::MustEnter, 0x02)
-        + value_if(words, Word::Trigger, 0x01)
-}
-
-/// The value of a pair for lines round a field.
-pub(crate) fn outline_of(words: &[Word]) -> u8 {
-    if has(words, Word::Box) {
-        return 0x0F;
+pub(crate) fn places_fault(words: &[Word<'_>]) -> Option<Why>
+    ensures { result ≡ places_fault words.now }
+{
+    if are_words(words) {
+        justify_fault(words)
+    } else {
+        Some(Why::BadValue)
     }
-    value_if(words, Word::Left, 0x08)
-        + value_if(words, Word::Over, 0x04)
-        + value_if(words, Word::Right, 0x02)
-        + value_if(words, Word::Under, 0x01)
-}
-
-/// A map has a place of its own unless it is justified to the right or to the bottom.
-pub(crate) fn justify_of(words: &[Word]) -> Result<(), Why> {
-    if 0 < count(words, &[Word::Right, Word::Last, Word::Bottom]) {
-        return Err(Why::Unsupported);
-    }
-    Ok(())
 }

@@ -1,8 +1,9 @@
 //! A map.
 
+use crate::bits::Bits;
 use crate::field::{Field, Looks};
-use crate::list::Bits;
 use crate::place::Area;
+use std::marker::Model;
 
 /// A map: its fields in the order of their attributes on the screen.
 #[derive(Debug, Drop)]
@@ -18,4 +19,12 @@ pub struct Map {
     pub fields: Vec<Field>,
     /// The position of the attribute before the cursor, where a field has IC.
     pub cursor: Option<u32>,
+}
+
+impl Model for Map {
+    ghost use Rattle.bms_map.specs.Maps.{Sheet, its_ground};
+
+    ghost Value = { Sheet };
+
+    ghost view = { λ m. record { name = m.name.items; line = m.line; area = its_ground m.area; control = m.control.bits; looks = m.looks; fields = m.fields.items; cursor = m.cursor } };
 }

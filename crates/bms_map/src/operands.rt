@@ -1,290 +1,275 @@
 //! The operands of a macro, judged one after the other.
 
-ghost use Rattle.std.specs.Prelude.{◌<◌, ◌≤◌, IfSome, length, vec_len};
+ghost use Rattle.std.specs.Prelude.{◌≡◌, IfOk};
+ghost use Rattle.std.specs.List.{list_any};
+ghost use Rattle.bms_source.specs.Results.{Gives};
+ghost use Rattle.bms_map.specs.Values.{number_within};
+ghost use Rattle.bms_map.specs.Lists.{are_same};
+ghost use Rattle.bms_map.specs.Texts.{seen};
+ghost use Rattle.bms_map.specs.Operands.{absent, error_in, is_repeated, is_group, unless_good, value_fault, text_read, judge_why, judge_text, judge_value, judge_keyword, judge, operands_of};
 
-use crate::field::Looks;
 use crate::keyword::{Keyword, keyword_of};
 use crate::list::{
-    Attribute, Bits, OF_ATTRIBUTE, OF_CONTROL, OF_JUSTIFY, OF_OUTLINE, OF_VALIDATION, attribute_of,
-    control_of, justify_of, list_of, outline_of, validation_of,
+    are_same, attributes_fault, controls_fault, outlines_fault, places_fault, validations_fault,
+    words_of,
 };
-use crate::refuse::{place_of, refused, refused_name};
+use crate::refuse::refused;
 use crate::text::{Text, digits_of, string_of};
 use crate::values::{
-    Extent, Kind, Pos, color_of, first_of, highlight_of, kind_of, nothing_but, number_within, only,
+    color_of, first_of, highlight_of, kind_of, number_within, only, only_base, only_terminals,
     pos_of, size_of,
 };
-use bms_source::{
-    Letter, Operand, Operation, Place, SourceError, Why, is_symbol, next_operand, upper,
-};
+use bms_source::{Letter, Operation, SourceError, Why, is_symbol, next_operand, upper_word};
 use std::alloc::{AllocError, Global};
+use std::marker::Model;
 
-/// What the operands of a macro tell.
+/// An operand: its keyword and its value.
 #[derive(Drop)]
-pub(crate) struct Operands<'a> {
-    /// The keywords in turn.
-    pub(crate) keywords: Vec<&'a [Letter]>,
-    pub(crate) kind: Option<Kind>,
-    pub(crate) control: Option<Bits>,
-    pub(crate) looks: Looks,
-    pub(crate) size: Option<Extent>,
-    /// The line and the column on which a map begins, counted from 0.
-    pub(crate) top: u8,
-    pub(crate) left: u8,
-    pub(crate) pos: Option<Pos>,
-    pub(crate) length: Option<u16>,
-    pub(crate) attribute: Attribute,
-    /// The codes of INITIAL or XINIT.
-    pub(crate) text: Option<Vec<u8>>,
-    pub(crate) occurs: Option<u16>,
-    pub(crate) group: Option<&'a [Letter]>,
-    pub(crate) picture_in: Option<&'a [Letter]>,
-    pub(crate) picture_out: Option<&'a [Letter]>,
+pub(crate) struct Setting<'a> {
+    pub(crate) keyword: &'a [Letter],
+    pub(crate) value: &'a [Letter],
 }
 
-fn nothing<'a>(alloc: Global) -> Operands<'a> {
-    Operands {
-        keywords: Vec::new(alloc),
-        kind: None,
-        control: None,
-        looks: Looks {
-            highlight: None,
-            color: None,
-            validation: None,
-            outline: None,
-        },
-        size: None,
-        top: 0,
-        left: 0,
-        pos: None,
-        length: None,
-        attribute: Attribute {
-            bits: 0x30,
-            has_cursor: false,
-        },
-        text: None,
-        occurs: None,
-        group: None,
-        picture_in: None,
-        picture_out: None,
-    }
+impl<'a> Model for Setting<'a> {
+    ghost use Rattle.bms_map.specs.Operands.{Given};
+
+    ghost Value = { Given };
+
+    ghost view = { λ s. record { keyword = s.keyword.now; value = s.value.now } };
 }
 
-/// Whether two words are one, in either case.
-pub(crate) fn are_same(one: &[Letter], other: &[Letter]) -> bool {
-    if one.len() != other.len() {
-        return false;
-    }
-    for i in 0..one.len() {
-        if upper(one[i].code) != upper(other[i].code) {
-            return false;
-        }
-    }
-    true
+/// A value that there isn't is bad.
+fn absent(is_there: bool) -> Option<Why>
+    ensures { result ≡ unless_good is_there }
+{
+    if is_there { None } else { Some(Why::BadValue) }
 }
 
-impl<'a> Operands<'a> {
-    /// Where a keyword stands among the operands.
-    pub(crate) fn index_of(&self, name: &[u8]) -> Option<usize>
-        ensures { IfSome result (λ i. i < vec_len self.now.keywords) }
-    {
-        for i in 0..self.keywords.len() {
-            if bms_source::is_named(self.keywords[i], name) {
-                return Some(i);
-            }
-        }
-        None
+fn error_in(value: Result<u8, Why>) -> Option<Why>
+    ensures { result ≡ error_in value }
+{
+    match value {
+        Ok(_) => None,
+        Err(why) => Some(why),
     }
-
-    /// The refusal of an operand that stands there.
-    pub(crate) fn refused(&self, alloc: Global, why: Why, name: &[u8]) -> SourceError {
-        match self.index_of(name) {
-            Some(i) => refused(alloc, why, self.keywords[i]),
-            None => refused(alloc, why, &[]),
-        }
-    }
-
-    /// The refusal of a name that an operand tells.
-    pub(crate) fn refused_name(
-        &self,
-        alloc: Global,
-        why: Why,
-        keyword: &[u8],
-        name: &[u8],
-    ) -> SourceError {
-        match self.index_of(keyword) {
-            Some(i) => refused_name(alloc, why, name, place_of(self.keywords[i])),
-            None => refused_name(alloc, why, name, Place { line: 1, column: 1 }),
-        }
-    }
-
-    fn has(&self, keyword: &[Letter]) -> bool {
-        for i in 0..self.keywords.len() {
-            if are_same(self.keywords[i], keyword) {
-                return true;
-            }
-        }
-        false
-    }
-}
-
-fn needed<T>(value: Option<T>) -> Result<T, Why> {
-    value.ok_or(Why::BadValue)
 }
 
 /// Whether letters are a symbol of at most 30 characters.
-fn is_group(value: &[Letter]) -> bool {
+fn is_group(value: &[Letter]) -> bool
+    ensures { result ≡ is_group value.now }
+{
     is_symbol(value) && value.len() <= 30
 }
 
-/// Takes the text of INITIAL or XINIT.
-fn take_text(
-    alloc: Global,
-    told: &mut Operands<'_>,
-    keyword: &[Letter],
-    text: Text,
-) -> Result<(), SourceError> {
+fn kind_fault(value: &[Letter]) -> Option<Why>
+    ensures { result ≡ value_fault Keyword.Kind value.now }
+{
+    absent(kind_of(value).is_some())
+}
+
+fn color_fault(value: &[Letter]) -> Option<Why>
+    ensures { result ≡ value_fault Keyword.Color value.now }
+{
+    absent(color_of(value).is_some())
+}
+
+fn highlight_fault(value: &[Letter]) -> Option<Why>
+    ensures { result ≡ value_fault Keyword.Highlight value.now }
+{
+    absent(highlight_of(value).is_some())
+}
+
+fn size_fault(value: &[Letter]) -> Option<Why>
+    ensures { result ≡ value_fault Keyword.Size value.now }
+{
+    absent(size_of(value).is_some())
+}
+
+fn pos_fault(value: &[Letter]) -> Option<Why>
+    ensures { result ≡ value_fault Keyword.Pos value.now }
+{
+    absent(pos_of(value).is_some())
+}
+
+fn number_fault(value: &[Letter], least: u32, most: u32) -> Option<Why>
+    ensures { result ≡ absent (number_within value.now least most) }
+{
+    absent(number_within(value, least, most).is_some())
+}
+
+fn attribute_fault(alloc: Global, value: &[Letter]) -> Result<Option<Why>, AllocError>
+    ensures { IfOk result (λ fault. fault ≡ value_fault Keyword.Attribute value.now) }
+{
+    let words = words_of(alloc, value)?;
+    Ok(attributes_fault(&words))
+}
+
+fn control_fault(alloc: Global, value: &[Letter]) -> Result<Option<Why>, AllocError>
+    ensures { IfOk result (λ fault. fault ≡ value_fault Keyword.Control value.now) }
+{
+    let words = words_of(alloc, value)?;
+    Ok(controls_fault(&words))
+}
+
+fn validation_fault(alloc: Global, value: &[Letter]) -> Result<Option<Why>, AllocError>
+    ensures { IfOk result (λ fault. fault ≡ value_fault Keyword.Validation value.now) }
+{
+    let words = words_of(alloc, value)?;
+    Ok(validations_fault(&words))
+}
+
+fn outline_fault(alloc: Global, value: &[Letter]) -> Result<Option<Why>, AllocError>
+    ensures { IfOk result (λ fault. fault ≡ value_fault Keyword.Outline value.now) }
+{
+    let words = words_of(alloc, value)?;
+    Ok(outlines_fault(&words))
+}
+
+fn justify_fault(alloc: Global, value: &[Letter]) -> Result<Option<Why>, AllocError>
+    ensures { IfOk result (λ fault. fault ≡ value_fault Keyword.Justify value.now) }
+{
+    let words = words_of(alloc, value)?;
+    Ok(places_fault(&words))
+}
+
+/// What is wrong with a value that is no text.
+fn value_fault(alloc: Global, keyword: Keyword, value: &[Letter]) -> Result<Option<Why>, AllocError>
+    ensures { IfOk result (λ fault. fault ≡ value_fault keyword value.now) }
+{
+    match keyword {
+        Keyword::Kind => Ok(kind_fault(value)),
+        Keyword::Color => Ok(color_fault(value)),
+        Keyword::Highlight => Ok(highlight_fault(value)),
+        Keyword::Size => Ok(size_fault(value)),
+        Keyword::Line => Ok(error_in(first_of(value))),
+        Keyword::Column => Ok(error_in(first_of(value))),
+        Keyword::Pos => Ok(pos_fault(value)),
+        Keyword::Length => Ok(number_fault(value, 0, 256)),
+        Keyword::Occurs => Ok(number_fault(value, 1, 1000)),
+        Keyword::Group => Ok(absent(is_group(value))),
+        Keyword::Symbols => Ok(only_base(value)),
+        Keyword::Terminal => Ok(only_terminals(value)),
+        Keyword::NotYes => Ok(only(value, b"NO", b"YES")),
+        Keyword::NotBlock => Ok(only(value, b"FIELD", b"BLOCK")),
+        Keyword::Unmodelled => Ok(Some(Why::Unsupported)),
+        Keyword::Attribute => attribute_fault(alloc, value),
+        Keyword::Control => control_fault(alloc, value),
+        Keyword::Validation => validation_fault(alloc, value),
+        Keyword::Outline => outline_fault(alloc, value),
+        Keyword::Justify => justify_fault(alloc, value),
+        Keyword::Initial => Ok(None),
+        Keyword::HexInitial => Ok(None),
+        Keyword::PictureIn => Ok(None),
+        Keyword::PictureOut => Ok(None),
+        Keyword::Ignored => Ok(None),
+    }
+}
+
+fn judge_why(alloc: Global, keyword: &[Letter], fault: Option<Why>) -> Result<(), SourceError>
+    ensures { Gives (λ done. done) result (judge_why keyword.now fault) }
+{
+    match fault {
+        None => Ok(()),
+        Some(why) => Err(refused(alloc, why, keyword)?),
+    }
+}
+
+fn judge_text(alloc: Global, keyword: &[Letter], text: Text) -> Result<(), SourceError>
+    ensures { Gives (λ done. done) result (judge_text keyword.now (seen text)) }
+{
     match text {
-        Text::Codes(codes) => {
-            told.text = Some(codes);
-            Ok(())
+        Text::Codes(_codes) => Ok(()),
+        Text::NoText => Err(refused(alloc, Why::BadValue, keyword)?),
+        Text::Bad(place) => {
+            let word = upper_word(alloc, keyword)?;
+            Err(SourceError::with_word(Why::BadCharacter, word, place))
         }
-        Text::NoText => Err(refused(alloc, Why::BadValue, keyword)),
-        Text::Bad(place) => Err(bad_character(alloc, keyword, place)),
     }
 }
 
-fn bad_character(alloc: Global, keyword: &[Letter], place: Place) -> SourceError {
-    match bms_source::upper_word(alloc, keyword) {
-        Ok(word) => SourceError::with_word(Why::BadCharacter, word, place),
-        Err(_) => SourceError::OutOfMemory,
-    }
-}
-
-/// Takes a value that is a list of words.
-fn take_list(
-    alloc: Global,
-    told: &mut Operands<'_>,
-    keyword: Keyword,
-    value: &[Letter],
-) -> Result<Result<(), Why>, AllocError> {
-    let table = match keyword {
-        Keyword::Attribute => OF_ATTRIBUTE.as_slice(),
-        Keyword::Control => OF_CONTROL.as_slice(),
-        Keyword::Validation => OF_VALIDATION.as_slice(),
-        Keyword::Outline => OF_OUTLINE.as_slice(),
-        _ => OF_JUSTIFY.as_slice(),
-    };
-    let Some(words) = list_of(alloc, table, value)? else {
-        return Ok(Err(Why::BadValue));
-    };
+/// A text of INITIAL or XINIT; of another operand an empty one.
+fn text_read(alloc: Global, keyword: Keyword, value: &[Letter]) -> Result<Text, AllocError>
+    ensures { IfOk result (λ text. seen text ≡ text_read keyword value.now) }
+{
     match keyword {
-        Keyword::Attribute => match attribute_of(&words) {
-            Ok(attribute) => told.attribute = attribute,
-            Err(why) => return Ok(Err(why)),
-        },
-        Keyword::Control => match control_of(&words) {
-            Ok(control) => told.control = Some(control),
-            Err(why) => return Ok(Err(why)),
-        },
-        Keyword::Validation => told.looks.validation = Some(validation_of(&words)),
-        Keyword::Outline => told.looks.outline = Some(outline_of(&words)),
-        _ => return Ok(justify_of(&words)),
+        Keyword::Initial => string_of(alloc, value),
+        Keyword::HexInitial => digits_of(alloc, value),
+        _ => Ok(Text::Codes(Vec::new(alloc))),
     }
-    Ok(Ok(()))
 }
 
-/// Takes any other value that asks for no memory.
-fn take_value<'a>(
-    told: &mut Operands<'a>,
-    keyword: Keyword,
-    value: &'a [Letter],
-) -> Result<(), Why> {
-    match keyword {
-        Keyword::Type => told.kind = Some(needed(kind_of(value))?),
-        Keyword::Color => told.looks.color = Some(needed(color_of(value))?),
-        Keyword::Highlight => told.looks.highlight = Some(needed(highlight_of(value))?),
-        Keyword::Size => told.size = Some(needed(size_of(value))?),
-        Keyword::Line => told.top = first_of(value)?,
-        Keyword::Column => told.left = first_of(value)?,
-        Keyword::Pos => told.pos = Some(needed(pos_of(value))?),
-        Keyword::Length => told.length = Some(needed(number_within(value, 0, 256))?),
-        Keyword::Occurs => told.occurs = Some(needed(number_within(value, 1, 1000))?),
-        Keyword::Group => {
-            if !is_group(value) {
-                return Err(Why::BadValue);
-            }
-            told.group = Some(value);
+#[tactic(auto, unfolding(crate::specs::Operands::judge_value))]
+fn judge_value(alloc: Global, keyword: Keyword, given: &Setting<'_>) -> Result<(), SourceError>
+    ensures { Gives (λ done. done) result (judge_value keyword given.now) }
+{
+    let text = text_read(alloc, keyword, given.value)?;
+    judge_text(alloc, given.keyword, text)?;
+    let fault = value_fault(alloc, keyword, given.value)?;
+    judge_why(alloc, given.keyword, fault)
+}
+
+/// Whether a keyword stands among operands.
+fn is_among(before: &[Setting<'_>], keyword: &[Letter]) -> bool
+    ensures { result ≡ is_repeated before.now keyword.now }
+{
+    let mut rest = before;
+    while let [other, others @ ..] = rest {
+        if are_same(other.keyword, keyword) {
+            return true;
         }
-        Keyword::PictureIn => told.picture_in = Some(value),
-        Keyword::PictureOut => told.picture_out = Some(value),
-        Keyword::Symbols => nothing_but(value, &[b"BASE"])?,
-        Keyword::Terminal => nothing_but(value, &[b"ALL", b"3270", b"3270-2"])?,
-        Keyword::NotYes => only(value, b"NO", b"YES")?,
-        Keyword::NotBlock => only(value, b"FIELD", b"BLOCK")?,
-        Keyword::Unsupported => return Err(Why::Unsupported),
-        _ => {}
+        rest = others;
     }
-    Ok(())
+    false
 }
 
-/// Takes the value of a keyword that the macro has.
-fn take<'a>(
+fn judge_keyword(
     alloc: Global,
-    told: &mut Operands<'a>,
-    keyword: Keyword,
-    operand: Operand<'a>,
-) -> Result<(), SourceError> {
-    let judged = match keyword {
-        Keyword::Initial => {
-            let text = string_of(alloc, operand.value)?;
-            return take_text(alloc, told, operand.keyword, text);
-        }
-        Keyword::HexInitial => {
-            let text = digits_of(alloc, operand.value)?;
-            return take_text(alloc, told, operand.keyword, text);
-        }
-        Keyword::Attribute
-        | Keyword::Control
-        | Keyword::Validation
-        | Keyword::Outline
-        | Keyword::Justify => take_list(alloc, told, keyword, operand.value)?,
-        _ => take_value(told, keyword, operand.value),
+    before: &[Setting<'_>],
+    given: &Setting<'_>,
+    keyword: Option<Keyword>,
+) -> Result<(), SourceError>
+    ensures { Gives (λ done. done) result (judge_keyword before.now given.now keyword) }
+{
+    let Some(keyword) = keyword else {
+        return Err(refused(alloc, Why::UnknownOperand, given.keyword)?);
     };
-    match judged {
-        Ok(()) => Ok(()),
-        Err(why) => Err(refused(alloc, why, operand.keyword)),
+    if is_among(before, given.keyword) {
+        return Err(refused(alloc, Why::OperandTwice, given.keyword)?);
     }
+    judge_value(alloc, keyword, given)
 }
 
-/// Takes an operand.
-fn take_operand<'a>(
+/// An operand behind those before it.
+#[tactic(auto, unfolding(crate::specs::Operands::judge))]
+fn judge(
     alloc: Global,
     operation: Operation,
-    told: &mut Operands<'a>,
-    operand: Operand<'a>,
-) -> Result<(), SourceError> {
-    let Some(keyword) = keyword_of(operation, operand.keyword) else {
-        return Err(refused(alloc, Why::UnknownOperand, operand.keyword));
-    };
-    if told.has(operand.keyword) {
-        return Err(refused(alloc, Why::OperandTwice, operand.keyword));
-    }
-    told.keywords.push(operand.keyword)?;
-    take(alloc, told, keyword, operand)
+    before: &[Setting<'_>],
+    given: &Setting<'_>,
+) -> Result<(), SourceError>
+    ensures { Gives (λ done. done) result (judge operation before.now given.now) }
+{
+    judge_keyword(alloc, before, given, keyword_of(operation, given.keyword))
 }
 
-/// What the operands of a macro tell, or the first that is refused.
+/// The operands of a macro, or the first that is refused.
 pub(crate) fn operands_of<'a>(
     alloc: Global,
     operation: Operation,
     letters: &'a [Letter],
-) -> Result<Operands<'a>, SourceError> {
-    let mut told = nothing(alloc);
+) -> Result<Vec<Setting<'a>>, SourceError>
+    ensures { Gives (λ operands. operands.items) result (operands_of operation letters.now) }
+{
+    let mut told = Vec::new(alloc);
     let mut rest = letters;
     while let [first, ..] = rest {
         let (operand, others) = next_operand(alloc, *first, rest)?;
-        take_operand(alloc, operation, &mut told, operand)?;
+        let given = Setting {
+            keyword: operand.keyword,
+            value: operand.value,
+        };
+        judge(alloc, operation, &told, &given)?;
+        told.push(given)?;
         rest = others;
     }
     Ok(told)

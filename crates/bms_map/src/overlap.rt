@@ -1,7 +1,8 @@
 //! Fields that overlap, or go past the end of their map.
 
 ghost use Rattle.std.specs.Prelude.{◌≡◌, ◌<◌, ◌≤◌, ◌++◌, length, IfOk, OnOk};
-ghost use Rattle.bms_map.specs.Overlaps.{end_of, nearest, overlapping, past_end, overlaps_at, overlaps_of};
+ghost use Rattle.std.specs.List.{flat_map, range_with_len};
+ghost use Rattle.bms_map.specs.Overlaps.{end_of, nearest, overlapping, past_end, overlaps_at, overlaps_of, OverlapsAreNearest, NearestIsOne};
 
 use crate::field::Field;
 use crate::map::Map;
@@ -17,6 +18,12 @@ pub enum Overlap {
 }
 
 /// The position of a field's last character, not counted round the screen's end.
+fn cell_of(field: &Field) -> u32
+    ensures { result ≡ field.now.cell }
+{
+    field.cell
+}
+
 fn end_of(field: &Field) -> u32
     ensures { result ≡ end_of field.now }
 {
@@ -74,8 +81,20 @@ fn push_overlaps(
         (found.new.items ≡ found.old.items ++ overlaps_at fields.now last index) }
 {
     let field = &fields[index];
-    push_overlapping(found, index, nearest(fields, field.cell, index))?;
+    push_overlapping(found, index, nearest(fields, cell_of(field), index))?;
     push_past(found, index, last, end_of(field))
+}
+
+/// Those of each of the fields in turn.
+fn overlaps_in(alloc: Global, fields: &[Field], last: u32) -> Result<Vec<Overlap>, AllocError>
+    ensures { IfOk result (λ found. found.items
+        ≡ flat_map (overlaps_at fields.now last) (range_with_len 0 (length fields.now))) }
+{
+    let mut found = Vec::new(alloc);
+    'fields: for index in 0..fields.len() {
+        push_overlaps(&mut found, fields, last, index)?;
+    }
+    Ok(found)
 }
 
 /// All of them, field by field.
@@ -86,11 +105,15 @@ fn push_overlaps(
 pub fn overlaps_of(alloc: Global, map: &Map) -> Result<Vec<Overlap>, AllocError>
     ensures { IfOk result (λ found. found.items ≡ overlaps_of map.now) }
 {
-    let mut found = Vec::new(alloc);
-    let fields = map.fields.as_slice();
-    let last = map.area.last();
-    'fields: for index in 0..fields.len() {
-        push_overlaps(&mut found, fields, last, index)?;
-    }
-    Ok(found)
+    overlaps_in(alloc, map.fields.as_slice(), map.area.last())
 }
+
+/// What is told of overlaps is the nearest of those before, and nothing else.
+pub fn overlaps_are_nearest()
+    ensures { OverlapsAreNearest }
+{}
+
+/// The nearest is one.
+pub fn nearest_is_one()
+    ensures { NearestIsOne }
+{}

@@ -1,29 +1,15 @@
-//! Places of a map, and the screen that has room for it.
+//! Places of a map.
 
-ghost use Rattle.std.specs.Prelude.{◌≡◌, ◌≤◌, ◌<◌, ◌*◌, ◌+◌, ◌/◌, ◌%◌, IfSome};
+ghost use Rattle.std.specs.Prelude.{◌≡◌, ◌≤◌, ◌<◌, ◌*◌, ◌+◌, ◌/◌, ◌%◌};
 
-use crate::values::Extent;
 use ds_codec::Size;
 
-/// The first screen with so many lines and columns.
-pub(crate) fn screen_for(lines: u32, columns: u32) -> Option<Size>
-    ensures fits { IfSome result (λ screen. (lines ≤ screen.rows) × (columns ≤ screen.cols)) }
-    ensures small { IfSome result (λ screen. (screen.rows ≤ 43) × (screen.cols ≤ 132)) }
-{
-    if lines <= 24 && columns <= 80 {
-        Some(Size { rows: 24, cols: 80 })
-    } else if lines <= 32 && columns <= 80 {
-        Some(Size { rows: 32, cols: 80 })
-    } else if lines <= 43 && columns <= 80 {
-        Some(Size { rows: 43, cols: 80 })
-    } else if lines <= 27 && columns <= 132 {
-        Some(Size {
-            rows: 27,
-            cols: 132,
-        })
-    } else {
-        None
-    }
+/// Lines and columns, each from 1 to 240.
+#[derive(Clone, Copy, Debug, PartialEq, Eq)]
+pub struct Extent {
+    pub lines: u8,
+    pub columns: u8,
+    ghost some: { (0 < lines) × (0 < columns) },
 }
 
 /// Where a map lies, and how large it is.
@@ -39,6 +25,7 @@ pub struct Area {
 }
 
 impl Area {
+    ghost use Rattle.bms_map.specs.Maps.{its_ground};
     ghost use Rattle.bms_map.specs.Overlaps.{cell_in, last_of};
 
     /// How many positions its screen has.
@@ -59,8 +46,9 @@ impl Area {
 
     /// The position on the screen of a place that is counted from 0.
     pub(crate) fn cell(self, index: u32) -> u32
-        requires { index ≤ 65025 }
-        ensures { result ≡ cell_in self index }
+        requires { index ≤ 400000 }
+        ensures cell { result ≡ cell_in (its_ground self) index }
+        ensures small { result ≤ 60000000 }
     {
         let columns = u32::from(self.extent.columns);
         let row = u32::from(self.top) + index / columns;
@@ -69,7 +57,7 @@ impl Area {
 
     /// The position of its last line and column.
     pub(crate) fn last(self) -> u32
-        ensures { result ≡ last_of self }
+        ensures { result ≡ last_of (its_ground self) }
     {
         self.cell(self.places().saturating_sub(1))
     }

@@ -1,9 +1,9 @@
 //! The record of a map: what SEND MAP MAPONLY ERASE sends.
 
-ghost use Rattle.std.specs.Prelude.{◌≡◌, ◌<◌, ◌≤◌, ◌%◌, true, OnOk};
+ghost use Rattle.std.specs.Prelude.{◌≡◌, ◌<◌, ◌≤◌, ◌%◌, ◌*◌, true, OnOk};
 ghost use Rattle.std.specs.List.{flat_map};
 ghost use Rattle.order_lines.specs.Draft.{with_order, with_orders};
-ghost use Rattle.bms_map.specs.Record.{text_orders, attribute_order, cursor_orders, later_orders, field_orders, with_bit, control_bits, command_of, IsRecordOf};
+ghost use Rattle.bms_map.specs.Record.{text_orders, attribute_order, cursor_orders, later_orders, parts_orders, field_orders, map_orders, with_bit, control_bits, command_of, IsRecordOf};
 
 use crate::field::{Field, Later};
 use crate::map::Map;
@@ -50,14 +50,13 @@ fn control_bits(bits: u8, control: Control) -> u8
 }
 
 /// The attribute of a field, with its pairs where it has some.
-fn push_attribute(draft: &mut Draft, field: &Field) -> Result<(), AllocError>
-    ensures { OnOk result (draft.new
-        ≡ with_order draft.old (attribute_order (field.now.attribute % 64) field.now.pairs.items)) }
+fn push_attribute(draft: &mut Draft, attribute: u8, pairs: &[u8]) -> Result<(), AllocError>
+    ensures { OnOk result
+        (draft.new ≡ with_order draft.old (attribute_order (attribute % 64) pairs.now)) }
 {
-    if field.pairs.is_empty() {
-        draft.push(&Order::Sf(Attr::new(field.attribute)))
-    } else {
-        draft.push(&Order::Sfe(field.pairs.as_slice()))
+    match pairs {
+        [] => draft.push(&Order::Sf(Attr::new(attribute))),
+        [_first, ..] => draft.push(&Order::Sfe(pairs)),
     }
 }
 
@@ -91,15 +90,39 @@ fn push_cursor(draft: &mut Draft, cursor: Option<u32>, cell: u32) -> Result<(), 
     }
 }
 
+/// The orders of a field whose attribute stands at a cell.
+fn push_parts(
+    draft: &mut Draft,
+    cursor: Option<u32>,
+    cell: u32,
+    attribute: u8,
+    pairs: &[u8],
+    text: &[u8],
+    later: &[Later],
+) -> Result<(), AllocError>
+    ensures { OnOk result (draft.new ≡ with_orders draft.old
+        (parts_orders cursor cell attribute pairs.now text.now later.now)) }
+{
+    draft.push(&Order::Sba(cell))?;
+    push_attribute(draft, attribute, pairs)?;
+    push_cursor(draft, cursor, cell)?;
+    push_text(draft, text)?;
+    push_later(draft, later)
+}
+
 /// The orders of a field.
 fn push_field(draft: &mut Draft, cursor: Option<u32>, field: &Field) -> Result<(), AllocError>
     ensures { OnOk result (draft.new ≡ with_orders draft.old (field_orders cursor field.now)) }
 {
-    draft.push(&Order::Sba(field.cell))?;
-    push_attribute(draft, field)?;
-    push_cursor(draft, cursor, field.cell)?;
-    push_text(draft, field.text.as_slice())?;
-    push_later(draft, field.later.as_slice())
+    push_parts(
+        draft,
+        cursor,
+        field.cell,
+        field.attribute,
+        field.pairs.as_slice(),
+        field.text.as_slice(),
+        field.later.as_slice(),
+    )
 }
 
 /// The orders of a map.
@@ -111,6 +134,20 @@ fn push_fields(draft: &mut Draft, cursor: Option<u32>, fields: &[Field]) -> Resu
         push_field(draft, cursor, field)?;
     }
     Ok(())
+}
+
+fn push_map(draft: &mut Draft, map: &Map) -> Result<(), AllocError>
+    ensures { OnOk result (draft.new ≡ with_orders draft.old (map_orders map.now)) }
+{
+    push_fields(draft, map.cursor, map.fields.as_slice())
+}
+
+/// How many positions the screen of a map has.
+fn cells_of(map: &Map) -> u32
+    ensures cells { result ≡ map.now.area.screen.rows * map.now.area.screen.cols }
+    ensures few { result ≤ 5676 }
+{
+    map.area.cells()
 }
 
 /// The command of a map, with its write control character.
@@ -133,8 +170,8 @@ fn command_of(map: &Map, control: Control) -> Command
 pub fn record_of(alloc: Global, map: &Map, control: Control) -> Result<Vec<u8>, Unwritable>
     ensures { IsRecordOf map.now control result }
 {
-    let cells = map.area.cells();
-    let mut draft = Draft::new(alloc, command_of(map, control), Mode::Bits14, cells)?;
-    push_fields(&mut draft, map.cursor, map.fields.as_slice())?;
+    let command = command_of(map, control);
+    let mut draft = Draft::new(alloc, command, Mode::Bits14, cells_of(map))?;
+    push_map(&mut draft, map)?;
     draft.written()
 }

@@ -1,7 +1,7 @@
 //! The texts of INITIAL and XINIT.
 
-ghost use Rattle.std.specs.Prelude.{◌≡◌, ◌<◌, ◌≤◌, IfSome, IfOk, length};
-ghost use Rattle.bms_map.specs.Texts.{are_doubled, is_doubled, after_front, codes_in, seen};
+ghost use Rattle.std.specs.Prelude.{◌≡◌, ◌<◌, ◌≤◌, IfSome, IfOk, length, is_some};
+ghost use Rattle.bms_map.specs.Texts.{are_doubled, is_doubled, after_front, codes_in, seen, string_of, digit_of, are_digits, text_byte, byte_of, bytes_in, digits_of, text_in};
 ghost use Rattle.std.specs.Option.{option_map};
 
 use crate::characters::code_of;
@@ -75,15 +75,25 @@ fn codes_in(alloc: Global, inner: &[Letter]) -> Result<Text, AllocError>
 }
 
 /// The text of a string.
-pub(crate) fn string_of(alloc: Global, value: &[Letter]) -> Result<Text, AllocError> {
+pub(crate) fn string_of(alloc: Global, value: &[Letter]) -> Result<Text, AllocError>
+    ensures { IfOk result (λ text. seen text ≡ string_of value.now) }
+{
     match between(value, b'\'', b'\'') {
-        Some(inner) if are_doubled(inner) => codes_in(alloc, inner),
-        _ => Ok(Text::NoText),
+        Some(inner) => {
+            if are_doubled(inner) {
+                codes_in(alloc, inner)
+            } else {
+                Ok(Text::NoText)
+            }
+        }
+        None => Ok(Text::NoText),
     }
 }
 
+#[tactic(auto, unfolding(crate::specs::Texts::digit_of))]
 fn digit_of(code: u8) -> Option<u8>
-    ensures { IfSome result (λ d. d < 16) }
+    ensures digit { result ≡ digit_of code }
+    ensures few { IfSome result (λ d. d < 16) }
 {
     match code {
         b'0'..=b'9' => Some(code - b'0'),
@@ -93,12 +103,22 @@ fn digit_of(code: u8) -> Option<u8>
     }
 }
 
-fn are_digits(value: &[Letter]) -> bool {
-    value.iter().all(|letter| digit_of(letter.code).is_some())
+fn is_digit(code: u8) -> bool
+    ensures { result ≡ is_some (digit_of code) }
+{
+    digit_of(code).is_some()
 }
 
-fn byte_of(high: Letter, low: Letter) -> Option<u8> {
-    let byte = digit_of(high.code)? * 16 + digit_of(low.code)?;
+fn are_digits(value: &[Letter]) -> bool
+    ensures { result ≡ are_digits value.now }
+{
+    value.iter().all(|letter| is_digit(letter.code))
+}
+
+/// A null, or a byte of text.
+fn text_byte(byte: u8) -> Option<u8>
+    ensures { result ≡ text_byte byte }
+{
     if byte == 0 || (0x40 <= byte && byte <= 0xFE) {
         Some(byte)
     } else {
@@ -106,19 +126,46 @@ fn byte_of(high: Letter, low: Letter) -> Option<u8> {
     }
 }
 
-/// The text of hexadecimal digits.
-pub(crate) fn digits_of(alloc: Global, value: &[Letter]) -> Result<Text, AllocError> {
-    if value.len() % 2 == 1 || !are_digits(value) {
-        return Ok(Text::NoText);
-    }
+fn byte_of(high: u8, low: u8) -> Option<u8>
+    ensures { result ≡ byte_of high low }
+{
+    let high = digit_of(high)?;
+    let low = digit_of(low)?;
+    text_byte(high * 16 + low)
+}
+
+/// The bytes of pairs of digits.
+fn bytes_in(alloc: Global, value: &[Letter]) -> Result<Text, AllocError>
+    ensures { IfOk result (λ text. seen text ≡ bytes_in value.now) }
+{
     let mut codes = Vec::new(alloc);
     let mut rest = value;
     while let [high, low, others @ ..] = rest {
-        match byte_of(*high, *low) {
+        match byte_of(high.code, low.code) {
             Some(byte) => codes.push(byte)?,
             None => return Ok(Text::Bad(high.place)),
         }
         rest = others;
     }
     Ok(Text::Codes(codes))
+}
+
+/// The text of hexadecimal digits.
+pub(crate) fn digits_of(alloc: Global, value: &[Letter]) -> Result<Text, AllocError>
+    ensures { IfOk result (λ text. seen text ≡ digits_of value.now) }
+{
+    if value.len() % 2 == 1 || !are_digits(value) {
+        return Ok(Text::NoText);
+    }
+    bytes_in(alloc, value)
+}
+
+/// The codes that were read.
+pub(crate) fn codes_of(text: Text) -> Option<Vec<u8>>
+    ensures { option_map (λ codes. codes.items) result ≡ text_in (seen text) }
+{
+    match text {
+        Text::Codes(codes) => Some(codes),
+        Text::NoText | Text::Bad(_) => None,
+    }
 }

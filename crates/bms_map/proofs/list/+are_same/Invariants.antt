@@ -1,0 +1,5 @@
+use Rattle.std.proofs.Common.{length}
+use Rattle.bms_map.proofs.list.+are_same.Given as goal
+
+abbrev pub decreases-are_same : goal.decreases-are_same
+decreases-are_same l = length l.other.now
