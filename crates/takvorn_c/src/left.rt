@@ -57,11 +57,7 @@ pub fn leave(
 }
 
 /// Leaves what `records` tells of a text; or nothing, where memory was refused.
-pub fn leave_records(
-    told: Result<Told, AllocError>,
-    out: &mut [u8],
-    needed: &mut usize,
-) -> u8
+pub fn leave_records(told: Result<Told, AllocError>, out: &mut [u8], needed: &mut usize) -> u8
     ensures { (asked : Asked) (input : List ℕ)
         → IfOk told (λ told. TellsRecords asked input told.text.items told.status)
         → LeavesRecords asked input out.old out.new needed.new (pos result) }

@@ -53,11 +53,7 @@ fn positions(layout: &Layout) -> u32
 }
 
 /// The lines of all positions.
-fn origins_answer(
-    alloc: Global,
-    layout: &Layout,
-    records: &[Vec<u8>],
-) -> Result<Answer, AllocError>
+fn origins_answer(alloc: Global, layout: &Layout, records: &[Vec<u8>]) -> Result<Answer, AllocError>
     ensures { IfOk result (λ answer. answer_seen answer
         ≡ printed (origin_lines layout.now (records_held records.now)) Done) }
 {

@@ -55,7 +55,13 @@ fn pressed_told(
         (pressed_told drawing (records_seen told.now) (keys_seen named.now)) }
 {
     let mut terminal = Terminal::new(alloc, told.geometry)?;
-    pressed_from(alloc, drawing, &mut terminal, told.records.as_slice(), named)
+    pressed_from(
+        alloc,
+        drawing,
+        &mut terminal,
+        told.records.as_slice(),
+        named,
+    )
 }
 
 /// The same of a text of keys.
