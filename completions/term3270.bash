@@ -8,7 +8,7 @@ _term3270() {
   fi
   case $command in
     show) COMPREPLY=($(compgen -W '--format --color --layout --help' -- "$word") $(compgen -f -- "$word")) ;;
-    check) COMPREPLY=($(compgen -W '--demo --records --format --map --map-name --freekb --frset --help' -- "$word") $(compgen -f -- "$word")) ;;
+    check) COMPREPLY=($(compgen -W '--demo --pen --records --format --map --map-name --freekb --frset --help' -- "$word") $(compgen -f -- "$word")) ;;
     talk) COMPREPLY=($(compgen -W '--help' -- "$word") $(compgen -f -- "$word")) ;;
     press) COMPREPLY=($(compgen -W '--strokes --help' -- "$word") $(compgen -f -- "$word")) ;;
     convert) COMPREPLY=($(compgen -W '--back --help' -- "$word")) ;;

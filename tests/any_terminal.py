@@ -23,6 +23,8 @@ SIX_BITS = bytes.fromhex(
     "40C1C2C3C4C5C6C7C8C94A4B4C4D4E4F50D1D2D3D4D5D6D7D8D95A5B5C5D5E5F6061E2E3E4E5E6E7E8E96A6B6C6D6E6FF0F1F2F3F4F5F6F7F8F97A7B7C7D7E7F"
 )
 MODIFIED, PROTECTED = 0x01, 0x20
+BITS = [0x00, 0x01, 0x10, 0x20, 0x21, 0x30, 0x31, 0x0C, 0x2C, 0x08, 0x28, 0x04]
+CODES = [0xC1, 0xC2, 0xF1, 0x40, 0x60]
 IAC, SB, SE, WILL, DO, EOR = 0xFF, 0xFA, 0xF0, 0xFB, 0xFD, 0xEF
 BINARY, TERMINAL_TYPE, END_OF_RECORD = 0, 24, 25
 PLAIN = ["Dup()", "FieldMark()", "DeleteWord()", "DeleteField()", "EraseEOF()", "EraseInput()", "FieldEnd()", "Tab()", "BackTab()", "Up()",
@@ -184,16 +186,16 @@ def due(cells, cursor):
     return text
 
 
-def drawn_screen(draw):
+def drawn_screen(draw, every=BITS, codes=CODES):
     """A record that writes fields of every kind, close together and far apart, and the cursor somewhere."""
     places = sorted(draw.sample(range(CELLS), draw.randrange(1, 14)))
     if draw.random() < 0.5:
         places += [(it + draw.randrange(1, 12)) % CELLS for it in places]
     record = bytes([0xF5, 0xC3])
     for place in sorted(set(places)):
-        bits = draw.choice([0x00, 0x01, 0x10, 0x20, 0x21, 0x30, 0x31, 0x0C, 0x2C, 0x08, 0x28, 0x04])
+        bits = draw.choice(every)
         record += spelled(place) + bytes([0x1D, SIX_BITS[bits]])
-        record += bytes(draw.choice([0xC1, 0xC2, 0xF1, 0x40, 0x60]) for _ in range(draw.randrange(0, 9)))
+        record += bytes(draw.choice(codes) for _ in range(draw.randrange(0, 9)))
     return record + spelled(draw.randrange(CELLS)) + b"\x13"
 
 
@@ -227,23 +229,35 @@ class Trial:
         self.host.accept()
         self.waits = False
 
-    def run(self, record, actions):
-        """What these actions broke on this screen, or None."""
+    def show(self, record):
+        """The cells of this screen, once it is shown."""
         self.host.send(record)
         if self.waits:
             self.terminal.told()
         self.terminal.act("Wait(10,3270Mode)", "Wait(10,Unlock)")
-        before = self.before = self.terminal.buffer()
-        self.terminal.act(*actions)
-        after = self.terminal.buffer()
-        told = " ".join(self.terminal.act("Query(Cursor)")[0])
-        row, column = map(int, re.findall(r"\d+", told)[:2])
+        return self.terminal.buffer()
+
+    def cursor(self):
+        row, column = map(int, re.findall(r"\d+", " ".join(self.terminal.act("Query(Cursor)")[0]))[:2])
+        return row * COLUMNS + column
+
+    def answered(self, after):
+        """What is wrong with Enter's answer, or None."""
+        wanted = due(after, self.cursor())
         self.terminal.act("Toggle(insertMode,clear)", "Reset()")
         # Enter is done once the next record frees the keyboard.
         self.terminal.write("Enter()")
         self.waits = True
-        answer, wanted = self.host.answer(), due(after, row * COLUMNS + column)
-        return breaks(before, after) or (None if answer == wanted else f"the answer is {answer.hex()}, wanted {wanted.hex()}")
+        answer = self.host.answer()
+        return None if answer == wanted else f"the answer is {answer.hex()}, wanted {wanted.hex()}"
+
+    def run(self, record, actions):
+        """What these actions broke on this screen, or None."""
+        before = self.before = self.show(record)
+        self.terminal.act(*actions)
+        after = self.terminal.buffer()
+        wrong = self.answered(after)
+        return breaks(before, after) or wrong
 
 
 def is_known(record, actions, trial):

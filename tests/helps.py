@@ -1,4 +1,4 @@
-"""Checks records drawn at random, and does what the help of each finding says: then that finding is gone.
+"""Checks records drawn at random, with the pen, and does what the help of each finding says: then that finding is gone.
 
     python3 tests/helps.py PROGRAM [COUNT [SEED]]
 
@@ -72,6 +72,10 @@ def ways(finding, records, text, screen):
         yield with_attribute(records, at, screen.bits(at) | 0x20), text
     if found := re.search(r"reset bit 01, the modified data tag, of the attribute at (\d+)", said):
         yield with_attribute(records, int(found[1]), screen.bits(int(found[1])) & ~1), text
+    if found := re.search(r"reset bits 0C, display, of the attribute at (\d+)", said):
+        yield with_attribute(records, int(found[1]), screen.bits(int(found[1])) & ~0x0C), text
+        assert "begin the field with another character" in said
+        yield with_orders(records, place, b"\xC1"), text
     if found := re.search(r"write an attribute at (\d+), by Set Buffer Address 11(....)", said):
         assert bytes.fromhex(found[2]) == bytes([0x40, SPELLED[int(found[1])]])
         assert int(found[1]) not in screen.fields, "an attribute stands there"
@@ -97,7 +101,7 @@ class Room:
 
     def check(self, records, text):
         (self.folder / "layout").write_text(text)
-        words = [self.program, "check", "--format", "json", str(self.folder / "layout")]
+        words = [self.program, "check", "--pen", "--format", "json", str(self.folder / "layout")]
         return [json.loads(it) for it in self.run(words, records).splitlines()][:-1]
 
     def show(self, records):

@@ -12,12 +12,11 @@ docs/TERMINALS.md tells are counted apart. The last line is 'N passed, M failed'
 """
 import os
 import random
-import re
 import subprocess
 import sys
 import tempfile
 
-from any_terminal import CELLS, COLUMNS, PROTECTED, Trial, attributes, drawn_screen, span
+from any_terminal import CELLS, PROTECTED, Trial, attributes, drawn_screen, shortened, span
 
 CHARACTERS = {0xC1: "A", 0xC2: "B", 0xC3: "C", 0xF1: "1", 0x40: "space", 0x60: "minus"}
 ACTIONS = {
@@ -67,10 +66,6 @@ class Compared(Trial):
         super().__init__()
         self.program, self.work = program, work
 
-    def cursor(self):
-        row, column = map(int, re.findall(r"\d+", " ".join(self.terminal.act("Query(Cursor)")[0]))[:2])
-        return row * COLUMNS + column
-
     def run(self, record, strokes):
         """What differs, or None."""
         self.host.send(record)
@@ -98,15 +93,6 @@ class Compared(Trial):
     def is_known(self, record, strokes):
         """Insert mode in a field that goes round the screen's end: s3270 moves its characters by a row."""
         return goes_round(self.before) and not self.run(record, [it for it in strokes if it != "insert"])
-
-
-def shortened(compared, record, strokes):
-    """The strokes without each that isn't needed to differ."""
-    at = 0
-    while at < len(strokes):
-        fewer = strokes[:at] + strokes[at + 1 :]
-        strokes, at = (fewer, at) if compared.run(record, fewer) else (strokes, at + 1)
-    return strokes
 
 
 def main(program, count=200, seed=1):

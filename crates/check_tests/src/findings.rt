@@ -65,7 +65,7 @@ pub(crate) fn push_findings(row: &mut Row, layout: &Layout, findings: &[Finding]
 }
 
 /// `yes`, or the findings; nothing where memory ran out.
-fn push_verdict(row: &mut Row, layout: &Layout, verdict: &Option<Verdict>) {
+pub(crate) fn push_verdict(row: &mut Row, layout: &Layout, verdict: &Option<Verdict>) {
     match verdict {
         Some(Verdict::Yes) => row.word("yes"),
         Some(Verdict::No(findings)) => push_findings(row, layout, findings.as_slice()),

@@ -18,6 +18,7 @@ mod layouts;
 mod lines;
 mod memory;
 mod origins;
+mod pen;
 mod promise;
 mod script;
 mod shapes;
@@ -44,7 +45,7 @@ pub(crate) struct Setup {
 /// The verbs of the setup's layout.
 const OF_LAYOUT: &[&str] = &[
     "check", "count", "often", "bind", "conforms", "bound", "pressed", "origins", "traced",
-    "shape", "entries", "at", "taken",
+    "shape", "entries", "at", "taken", "pen",
 ];
 
 fn take_list(row: &mut Row, setup: &mut Setup, words: &str) {
@@ -75,6 +76,7 @@ fn take_line(row: &mut Row, setup: &mut Setup, verb: &str, words: &str) -> bool 
 fn push_declared(row: &mut Row, setup: &Setup, layout: &Layout, verb: &str, words: &str) {
     match verb {
         "check" => findings::push_check(row, layout, words),
+        "pen" => pen::push_pen(row, layout, words),
         "count" => findings::push_count(row, layout, words),
         "often" => findings::push_often(row, layout, words),
         "bind" => answers::push_bind(row, layout, words),

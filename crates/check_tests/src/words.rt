@@ -131,6 +131,7 @@ const FINDINGS: &[Finding] = &[
     Finding::OtherKind(0),
     Finding::EmptyModified(19),
     Finding::CursorDependent(2),
+    Finding::Selectable(5),
 ];
 
 fn push_binding(row: &mut Row) {
@@ -196,6 +197,7 @@ fn push_findings(row: &mut Row, findings: &[Finding]) {
 fn push_laws(row: &mut Row) {
     scr_check::bind_law();
     scr_check::yes_law();
+    scr_check::pen_law();
     scr_draft::drafts_law();
     scr_draft::free_name_law();
     scr_draft::label_law();

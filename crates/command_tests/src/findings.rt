@@ -4,7 +4,7 @@ use crate::reports::{is_read_again, push_results};
 use scr_check::{Demo, Finding, Origin, Overlong, Traced};
 use scr_layout::Layout;
 use std::alloc::AllocError;
-use term_findings::{finding_json, findings_log, help_text, line_of_record, name_of};
+use term_findings::{Pen, finding_json, findings_log, help_text, line_of_record, name_of};
 use test_words::Row;
 
 /// A layout of two rows of ten, with one entry.
@@ -60,7 +60,10 @@ fn push_forms(row: &mut Row, layout: &Layout, traced: &Traced) {
     row.word("\n");
     row.word(json.as_str());
     let path = "a \\ \"b\".hex";
-    let log = text_of(row, findings_log(alloc, path, layout, RECORDS, &[*traced]));
+    let log = text_of(
+        row,
+        findings_log(alloc, Pen::Ignored, path, layout, RECORDS, &[*traced]),
+    );
     push_results(row, log.as_str());
     let again = is_read_again(row, json.as_str()) && is_read_again(row, log.as_str());
     row.word_if(!again, "\nread as another");

@@ -4,15 +4,20 @@ use crate::commands::name_of;
 use crate::notation::read_text;
 use std::alloc::Global;
 use term_commands::{Answer, CommandError, Status, Watched, printed};
-use term_findings::{Paths, Report, report_texts, run_report};
+use term_findings::{Paths, Pen, Report, report_texts, run_report};
 use term_pictures::{Annotated, annotated_text, run_annotated};
 use test_words::Row;
+
+const PATHS: Paths<'static> = Paths {
+    layout: "code.toml",
+    records: "stdin",
+};
 
 /// What is printed of records and a layout.
 #[derive(Clone, Copy)]
 enum Form {
     Annotated(Annotated),
-    Reported(Report<'static>),
+    Reported(Pen, Report<'static>),
 }
 
 /// The form of a name.
@@ -20,11 +25,10 @@ fn form_of(name: &str) -> Option<Form> {
     match name {
         "svg-layout" => Some(Form::Annotated(Annotated::Svg)),
         "html-layout" => Some(Form::Annotated(Annotated::Html)),
-        "findings" => Some(Form::Reported(Report::Json)),
-        "log" => Some(Form::Reported(Report::Sarif(Paths {
-            layout: "code.toml",
-            records: "stdin",
-        }))),
+        "findings" => Some(Form::Reported(Pen::Ignored, Report::Json)),
+        "pen-findings" => Some(Form::Reported(Pen::Asked, Report::Json)),
+        "log" => Some(Form::Reported(Pen::Ignored, Report::Sarif(PATHS))),
+        "pen-log" => Some(Form::Reported(Pen::Asked, Report::Sarif(PATHS))),
         _ => None,
     }
 }
@@ -35,7 +39,14 @@ fn written(alloc: Global, form: Form, layout: &[u8], records: &[u8], text: &mut 
     let mut text = Watched::new(text);
     match form {
         Form::Annotated(form) => run_annotated(alloc, form, &mut layout, &mut records, &mut text),
-        Form::Reported(report) => run_report(alloc, report, &mut layout, &mut records, &mut text),
+        Form::Reported(pen, report) => run_report(
+            alloc,
+            pen,
+            report,
+            &mut layout,
+            &mut records,
+            &mut text,
+        ),
     }
 }
 
@@ -48,7 +59,7 @@ fn answered(
 ) -> Result<Answer, CommandError> {
     match form {
         Form::Annotated(form) => annotated_text(alloc, form, layout, records),
-        Form::Reported(report) => report_texts(alloc, report, layout, records),
+        Form::Reported(pen, report) => report_texts(alloc, pen, report, layout, records),
     }
 }
 

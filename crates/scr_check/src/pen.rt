@@ -66,7 +66,8 @@ fn add_selectable<C: Cells>(
     findings: &mut Vec<Finding>,
     screen: &Screen<C>,
 ) -> Result<(), AllocError>
-    ensures { OnOk result (findings.new.items ≡ findings.old.items ++ selectable_of screen.now.cells) }
+    ensures { OnOk result (findings.new.items
+        ≡ findings.old.items ++ selectable_of screen.now.cells) }
 {
     for field in screen.fields() {
         if is_selectable(screen, &field) {

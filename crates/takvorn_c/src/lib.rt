@@ -26,7 +26,7 @@ use term_commands::{
     Demos, check_texts, convert_back_text, convert_text, press_texts, show_text, talk_texts,
 };
 use term_drafts::draft_text;
-use term_findings::{Report, origins_text, report_texts};
+use term_findings::{Pen, Report, origins_text, report_texts};
 use term_pictures::{Drawing, picture_text, pressed_text};
 use term_traces::{Asked, Source, records_text};
 use tn_traces::Side;
@@ -164,10 +164,11 @@ pub extern "C" fn takvorn_check_json(
     out: &mut [u8],
     needed: &mut usize,
 ) -> i32
-    ensures { Leaves (printed_report Report.Json layout.now records.now) out.old out.new needed.new
+    ensures { Leaves (printed_report Pen.Ignored Report.Json layout.now records.now)
+        out.old out.new needed.new
         result }
 {
-    let answer = report_texts(alloc, Report::Json, layout, records);
+    let answer = report_texts(alloc, Pen::Ignored, Report::Json, layout, records);
     i32::from(leave(alloc, answer, out, needed))
 }
 

@@ -16,6 +16,8 @@ use Rattle.term3270.specs.declared.asked.ReportForm.{ReportForm}
 use Rattle.term3270.specs.declared.asked.ReportForm.TheVariants.{Json, Sarif}
 use Rattle.term3270.specs.declared.asked.Asked.{Asked}
 use Rattle.term3270.specs.declared.asked.Asked.TheVariants.{Show, Draw, Annotate, Undrawn, Check, Report, Talk, Press, Strike, Convert, ConvertBack, Draft, Bind, Records, Serve, Attach, Map, CheckMap, NoLayout, Unreported}
+use Rattle.term_findings.specs.declared.found.Pen.{Pen}
+use Rattle.term_findings.specs.declared.found.Pen.TheVariants as pens
 use Rattle.term_pictures.specs.declared.annotated.Annotated.{Annotated}
 use Rattle.term_pictures.specs.declared.annotated.Annotated.TheVariants as annotated
 use Rattle.term_pictures.specs.declared.drawing.Drawing.TheVariants as drawings
@@ -41,6 +43,10 @@ IsNumber word rows given = (number : ℕ) → number < 65536 → one_of word row
 abbrev pub AreDemos : List Row → Demos → Type 0
 AreDemos rows Printed = IsOption (codes "demo") rows true
 AreDemos rows Omitted = IsOption (codes "demo") rows false
+
+abbrev pub IsPen : List Row → Pen → Type 0
+IsPen rows pens.Asked = IsOption (codes "pen") rows true
+IsPen rows pens.Ignored = IsOption (codes "pen") rows false
 
 abbrev pub IsWhen : List Row → When → Type 0
 IsWhen rows color = (first_of (codes "color") rows ≡ Some (codes "auto") → color ≡ Auto)
@@ -78,11 +84,13 @@ abbrev pub IsPath : Text → List Row → Option (Bor Text) → Type 0
 IsPath option rows given = option_map (λ path. path.now) given ≡ first_of option rows
 
 abbrev pub IsPlainCheck : List Row → Asked → Type 0
-IsPlainCheck rows (Check layout records demos) = IsText (codes "LAYOUT") rows layout × IsPath (codes "records") rows records × AreDemos rows demos
+IsPlainCheck rows (Check layout records demos pen) =
+    IsText (codes "LAYOUT") rows layout × IsPath (codes "records") rows records × AreDemos rows demos × IsPen rows pen
 IsPlainCheck rows _ = ⊥
 
 abbrev pub IsReport : List Row → ReportForm → Asked → Type 0
-IsReport rows due (Report layout records form) = IsText (codes "LAYOUT") rows layout × IsPath (codes "records") rows records × (form ≡ due)
+IsReport rows due (Report layout records form pen) =
+    IsText (codes "LAYOUT") rows layout × IsPath (codes "records") rows records × (form ≡ due) × IsPen rows pen
 IsReport rows due _ = ⊥
 
 -- what SEND MAP adds

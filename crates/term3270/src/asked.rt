@@ -2,13 +2,14 @@
 
 ghost use Rattle.std.specs.Prelude.{◌≡◌, is_some, option_map};
 ghost use Rattle.clap.specs.Words.{first_of, found_of, rows_of, subcommand_rows_of};
-ghost use Rattle.term3270.specs.Asked.{AreDemos, AsksFor, IsCheck, IsDrawn, IsForm, IsConvert, IsNumber, IsOption, IsPath, IsPress, IsShow, IsSide, IsSource, IsText, IsWhen, IsWithLayout, IsMap, IsMapForm, IsMapCheck, IsLayoutCheck, AreControls};
+ghost use Rattle.term3270.specs.Asked.{AreDemos, AsksFor, IsCheck, IsDrawn, IsForm, IsConvert, IsNumber, IsOption, IsPath, IsPen, IsPress, IsShow, IsSide, IsSource, IsText, IsWhen, IsWithLayout, IsMap, IsMapForm, IsMapCheck, IsLayoutCheck, AreControls};
 
 use bms_map::Control;
 use clap::ArgMatches;
 use cli_maps::Form as MapForm;
 use term_binds::Form;
 use term_commands::Demos;
+use term_findings::Pen;
 use term_pictures::{Annotated, Drawing};
 use term_traces::Source;
 use tn_traces::Side;
@@ -48,11 +49,13 @@ pub(crate) enum Asked<'a> {
         layout: &'a str,
         records: Option<&'a str>,
         demos: Demos,
+        pen: Pen,
     },
     Report {
         layout: &'a str,
         records: Option<&'a str>,
         form: ReportForm,
+        pen: Pen,
     },
     Talk,
     Press {
@@ -287,16 +290,19 @@ fn layout_check_of<'a>(words: &ArgMatches<'a>) -> Asked<'a>
             layout,
             records,
             form: ReportForm::Json,
+            pen: pen_in(words),
         },
         "sarif" => Asked::Report {
             layout,
             records,
             form: ReportForm::Sarif,
+            pen: pen_in(words),
         },
         _ => Asked::Check {
             layout,
             records,
             demos: demos_in(words),
+            pen: pen_in(words),
         },
     }
 }
@@ -308,6 +314,16 @@ fn demos_in(words: &ArgMatches<'_>) -> Demos
         Demos::Printed
     } else {
         Demos::Omitted
+    }
+}
+
+fn pen_in(words: &ArgMatches<'_>) -> Pen
+    ensures { IsPen (rows_of (found_of words.now)) result }
+{
+    if is_given(words, "pen") {
+        Pen::Asked
+    } else {
+        Pen::Ignored
     }
 }
 

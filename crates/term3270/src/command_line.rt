@@ -230,7 +230,7 @@ enum Takes<'a> {
     /// A value of this name, which need not be given.
     Value(&'a str),
     /// The path of a file, where none of these is given.
-    FileAlone(&'a str, &'a str, &'a str),
+    FileAlone(&'a [&'a str]),
 }
 
 /// An argument of a command.
@@ -288,6 +288,11 @@ const SCREENS: &[Described<'_>] = &[
                 help: "Press the keys of each finding that has some, and print what is sent",
             },
             Argument {
+                name: "pen",
+                takes: Takes::Nothing,
+                help: "Find too what Cursor Select or a light pen may not select, F15",
+            },
+            Argument {
                 name: "records",
                 takes: Takes::File,
                 help: "The file of the records, in place of standard input",
@@ -299,7 +304,7 @@ const SCREENS: &[Described<'_>] = &[
             },
             Argument {
                 name: "map",
-                takes: Takes::FileAlone("LAYOUT", "records", "demo"),
+                takes: Takes::FileAlone(&["LAYOUT", "records", "demo", "pen"]),
                 help: "Check the maps of this BMS source, in place of a layout and records",
             },
             Argument {
@@ -515,16 +520,12 @@ fn number<'a>(alloc: Global, name: &'a str, value: &'a str, most: i64) -> Arg<'a
         .value_parser(clap::value_parser!(u16).range(1..=most))
 }
 
-/// An argument that conflicts with three others.
-fn alone<'a>(
-    argument: Arg<'a>,
-    first: &'a str,
-    second: &'a str,
-    third: &'a str,
-) -> Result<Arg<'a>, AllocError> {
-    let argument = argument.conflicts_with(first)?;
-    let argument = argument.conflicts_with(second)?;
-    argument.conflicts_with(third)
+/// An argument that conflicts with these others.
+fn alone<'a>(mut argument: Arg<'a>, others: &[&'a str]) -> Result<Arg<'a>, AllocError> {
+    for other in others {
+        argument = argument.conflicts_with(*other)?;
+    }
+    Ok(argument)
 }
 
 /// An argument, without its help.
@@ -542,12 +543,7 @@ fn bare<'a>(alloc: Global, name: &'a str, takes: Takes<'a>) -> Result<Arg<'a>, A
         Takes::Number(value, most) => Ok(number(alloc, name, value, most)),
         Takes::Optional => Ok(Arg::new(alloc, name)),
         Takes::Value(value) => Ok(option(alloc, name, value)),
-        Takes::FileAlone(first, second, third) => alone(
-            option(alloc, name, "FILE"),
-            first,
-            second,
-            third,
-        ),
+        Takes::FileAlone(others) => alone(option(alloc, name, "FILE"), others),
     }
 }
 

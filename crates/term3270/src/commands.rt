@@ -13,11 +13,11 @@ use std::env::VarError;
 use std::io::{IsTerminal, Stdin, Stdout};
 use term_binds::{Form, run_bind};
 use term_commands::{
-    Demos, GivesBytes, Status, Watched, run_check, run_convert, run_convert_back, run_press,
-    run_press_strokes, run_show, run_talk,
+    Demos, GivesBytes, Status, Watched, run_check, run_check_pen, run_convert, run_convert_back,
+    run_press, run_press_strokes, run_show, run_talk,
 };
 use term_drafts::run_draft;
-use term_findings::{Paths, Report, run_report};
+use term_findings::{Paths, Pen, Report, run_report};
 use term_pictures::{Annotated, Drawing, run_annotated, run_picture};
 use term_sessions::Output;
 use term_traces::{Asked, Source, run_records};
@@ -72,10 +72,16 @@ pub(crate) fn annotate(rt: &HostRuntime, layout: &str, form: Annotated) -> Statu
 }
 
 /// `check`, of the records of a file or of standard input.
-pub(crate) fn check(rt: &HostRuntime, layout: &str, records: Option<&str>, demos: Demos) -> Status {
+pub(crate) fn check(
+    rt: &HostRuntime,
+    layout: &str,
+    records: Option<&str>,
+    demos: Demos,
+    pen: Pen,
+) -> Status {
     match records {
-        Some(path) => check_over(rt, layout, &mut file_at(rt, path), demos),
-        None => check_over(rt, layout, &mut input(rt), demos),
+        Some(path) => check_over(rt, layout, &mut file_at(rt, path), demos, pen),
+        None => check_over(rt, layout, &mut input(rt), demos, pen),
     }
 }
 
@@ -85,10 +91,11 @@ pub(crate) fn report(
     layout: &str,
     records: Option<&str>,
     form: ReportForm,
+    pen: Pen,
 ) -> Status {
     match records {
-        Some(path) => report_over(rt, layout, path, &mut file_at(rt, path), form),
-        None => report_over(rt, layout, "stdin", &mut input(rt), form),
+        Some(path) => report_over(rt, layout, path, &mut file_at(rt, path), form, pen),
+        None => report_over(rt, layout, "stdin", &mut input(rt), form, pen),
     }
 }
 
@@ -162,9 +169,13 @@ fn check_over<R: GivesBytes>(
     layout: &str,
     records: &mut R,
     demos: Demos,
+    pen: Pen,
 ) -> Status {
     let mut layout = file_at(rt, layout);
-    run_check(rt.alloc(), &mut layout, records, &mut output(rt), demos)
+    match pen {
+        Pen::Ignored => run_check(rt.alloc(), &mut layout, records, &mut output(rt), demos),
+        Pen::Asked => run_check_pen(rt.alloc(), &mut layout, records, &mut output(rt), demos),
+    }
 }
 
 /// Runs `check` for tools on a layout's file and the records of this path.
@@ -174,6 +185,7 @@ fn report_over<R: GivesBytes>(
     path: &str,
     records: &mut R,
     form: ReportForm,
+    pen: Pen,
 ) -> Status {
     let report = match form {
         ReportForm::Json => Report::Json,
@@ -183,7 +195,14 @@ fn report_over<R: GivesBytes>(
         }),
     };
     let mut layout = file_at(rt, layout);
-    run_report(rt.alloc(), report, &mut layout, records, &mut output(rt))
+    run_report(
+        rt.alloc(),
+        pen,
+        report,
+        &mut layout,
+        records,
+        &mut output(rt),
+    )
 }
 
 /// Says on standard error that a form doesn't draw a layout.

@@ -11,10 +11,11 @@ use Rattle.term_commands.specs.declared.fault.Fault.{Fault}
 use Rattle.term_commands.specs.Fault.{fault_text}
 use Rattle.term_findings.specs.declared.region.Columns.{Columns}
 use Rattle.term_findings.specs.declared.region.Region.{Region}
+use Rattle.term_findings.specs.declared.found.Pen.{Pen}
 use Rattle.term_findings.specs.declared.rule.Rule.{Rule}
 use Rattle.term_findings.specs.declared.rule.Rule.TheVariants.{InputRefused}
 use Rattle.term_findings.specs.Region.{Standing, finding_region, order_region}
-use Rattle.term_findings.specs.Rule.{all_rules, rule_of}
+use Rattle.term_findings.specs.Rule.{rules_for, rule_of}
 use Rattle.term_findings.specs.Sarif.{rule_data, tool_data, columns_region, end_data, result_data, message_of, end_of, finding_result, findings_data, refusal_results, log_data}
 
 -- ---- lists
@@ -37,13 +38,13 @@ rule_nests : (rule : Rule) → depth (rule_data rule) ≤ 2
 unfolding rule_data
 rule_nests rule = omega arith
 
-tool_plain : has_float tool_data ≡ false
+tool_plain : (pen : Pen) → has_float (tool_data pen) ≡ false
 unfolding tool_data
-tool_plain = rw (none_floats rule_data rule_plain all_rules) refl
+tool_plain pen = rw (none_floats rule_data rule_plain (rules_for pen)) refl
 
-tool_nests : depth tool_data ≤ 5
+tool_nests : (pen : Pen) → depth (tool_data pen) ≤ 5
 unfolding tool_data
-tool_nests = omega (arith, all_nest rule_data 2 rule_nests all_rules)
+tool_nests pen = omega (arith, all_nest rule_data 2 rule_nests (rules_for pen))
 
 -- ---- a result
 
@@ -110,10 +111,10 @@ refusal_nests path line fault = omega (arith, result_nests InputRefused path (re
 
 -- ---- the log
 
-pub log_plain : (results : Data) → has_float results ≡ false → has_float (log_data results) ≡ false
+pub log_plain : (pen : Pen) (results : Data) → has_float results ≡ false → has_float (log_data pen results) ≡ false
 unfolding log_data
-log_plain results plain = rw (plain, tool_plain) refl
+log_plain pen results plain = rw (plain, tool_plain pen) refl
 
-pub log_nests : (results : Data) → depth results ≤ 8 → depth (log_data results) ≤ max_depth
+pub log_nests : (pen : Pen) (results : Data) → depth results ≤ 8 → depth (log_data pen results) ≤ max_depth
 unfolding log_data
-log_nests results flat = omega (arith, flat, tool_nests)
+log_nests pen results flat = omega (arith, flat, tool_nests pen)

@@ -7,7 +7,7 @@ use Rattle.ds_terminal.specs.Refused.{refused_at}
 use Rattle.scr_layout.specs.Entry.{Declared}
 use Rattle.scr_check.specs.declared.finding.Demo.{Demo}
 use Rattle.scr_check.specs.declared.finding.Finding.{Finding}
-use Rattle.scr_check.specs.declared.finding.Finding.TheVariants.{RecordRefused, FirstNotErase, NotAWrite, OtherSize, Undeclared, UndeclaredFixed, Missing, TooLong, OtherKind, EmptyModified, CursorDependent}
+use Rattle.scr_check.specs.declared.finding.Finding.TheVariants.{RecordRefused, FirstNotErase, NotAWrite, OtherSize, Undeclared, UndeclaredFixed, Missing, TooLong, OtherKind, EmptyModified, CursorDependent, Selectable}
 use Rattle.scr_check.specs.declared.traced.Traced.{Traced}
 use Rattle.term_commands.specs.DemoLines.{bytes_replayed}
 
@@ -55,6 +55,7 @@ abbrev pub field_place : Finding → Option ℕ
 field_place (Undeclared place demo) = Some place
 field_place (UndeclaredFixed place demo) = Some place
 field_place (EmptyModified place) = Some place
+field_place (Selectable place) = Some place
 field_place finding = None
 
 -- the buffer address of the first character of the field, or of the entry

@@ -13,7 +13,7 @@ use Rattle.scr_layout.specs.Entry.{Declared}
 use Rattle.scr_layout.specs.Layout.{Declaration}
 use Rattle.scr_check.specs.declared.finding.Overlong.{Overlong}
 use Rattle.scr_check.specs.declared.finding.Finding.{Finding}
-use Rattle.scr_check.specs.declared.finding.Finding.TheVariants.{RecordRefused, NoRecord, FirstNotErase, NotAWrite, KeyboardLocked, OtherSize, Unformatted, Undeclared, UndeclaredFixed, Missing, TooLong, OtherKind, EmptyModified, CursorDependent}
+use Rattle.scr_check.specs.declared.finding.Finding.TheVariants.{RecordRefused, NoRecord, FirstNotErase, NotAWrite, KeyboardLocked, OtherSize, Unformatted, Undeclared, UndeclaredFixed, Missing, TooLong, OtherKind, EmptyModified, CursorDependent, Selectable}
 use Rattle.scr_check.specs.declared.origins.Origin.{Origin}
 use Rattle.scr_check.specs.declared.traced.Traced.{Traced}
 use Rattle.scr_check.specs.FindingText.{name_at}
@@ -39,6 +39,10 @@ undeclared_help entries size place = codes "declare it by [[field]], " ++ (entry
 
 abbrev pub modified_help : Size → ℕ → List ℕ
 modified_help size place = codes "reset bit 01, the modified data tag, of the attribute at " ++ decimal (attribute_place size place)
+
+abbrev pub selectable_help : Size → ℕ → List ℕ
+selectable_help size place =
+    codes "reset bits 0C, display, of the attribute at " ++ (decimal (attribute_place size place) ++ codes ", or begin the field with another character than ?, >, &, space and null")
 
 abbrev pub undeclared_fixed_help : List Declared → Size → ℕ → List ℕ
 undeclared_fixed_help entries size place =
@@ -102,6 +106,7 @@ abbrev pub field_help : Declaration → Option Origin → Finding → Option (Li
 field_help layout end (Undeclared place demo) = Some (undeclared_help layout.entries layout.size place)
 field_help layout end (UndeclaredFixed place demo) = Some (undeclared_fixed_help layout.entries layout.size place)
 field_help layout end (EmptyModified place) = Some (modified_help layout.size place)
+field_help layout end (Selectable place) = Some (selectable_help layout.size place)
 field_help layout end finding = entry_help layout end finding
 
 -- what ends a finding of a field that ends there; how a record that is refused is mended no finding tells

@@ -4,14 +4,23 @@ use Rattle.serde_json.specs.Data.{Data}
 use Rattle.serde_json.specs.Written.{compact_text}
 use Rattle.scr_layout.specs.Layout.{Declaration}
 use Rattle.scr_check.specs.declared.traced.Traced.{Traced}
+use Rattle.scr_check.specs.declared.finding.Finding.{Finding}
 use Rattle.scr_check.specs.Findings.{answer_of}
+use Rattle.scr_check.specs.Pen.{answer_with_pen}
 use Rattle.scr_check.specs.Traced.{traced_of}
 use Rattle.term_commands.specs.declared.status.Status.{Status}
 use Rattle.term_commands.specs.declared.status.Status.TheVariants.{Done, Findings}
+use Rattle.term_findings.specs.declared.found.Pen.{Pen}
+use Rattle.term_findings.specs.declared.found.Pen.TheVariants.{Ignored, Asked}
+
+-- all that is told of records and a layout, with the fields that may not be selected where the pen is asked for
+abbrev pub answer_for : Pen → Declaration → List (List ℕ) → List Finding
+answer_for Ignored layout records = answer_of layout records
+answer_for Asked layout records = answer_with_pen layout records
 
 -- what is found of records, each with the orders that it comes from
-abbrev pub found_in : Declaration → List (List ℕ) → List Traced
-found_in layout records = map (traced_of layout records) (answer_of layout records)
+abbrev pub found_in : Pen → Declaration → List (List ℕ) → List Traced
+found_in pen layout records = map (traced_of layout records) (answer_for pen layout records)
 
 -- a JSON value on a line of its own
 abbrev pub data_line : Data → List ℕ

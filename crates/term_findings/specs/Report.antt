@@ -20,6 +20,7 @@ use Rattle.term_findings.specs.Members.{finding_data}
 use Rattle.term_findings.specs.RecordLine.{record_numbers}
 use Rattle.term_findings.specs.declared.report.Report.{Report}
 use Rattle.term_findings.specs.declared.report.Report.TheVariants.{Json, Sarif}
+use Rattle.term_findings.specs.declared.found.Pen.{Pen}
 use Rattle.term_findings.specs.Lines.{data_line, found_in, status_of}
 use Rattle.term_findings.specs.Log.{printed_log}
 
@@ -57,16 +58,16 @@ report_findings layout input records findings =
     printed (pressed_lines layout input records findings ++ data_line (verdict_data (length layout.entries) (length records) findings))
     (status_of findings)
 
-abbrev pub report_within : Declaration → List ℕ → Result Printed Fault
-report_within layout text = records_in Refused text >>= λ told. Ok (report_findings layout text told.records (found_in layout told.records))
+abbrev pub report_within : Pen → Declaration → List ℕ → Result Printed Fault
+report_within pen layout text = records_in Refused text >>= λ told. Ok (report_findings layout text told.records (found_in pen layout told.records))
 
 -- a longer input is not looked at
-abbrev pub report_records : Declaration → List ℕ → Result Printed Fault
-report_records layout input = within_limit input >>= λ text. report_within layout text
+abbrev pub report_records : Pen → Declaration → List ℕ → Result Printed Fault
+report_records pen layout input = within_limit input >>= λ text. report_within pen layout text
 
 -- the report of a layout's text and of records, or what is wrong with one of them
-abbrev pub report : List ℕ → List ℕ → Result Printed Fault
-report text input = layout_in text >>= λ layout. report_records layout input
+abbrev pub report : Pen → List ℕ → List ℕ → Result Printed Fault
+report pen text input = layout_in text >>= λ layout. report_records pen layout input
 
 -- an input that is refused is reported too
 abbrev pub or_refusal : Result Printed Fault → Printed
@@ -74,6 +75,6 @@ or_refusal (Ok answer) = answer
 or_refusal (Err fault) = printed (data_line (refusal_data fault)) BadInput
 
 -- what is reported for a layout's text and records, and the status
-abbrev pub printed_report : Report → List ℕ → List ℕ → Printed
-printed_report Json text input = or_refusal (report text input)
-printed_report (Sarif paths) text input = printed_log paths text input
+abbrev pub printed_report : Pen → Report → List ℕ → List ℕ → Printed
+printed_report pen Json text input = or_refusal (report pen text input)
+printed_report pen (Sarif paths) text input = printed_log pen paths text input

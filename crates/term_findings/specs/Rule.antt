@@ -2,14 +2,21 @@
 use Rattle.std.specs.Prelude.{ℕ, List, [], ◌∷◌, ◌++◌, codes}
 use Rattle.scr_check.specs.declared.finding.Finding.{Finding}
 use Rattle.scr_check.specs.declared.finding.Finding.TheVariants as findings
+use Rattle.term_findings.specs.declared.found.Pen.{Pen}
+use Rattle.term_findings.specs.declared.found.Pen.TheVariants.{Ignored, Asked}
 use Rattle.term_findings.specs.declared.rule.Rule.{Rule}
-use Rattle.term_findings.specs.declared.rule.Rule.TheVariants.{RecordRefused, NoRecord, FirstNotErase, NotAWrite, KeyboardLocked, OtherSize, Unformatted, Undeclared, UndeclaredFixed, Missing, TooLong, OtherKind, EmptyModified, CursorDependent, InputRefused}
+use Rattle.term_findings.specs.declared.rule.Rule.TheVariants.{RecordRefused, NoRecord, FirstNotErase, NotAWrite, KeyboardLocked, OtherSize, Unformatted, Undeclared, UndeclaredFixed, Missing, TooLong, OtherKind, EmptyModified, CursorDependent, InputRefused, Selectable}
 
 -- the rules in the order of their numbers, the one for inputs last
 abbrev pub all_rules : List Rule
 all_rules =
     RecordRefused ∷ NoRecord ∷ FirstNotErase ∷ NotAWrite ∷ KeyboardLocked ∷ OtherSize ∷ Unformatted ∷ Undeclared ∷ UndeclaredFixed ∷ Missing
     ∷ TooLong ∷ OtherKind ∷ EmptyModified ∷ CursorDependent ∷ InputRefused ∷ []
+
+-- and that of the pen after them, where it is asked for
+abbrev pub rules_for : Pen → List Rule
+rules_for Ignored = all_rules
+rules_for Asked = all_rules ++ Selectable ∷ []
 
 abbrev pub rule_of : Finding → Rule
 rule_of (findings.RecordRefused index refused) = RecordRefused
@@ -26,6 +33,7 @@ rule_of (findings.TooLong found) = TooLong
 rule_of (findings.OtherKind index) = OtherKind
 rule_of (findings.EmptyModified place) = EmptyModified
 rule_of (findings.CursorDependent index) = CursorDependent
+rule_of (findings.Selectable place) = Selectable
 
 -- where it stands among all rules, counted from 0
 abbrev pub rule_index : Rule → ℕ
@@ -44,6 +52,7 @@ rule_index OtherKind = 11
 rule_index EmptyModified = 12
 rule_index CursorDependent = 13
 rule_index InputRefused = 14
+rule_index Selectable = 15
 
 -- the number of its findings, behind an F
 abbrev pub rule_id : Rule → List ℕ
@@ -62,6 +71,7 @@ rule_id OtherKind = codes "F12"
 rule_id EmptyModified = codes "F13"
 rule_id CursorDependent = codes "F14"
 rule_id InputRefused = codes "refused"
+rule_id Selectable = codes "F15"
 
 -- its name, in kebab case
 abbrev pub rule_name : Rule → List ℕ
@@ -80,6 +90,7 @@ rule_name OtherKind = codes "other-kind"
 rule_name EmptyModified = codes "empty-modified"
 rule_name CursorDependent = codes "cursor-dependent"
 rule_name InputRefused = codes "input-refused"
+rule_name Selectable = codes "selectable"
 
 -- what it is about, in a few words
 abbrev pub brief_of : Rule → List ℕ
@@ -98,6 +109,7 @@ brief_of OtherKind = codes "A field is of the other kind"
 brief_of EmptyModified = codes "An empty field is sent"
 brief_of CursorDependent = codes "A write depends on the cursor"
 brief_of InputRefused = codes "An input is refused"
+brief_of Selectable = codes "A field can be selected that is protected or has no cell"
 
 -- what it means
 abbrev pub meaning_of : Rule → List ℕ
@@ -116,6 +128,7 @@ meaning_of OtherKind = codes "An entry is an input where the field is protected,
 meaning_of EmptyModified = codes "Two attributes stand side by side, and the first has its modified data tag set: an empty field is sent."
 meaning_of CursorDependent = codes "A record of a later turn of a dialogue writes where the operator left the cursor."
 meaning_of InputRefused = codes "The layout or a line of records can't be read."
+meaning_of Selectable = codes "Cursor Select or a light pen can select a field that is protected or has no cell: that changes it, and can send it."
 
 -- how it is mended
 abbrev pub mend_of : Rule → List ℕ
@@ -134,6 +147,7 @@ mend_of OtherKind = codes "Change the attribute, or the entry's kind."
 mend_of EmptyModified = codes "Reset the tag."
 mend_of CursorDependent = codes "Begin the write with Set Buffer Address."
 mend_of InputRefused = codes "Correct the line that is told."
+mend_of Selectable = codes "Reset the display bits, or begin the field with another character."
 
 -- what it means, and how it is mended
 abbrev pub rule_help : Rule → List ℕ

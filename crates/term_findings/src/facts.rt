@@ -76,7 +76,8 @@ fn field_place(finding: &Finding) -> Option<u32>
     match finding {
         Finding::Undeclared(place, _)
         | Finding::UndeclaredFixed(place, _)
-        | Finding::EmptyModified(place) => Some(*place),
+        | Finding::EmptyModified(place)
+        | Finding::Selectable(place) => Some(*place),
         _ => None,
     }
 }

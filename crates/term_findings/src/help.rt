@@ -4,7 +4,7 @@ ghost use Rattle.std.specs.Prelude.{◌≡◌, ◌++◌, ◌<◌, ◌≤◌, opt
 ghost use Rattle.std.specs.String.{string_bytes};
 ghost use Rattle.ds_codec.specs.Geometry.{cells_of, IsGood};
 ghost use Rattle.scr_check.specs.FindingText.{name_at};
-ghost use Rattle.term_findings.specs.Help.{attribute_place, entry_keys, undeclared_help, modified_help, undeclared_fixed_help, address_digits, missing_text, missing_help, no_cell_text, absent_help, too_long_help, kind_words, other_kind_help, leave_out_help, begin_help, entry_help, field_help, help_for, help_of};
+ghost use Rattle.term_findings.specs.Help.{attribute_place, entry_keys, undeclared_help, modified_help, selectable_help, undeclared_fixed_help, address_digits, missing_text, missing_help, no_cell_text, absent_help, too_long_help, kind_words, other_kind_help, leave_out_help, begin_help, entry_help, field_help, help_for, help_of};
 
 use crate::facts::{column_at, row_at};
 use crate::field_name::field_name;
@@ -65,6 +65,15 @@ fn modified_help(alloc: Global, size: Size, place: u32) -> Result<String, AllocE
 {
     let attribute = attribute_place(size, place);
     format!(in alloc; "reset bit 01, the modified data tag, of the attribute at {attribute}")
+}
+
+fn selectable_help(alloc: Global, size: Size, place: u32) -> Result<String, AllocError>
+    ensures { IfOk result (λ text. string_bytes text ≡ selectable_help size place) }
+{
+    let attribute = attribute_place(size, place);
+    format!(in alloc;
+        "reset bits 0C, display, of the attribute at {attribute}, or begin the field with another character than ?, >, &, space and null"
+    )
 }
 
 fn undeclared_fixed_help(
@@ -279,6 +288,7 @@ fn field_help(
             Ok(Some(undeclared_fixed_help(alloc, entries, size, *place)?))
         }
         Finding::EmptyModified(place) => Ok(Some(modified_help(alloc, size, *place)?)),
+        Finding::Selectable(place) => Ok(Some(selectable_help(alloc, size, *place)?)),
         _ => entry_help(alloc, layout, end, finding),
     }
 }

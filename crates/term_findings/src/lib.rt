@@ -19,6 +19,7 @@ mod rule;
 mod sarif;
 mod uri;
 
+pub use found::Pen;
 pub use help::help_text;
 pub use json::finding_json;
 pub use names::name_of;

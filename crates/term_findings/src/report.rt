@@ -11,7 +11,7 @@ ghost use Rattle.term_commands.specs.declared.fault.Fault.{Fault as AFault};
 ghost use Rattle.term_findings.specs.Lines.{found_in};
 ghost use Rattle.term_findings.specs.Report.{report_findings, report_within, report_records, report, or_refusal, printed_report};
 
-use crate::found::find;
+use crate::found::{Pen, find};
 use crate::json::{findings_answer, refusal_answer};
 use crate::log::{log_read, log_texts};
 use crate::paths::Paths;
@@ -34,36 +34,52 @@ pub enum Report<'a> {
 /// What is reported of a layout and records that were told.
 fn report_told(
     alloc: Global,
+    pen: Pen,
     layout: &Layout,
     input: &[u8],
     records: &[Vec<u8>],
 ) -> Result<Answer, AllocError>
     ensures { IfOk result (λ answer. answer_seen answer
-        ≡ report_findings layout.now input.now (records_held records.now) (found_in layout.now (records_held records.now))) }
+        ≡ report_findings layout.now input.now (records_held records.now) (found_in pen layout.now (records_held records.now))) }
 {
-    let found = find(alloc, layout, records)?;
+    let found = find(alloc, pen, layout, records)?;
     findings_answer(alloc, layout, input, records, found.as_slice())
 }
 
-fn report_within(alloc: Global, layout: &Layout, text: &[u8]) -> Result<Answer, CommandError>
-    ensures { Gives answer_seen result (report_within layout.now text.now) }
+fn report_within(
+    alloc: Global,
+    pen: Pen,
+    layout: &Layout,
+    text: &[u8],
+) -> Result<Answer, CommandError>
+    ensures { Gives answer_seen result (report_within pen layout.now text.now) }
 {
     let told = records_in(alloc, text, SizeLine::Refused)?;
-    Ok(report_told(alloc, layout, text, told.records.as_slice())?)
+    Ok(report_told(alloc, pen, layout, text, told.records.as_slice())?)
 }
 
-fn report_records(alloc: Global, layout: &Layout, input: &[u8]) -> Result<Answer, CommandError>
-    ensures { Gives answer_seen result (report_records layout.now input.now) }
+fn report_records(
+    alloc: Global,
+    pen: Pen,
+    layout: &Layout,
+    input: &[u8],
+) -> Result<Answer, CommandError>
+    ensures { Gives answer_seen result (report_records pen layout.now input.now) }
 {
     let text = within_limit(input)?;
-    report_within(alloc, layout, text)
+    report_within(alloc, pen, layout, text)
 }
 
-fn report_both(alloc: Global, layout: &[u8], records: &[u8]) -> Result<Answer, CommandError>
-    ensures { Gives answer_seen result (report layout.now records.now) }
+fn report_both(
+    alloc: Global,
+    pen: Pen,
+    layout: &[u8],
+    records: &[u8],
+) -> Result<Answer, CommandError>
+    ensures { Gives answer_seen result (report pen layout.now records.now) }
 {
     let layout = layout_in(alloc, layout)?;
-    report_records(alloc, &layout, records)
+    report_records(alloc, pen, &layout, records)
 }
 
 /// What is reported: the answer, or in its place what is wrong with an input.
@@ -90,25 +106,28 @@ fn or_refusal(alloc: Global, answer: Result<Answer, CommandError>) -> Result<Ans
 /// Where a request for memory was refused.
 pub fn report_texts(
     alloc: Global,
+    pen: Pen,
     report: Report<'_>,
     layout: &[u8],
     records: &[u8],
 ) -> Result<Answer, CommandError>
-    ensures { Gives answer_seen result (Ok (printed_report report.entry layout.now records.now)) }
+    ensures { Gives answer_seen result
+        (Ok (printed_report pen report.entry layout.now records.now)) }
 {
     match report {
-        Report::Json => or_refusal(alloc, report_both(alloc, layout, records)),
-        Report::Sarif(paths) => log_texts(alloc, paths, layout, records),
+        Report::Json => or_refusal(alloc, report_both(alloc, pen, layout, records)),
+        Report::Sarif(paths) => log_texts(alloc, pen, paths, layout, records),
     }
 }
 
 fn report_read<L: GivesBytes, R: GivesBytes>(
     alloc: Global,
+    pen: Pen,
     layout: &mut L,
     reader: &mut R,
 ) -> Result<Answer, CommandError>
     ensures answer { IfSome (L.remaining layout.old) (λ text. IfSome (R.remaining
-        reader.old) (λ input. GivesOrFails answer_seen result (report text input))) }
+        reader.old) (λ input. GivesOrFails answer_seen result (report pen text input))) }
     ensures cause { ToldBy (L.failures layout.old + R.failures reader.old)
         (L.failures layout.new + R.failures reader.new) result }
     ensures unread { IfSome (L.remaining layout.old) (λ text. IfErr (layout_in text) (λ fault.
@@ -116,42 +135,44 @@ fn report_read<L: GivesBytes, R: GivesBytes>(
 {
     let layout = read_layout(alloc, layout)?;
     let records = read_text(alloc, reader)?;
-    report_records(alloc, &layout, records.as_slice())
+    report_records(alloc, pen, &layout, records.as_slice())
 }
 
 fn report_lines<L: GivesBytes, R: GivesBytes>(
     alloc: Global,
+    pen: Pen,
     layout: &mut L,
     reader: &mut R,
 ) -> Result<Answer, CommandError>
     ensures answer { IfSome (L.remaining layout.old) (λ text. IfSome (R.remaining
-        reader.old) (λ input. GivesOrFails answer_seen result (Ok (or_refusal (report text input))))) }
+        reader.old) (λ input. GivesOrFails answer_seen result (Ok (or_refusal (report pen text input))))) }
     ensures cause { ToldBy (L.failures layout.old + R.failures reader.old)
         (L.failures layout.new + R.failures reader.new) result }
     ensures unread { IfSome (L.remaining layout.old) (λ text. IfErr (layout_in text) (λ fault.
         reader.new ≡ reader.old)) }
 {
-    let answer = report_read(alloc, layout, reader);
+    let answer = report_read(alloc, pen, layout, reader);
     or_refusal(alloc, answer)
 }
 
 /// What is reported of a layout and records that are read.
 fn report_streams<L: GivesBytes, R: GivesBytes>(
     alloc: Global,
+    pen: Pen,
     report: Report<'_>,
     layout: &mut L,
     reader: &mut R,
 ) -> Result<Answer, CommandError>
     ensures answer { IfSome (L.remaining layout.old) (λ text. IfSome (R.remaining
-        reader.old) (λ input. GivesOrFails answer_seen result (Ok (printed_report report.entry text input)))) }
+        reader.old) (λ input. GivesOrFails answer_seen result (Ok (printed_report pen report.entry text input)))) }
     ensures cause { ToldBy (L.failures layout.old + R.failures reader.old)
         (L.failures layout.new + R.failures reader.new) result }
     ensures unread { IfSome (L.remaining layout.old) (λ text. IfErr (layout_in text) (λ fault.
         reader.new ≡ reader.old)) }
 {
     match report {
-        Report::Json => report_lines(alloc, layout, reader),
-        Report::Sarif(paths) => log_read(alloc, paths, layout, reader),
+        Report::Json => report_lines(alloc, pen, layout, reader),
+        Report::Sarif(paths) => log_read(alloc, pen, paths, layout, reader),
     }
 }
 
@@ -161,6 +182,7 @@ fn report_streams<L: GivesBytes, R: GivesBytes>(
 /// write that failed the status is `Failed`, where memory was refused `NoMemory`, and a front of the text was written.
 pub fn run_report<L: GivesBytes, R: GivesBytes, W: TakesBytes>(
     alloc: Global,
+    pen: Pen,
     report: Report<'_>,
     layout: &mut L,
     reader: &mut R,
@@ -168,15 +190,15 @@ pub fn run_report<L: GivesBytes, R: GivesBytes, W: TakesBytes>(
 ) -> Status
     ensures prints { IfSome (L.remaining layout.old) (λ text. IfSome (R.remaining
         reader.old) (λ input.
-        Prints (W.contents writer.old) (W.contents writer.new) result (printed_report report.entry text input))) }
+        Prints (W.contents writer.old) (W.contents writer.new) result (printed_report pen report.entry text input))) }
     ensures cause { IfSome (L.remaining layout.old) (λ text. IfSome (R.remaining
         reader.old) (λ input.
         EndsBy (L.failures layout.old + R.failures reader.old + W.failures writer.old)
         (L.failures layout.new + R.failures reader.new + W.failures writer.new)
-        (printed_report report.entry text input).status result)) }
+        (printed_report pen report.entry text input).status result)) }
     ensures unread { IfSome (L.remaining layout.old) (λ text. IfErr (layout_in text) (λ fault.
         reader.new ≡ reader.old)) }
 {
-    let answer = report_streams(alloc, report, layout, reader);
+    let answer = report_streams(alloc, pen, report, layout, reader);
     finish(alloc, writer, answer)
 }

@@ -23,9 +23,10 @@ pub(crate) enum Rule {
     EmptyModified,
     CursorDependent,
     InputRefused,
+    Selectable,
 }
 
-/// The rules in the order of their numbers, the one for inputs last.
+/// The rules in the order of their numbers, the one for inputs last. That of the pen comes after them where it is asked for.
 pub(crate) fn all_rules() -> [Rule; 15]
     ensures { result ≡ all_rules }
 {
@@ -67,6 +68,7 @@ pub(crate) fn rule_of(finding: &Finding) -> Rule
         Finding::OtherKind(_) => Rule::OtherKind,
         Finding::EmptyModified(_) => Rule::EmptyModified,
         Finding::CursorDependent(_) => Rule::CursorDependent,
+        Finding::Selectable(_) => Rule::Selectable,
     }
 }
 
@@ -91,6 +93,7 @@ impl Rule {
             Rule::EmptyModified => 12,
             Rule::CursorDependent => 13,
             Rule::InputRefused => 14,
+            Rule::Selectable => 15,
         }
     }
 
@@ -114,6 +117,7 @@ impl Rule {
             Rule::EmptyModified => "F13",
             Rule::CursorDependent => "F14",
             Rule::InputRefused => "refused",
+            Rule::Selectable => "F15",
         }
     }
 
@@ -137,6 +141,7 @@ impl Rule {
             Rule::EmptyModified => "empty-modified",
             Rule::CursorDependent => "cursor-dependent",
             Rule::InputRefused => "input-refused",
+            Rule::Selectable => "selectable",
         }
     }
 
@@ -160,6 +165,7 @@ impl Rule {
             Rule::EmptyModified => "An empty field is sent",
             Rule::CursorDependent => "A write depends on the cursor",
             Rule::InputRefused => "An input is refused",
+            Rule::Selectable => "A field can be selected that is protected or has no cell",
         }
     }
 
@@ -199,6 +205,9 @@ impl Rule {
                 "A record of a later turn of a dialogue writes where the operator left the cursor."
             }
             Rule::InputRefused => "The layout or a line of records can't be read.",
+            Rule::Selectable => {
+                "Cursor Select or a light pen can select a field that is protected or has no cell: that changes it, and can send it."
+            }
         }
     }
 
@@ -226,6 +235,8 @@ impl Rule {
             Rule::EmptyModified => "Reset the tag.",
             Rule::CursorDependent => "Begin the write with Set Buffer Address.",
             Rule::InputRefused => "Correct the line that is told.",
+            Rule::Selectable =>
+                "Reset the display bits, or begin the field with another character.",
         }
     }
 }

@@ -8,9 +8,10 @@ ghost use Rattle.serde_json.specs.View.{view, items_of, members_view};
 ghost use Rattle.serde_json.specs.Written.{compact_text, has_float};
 ghost use Rattle.term_commands.specs.Fault.{fault_text};
 ghost use Rattle.term_findings.specs.Region.{standing_in};
-ghost use Rattle.term_findings.specs.Rule.{rule_help};
+ghost use Rattle.term_findings.specs.Rule.{rule_help, rules_for};
 ghost use Rattle.term_findings.specs.Sarif.{message_data, level_data, rule_data, driver_data, tool_data, columns_region, region_data, artifact_data, physical_data, location_data, end_data, result_members, result_data, help_end, message_of, end_of, finding_result, findings_data, refusal_results, refusal_log_data, run_data, log_data, findings_log_data};
 
+use crate::found::Pen;
 use crate::help::help_text;
 use crate::object::{Members, listed, put_str, single};
 use crate::region::{Columns, Region, Standing, finding_region, order_region, standing_in};
@@ -84,37 +85,44 @@ fn rule_value(alloc: Global, rule: Rule) -> Result<Value, AllocError>
     Ok(Value::Object(members))
 }
 
-fn rules_value(alloc: Global, rules: &[Rule]) -> Result<Value, AllocError>
-    ensures { IfOk result (λ value. view value ≡ array (items_of (map rule_data rules.now))) }
+fn rule_values(alloc: Global, rules: &[Rule]) -> Result<Vec<Value>, AllocError>
+    ensures { IfOk result (λ values. map view values.items ≡ map rule_data rules.now) }
 {
     let mut values = Vec::new(alloc);
     for rule in rules {
         values.push(rule_value(alloc, *rule)?)?;
     }
+    Ok(values)
+}
+
+/// The rules, that of the pen last where it was asked for.
+fn rules_value(alloc: Global, pen: Pen) -> Result<Value, AllocError>
+    ensures { IfOk result (λ value. view value ≡ array (items_of (map rule_data (rules_for pen)))) }
+{
+    let mut values = rule_values(alloc, &all_rules())?;
+    match pen {
+        Pen::Ignored => {}
+        Pen::Asked => values.push(rule_value(alloc, Rule::Selectable)?)?,
+    }
     Ok(Value::Array(values))
 }
 
 /// The program's name and version, with its rules.
-fn driver_value(alloc: Global) -> Result<Value, AllocError>
-    ensures { IfOk result (λ value. view value ≡ driver_data) }
+fn driver_value(alloc: Global, pen: Pen) -> Result<Value, AllocError>
+    ensures { IfOk result (λ value. view value ≡ driver_data pen) }
 {
     let mut members = Map::new(alloc);
     put_str(alloc, &mut members, "name", "term3270")?;
-    put(
-        &mut members,
-        alloc,
-        "rules",
-        rules_value(alloc, &all_rules())?,
-    )?;
+    put(&mut members, alloc, "rules", rules_value(alloc, pen)?)?;
     put_str(alloc, &mut members, "version", VERSION)?;
     Ok(Value::Object(members))
 }
 
 #[tactic(auto, unfolding(crate::specs::Sarif::tool_data))]
-fn tool_value(alloc: Global) -> Result<Value, AllocError>
-    ensures { IfOk result (λ value. view value ≡ tool_data) }
+fn tool_value(alloc: Global, pen: Pen) -> Result<Value, AllocError>
+    ensures { IfOk result (λ value. view value ≡ tool_data pen) }
 {
-    single(alloc, "driver", driver_value(alloc)?)
+    single(alloc, "driver", driver_value(alloc, pen)?)
 }
 
 /// The columns of a line.
@@ -337,28 +345,29 @@ fn results_value(
 }
 
 /// A run with these results.
-fn run_value(alloc: Global, results: Value) -> Result<Value, AllocError>
-    ensures { IfOk result (λ value. view value ≡ run_data (view results)) }
+fn run_value(alloc: Global, pen: Pen, results: Value) -> Result<Value, AllocError>
+    ensures { IfOk result (λ value. view value ≡ run_data pen (view results)) }
 {
     let mut members = Map::new(alloc);
     put(&mut members, alloc, "results", results)?;
-    put(&mut members, alloc, "tool", tool_value(alloc)?)?;
+    put(&mut members, alloc, "tool", tool_value(alloc, pen)?)?;
     Ok(Value::Object(members))
 }
 
 /// The one run of a log.
-fn runs_value(alloc: Global, results: Value) -> Result<Value, AllocError>
-    ensures { IfOk result (λ value. view value ≡ array (item (run_data (view results)) no_items)) }
+fn runs_value(alloc: Global, pen: Pen, results: Value) -> Result<Value, AllocError>
+    ensures { IfOk result (λ value. view value
+        ≡ array (item (run_data pen (view results)) no_items)) }
 {
-    listed(alloc, run_value(alloc, results)?)
+    listed(alloc, run_value(alloc, pen, results)?)
 }
 
 /// A log of one run, with these results.
 #[tactic(auto, unfolding(crate::specs::Sarif::log_data))]
-fn log_value(alloc: Global, results: Value) -> Result<Value, AllocError>
-    ensures { IfOk result (λ value. view value ≡ log_data (view results)) }
+fn log_value(alloc: Global, pen: Pen, results: Value) -> Result<Value, AllocError>
+    ensures { IfOk result (λ value. view value ≡ log_data pen (view results)) }
 {
-    let runs = runs_value(alloc, results)?;
+    let runs = runs_value(alloc, pen, results)?;
     let mut members = Map::new(alloc);
     put(&mut members, alloc, "runs", runs)?;
     put_str(alloc, &mut members, "$schema", SCHEMA)?;
@@ -367,15 +376,15 @@ fn log_value(alloc: Global, results: Value) -> Result<Value, AllocError>
 }
 
 #[tactic(auto, using(crate::proofs::Logged::log_plain, crate::proofs::Logged::log_nests))]
-fn log_text(alloc: Global, results: Value) -> Result<String, AllocError>
+fn log_text(alloc: Global, pen: Pen, results: Value) -> Result<String, AllocError>
     requires plain { has_float (view results) ≡ false }
     requires flat { depth (view results) ≤ 8 }
     ensures text { IfOk result (λ text. string_bytes text
-        ≡ compact_text (log_data (view results))) }
+        ≡ compact_text (log_data pen (view results))) }
     ensures again { IfOk result (λ text. read (string_bytes text)
-        ≡ Some (log_data (view results))) }
+        ≡ Some (log_data pen (view results))) }
 {
-    let value = log_value(alloc, results)?;
+    let value = log_value(alloc, pen, results)?;
     value.to_string(alloc)
 }
 
@@ -388,18 +397,19 @@ fn log_text(alloc: Global, results: Value) -> Result<String, AllocError>
 #[tactic(auto, using(crate::proofs::Logged::findings_plain, crate::proofs::Logged::findings_nest))]
 pub fn findings_log(
     alloc: Global,
+    pen: Pen,
     path: &str,
     layout: &Layout,
     input: &[u8],
     findings: &[Traced],
 ) -> Result<String, AllocError>
     ensures text { IfOk result (λ text. string_bytes text
-        ≡ compact_text (findings_log_data path.now layout.now input.now findings.now)) }
+        ≡ compact_text (findings_log_data pen path.now layout.now input.now findings.now)) }
     ensures again { IfOk result (λ text. read (string_bytes text)
-        ≡ Some (findings_log_data path.now layout.now input.now findings.now)) }
+        ≡ Some (findings_log_data pen path.now layout.now input.now findings.now)) }
 {
     let results = results_value(alloc, path, layout, input, findings)?;
-    log_text(alloc, results)
+    log_text(alloc, pen, results)
 }
 
 fn refusal_results(
@@ -424,13 +434,14 @@ fn refusal_results(
 #[tactic(auto, using(crate::proofs::Logged::refusal_plain, crate::proofs::Logged::refusal_nests))]
 pub(crate) fn refusal_log(
     alloc: Global,
+    pen: Pen,
     path: &str,
     line: usize,
     fault: Fault,
 ) -> Result<String, AllocError>
     ensures { IfOk result (λ text. string_bytes text
-        ≡ compact_text (refusal_log_data path.now line fault)) }
+        ≡ compact_text (refusal_log_data pen path.now line fault)) }
 {
     let results = refusal_results(alloc, path, line, fault)?;
-    log_text(alloc, results)
+    log_text(alloc, pen, results)
 }

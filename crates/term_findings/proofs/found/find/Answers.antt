@@ -11,5 +11,5 @@ returns c =
     let lent : List (List ℕ) = map (λ bytes. bytes.now) c.as_slice-records.result.now in
     let same : lent ≡ held = ap (map (λ bytes. bytes.now)) c.as_slice-records.ensures.value ∙ c.in_ok-slices.ensures in
     subst (λ (found : List Traced). IfOk c.trace_verdict.result (λ traced. traced.items ≡ found))
-    (same_found c.args.layout.now lent held (findings_in c.in_ok-verdict.verdict) same c.in_ok-verdict.ensures.listed)
+    (same_found c.args.pen c.args.layout.now lent held (findings_in c.in_ok-verdict.verdict) same c.in_ok-verdict.ensures)
     c.trace_verdict.ensures
