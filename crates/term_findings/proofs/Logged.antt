@@ -15,15 +15,15 @@ use Rattle.term_findings.specs.declared.rule.Rule.{Rule}
 use Rattle.term_findings.specs.declared.rule.Rule.TheVariants.{InputRefused}
 use Rattle.term_findings.specs.Region.{Standing, finding_region, order_region}
 use Rattle.term_findings.specs.Rule.{all_rules, rule_of}
-use Rattle.term_findings.specs.Sarif.{rule_data, tool_data, columns_region, end_data, result_data, message_of, end_of, finding_result, findings_data, refusal_results, log_data}
+use Rattle.term_findings.specs.Sarif.{rule_data, rules_data, tool_data, columns_region, end_data, result_data, message_of, end_of, finding_result, findings_data, refusal_results, log_data}
 
 -- ---- lists
 
-none_floats : {X : Type 0} (f : X → Data) → ((x : X) → has_float (f x) ≡ false) → (xs : List X) → items_have_float (items_of (map f xs)) ≡ false
+pub none_floats : {X : Type 0} (f : X → Data) → ((x : X) → has_float (f x) ≡ false) → (xs : List X) → items_have_float (items_of (map f xs)) ≡ false
 none_floats f none [] = refl
 none_floats f none (x ∷ xs) = rw (none x) (none_floats f none xs)
 
-all_nest : {X : Type 0} (f : X → Data) (n : ℕ) → ((x : X) → depth (f x) ≤ n) → (xs : List X) → items_depth (items_of (map f xs)) ≤ n
+pub all_nest : {X : Type 0} (f : X → Data) (n : ℕ) → ((x : X) → depth (f x) ≤ n) → (xs : List X) → items_depth (items_of (map f xs)) ≤ n
 all_nest f n nests [] = omega arith
 all_nest f n nests (x ∷ xs) = omega (arith, nests x, all_nest f n nests xs)
 
@@ -37,21 +37,27 @@ rule_nests : (rule : Rule) → depth (rule_data rule) ≤ 2
 unfolding rule_data
 rule_nests rule = omega arith
 
-tool_plain : has_float tool_data ≡ false
-unfolding tool_data
-tool_plain = rw (none_floats rule_data rule_plain all_rules) refl
+pub rules_plain : items_have_float (items_of rules_data) ≡ false
+rules_plain = none_floats rule_data rule_plain all_rules
 
-tool_nests : depth tool_data ≤ 5
+pub rules_nest : items_depth (items_of rules_data) ≤ 2
+rules_nest = all_nest rule_data 2 rule_nests all_rules
+
+tool_plain : (rules : List Data) → items_have_float (items_of rules) ≡ false → has_float (tool_data rules) ≡ false
 unfolding tool_data
-tool_nests = omega (arith, all_nest rule_data 2 rule_nests all_rules)
+tool_plain rules plain = rw plain refl
+
+tool_nests : (rules : List Data) → items_depth (items_of rules) ≤ 2 → depth (tool_data rules) ≤ 5
+unfolding tool_data
+tool_nests rules flat = omega (arith, flat)
 
 -- ---- a result
 
-region_plain : (line : ℕ) (columns : Option Columns) → has_float (columns_region line columns) ≡ false
+pub region_plain : (line : ℕ) (columns : Option Columns) → has_float (columns_region line columns) ≡ false
 region_plain line None = refl
 region_plain line (Some columns) = refl
 
-region_nests : (line : ℕ) (columns : Option Columns) → depth (columns_region line columns) ≤ 1
+pub region_nests : (line : ℕ) (columns : Option Columns) → depth (columns_region line columns) ≤ 1
 region_nests line None = omega arith
 region_nests line (Some columns) = omega arith
 
@@ -110,10 +116,10 @@ refusal_nests path line fault = omega (arith, result_nests InputRefused path (re
 
 -- ---- the log
 
-pub log_plain : (results : Data) → has_float results ≡ false → has_float (log_data results) ≡ false
+pub log_plain : (rules : List Data) (results : Data) → items_have_float (items_of rules) ≡ false → has_float results ≡ false → has_float (log_data rules results) ≡ false
 unfolding log_data
-log_plain results plain = rw (plain, tool_plain) refl
+log_plain rules results ruled plain = rw (plain, tool_plain rules ruled) refl
 
-pub log_nests : (results : Data) → depth results ≤ 8 → depth (log_data results) ≤ max_depth
+pub log_nests : (rules : List Data) (results : Data) → items_depth (items_of rules) ≤ 2 → depth results ≤ 8 → depth (log_data rules results) ≤ max_depth
 unfolding log_data
-log_nests results flat = omega (arith, flat, tool_nests)
+log_nests rules results ruled flat = omega (arith, flat, tool_nests rules ruled)

@@ -35,13 +35,18 @@ rule_data rule =
     (member (codes "help") (message_data (rule_help rule)) (member (codes "id") (string (rule_id rule))
     (member (codes "name") (string (rule_name rule)) (member (codes "shortDescription") (message_data (brief_of rule)) no_members))))))
 
-abbrev pub driver_data : Data
-driver_data =
-    object (member (codes "name") (string (codes "term3270")) (member (codes "rules") (array (items_of (map rule_data all_rules)))
+-- the rules of what is told of records
+abbrev pub rules_data : List Data
+rules_data = map rule_data all_rules
+
+-- the program, with rules in the order of their indices
+abbrev pub driver_data : List Data → Data
+driver_data rules =
+    object (member (codes "name") (string (codes "term3270")) (member (codes "rules") (array (items_of rules))
     (member (codes "version") (string (codes "1.0.0")) no_members)))
 
-unfoldable pub tool_data : Data
-tool_data = object (member (codes "driver") driver_data no_members)
+unfoldable pub tool_data : List Data → Data
+tool_data rules = object (member (codes "driver") (driver_data rules) no_members)
 
 -- ---- a place
 
@@ -116,16 +121,16 @@ refusal_results path line fault = array (item (result_data InputRefused path (re
 
 -- ---- the log
 
-abbrev pub run_data : Data → Data
-run_data results = object (member (codes "results") results (member (codes "tool") tool_data no_members))
+abbrev pub run_data : List Data → Data → Data
+run_data rules results = object (member (codes "results") results (member (codes "tool") (tool_data rules) no_members))
 
-unfoldable pub log_data : Data → Data
-log_data results =
+unfoldable pub log_data : List Data → Data → Data
+log_data rules results =
     object (member (codes "$schema") (string (codes "https://json.schemastore.org/sarif-2.1.0.json"))
-    (member (codes "runs") (array (item (run_data results) no_items)) (member (codes "version") (string (codes "2.1.0")) no_members)))
+    (member (codes "runs") (array (item (run_data rules results) no_items)) (member (codes "version") (string (codes "2.1.0")) no_members)))
 
 abbrev pub findings_log_data : List ℕ → Declaration → List ℕ → List Traced → Data
-findings_log_data path layout input findings = log_data (findings_data path layout (standing_in input) findings)
+findings_log_data path layout input findings = log_data rules_data (findings_data path layout (standing_in input) findings)
 
 abbrev pub refusal_log_data : List ℕ → ℕ → Fault → Data
-refusal_log_data path line fault = log_data (refusal_results path line fault)
+refusal_log_data path line fault = log_data rules_data (refusal_results path line fault)
