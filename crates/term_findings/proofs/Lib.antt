@@ -1,7 +1,7 @@
-mod Plain
+pub mod Plain
 mod RecordLines
 mod Known
-mod Logged
+pub mod Logged
 mod Places
 mod Limited
 mod Helped

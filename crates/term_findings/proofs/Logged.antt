@@ -16,15 +16,15 @@ use Rattle.term_findings.specs.declared.rule.Rule.{Rule}
 use Rattle.term_findings.specs.declared.rule.Rule.TheVariants.{InputRefused}
 use Rattle.term_findings.specs.Region.{Standing, finding_region, order_region}
 use Rattle.term_findings.specs.Rule.{rules_for, rule_of}
-use Rattle.term_findings.specs.Sarif.{rule_data, tool_data, columns_region, end_data, result_data, message_of, end_of, finding_result, findings_data, refusal_results, log_data}
+use Rattle.term_findings.specs.Sarif.{rule_data, rules_data_for, tool_data, columns_region, end_data, result_data, message_of, end_of, finding_result, findings_data, refusal_results, log_data}
 
 -- ---- lists
 
-none_floats : {X : Type 0} (f : X → Data) → ((x : X) → has_float (f x) ≡ false) → (xs : List X) → items_have_float (items_of (map f xs)) ≡ false
+pub none_floats : {X : Type 0} (f : X → Data) → ((x : X) → has_float (f x) ≡ false) → (xs : List X) → items_have_float (items_of (map f xs)) ≡ false
 none_floats f none [] = refl
 none_floats f none (x ∷ xs) = rw (none x) (none_floats f none xs)
 
-all_nest : {X : Type 0} (f : X → Data) (n : ℕ) → ((x : X) → depth (f x) ≤ n) → (xs : List X) → items_depth (items_of (map f xs)) ≤ n
+pub all_nest : {X : Type 0} (f : X → Data) (n : ℕ) → ((x : X) → depth (f x) ≤ n) → (xs : List X) → items_depth (items_of (map f xs)) ≤ n
 all_nest f n nests [] = omega arith
 all_nest f n nests (x ∷ xs) = omega (arith, nests x, all_nest f n nests xs)
 
@@ -38,21 +38,27 @@ rule_nests : (rule : Rule) → depth (rule_data rule) ≤ 2
 unfolding rule_data
 rule_nests rule = omega arith
 
-tool_plain : (pen : Pen) → has_float (tool_data pen) ≡ false
-unfolding tool_data
-tool_plain pen = rw (none_floats rule_data rule_plain (rules_for pen)) refl
+pub rules_plain : (pen : Pen) → items_have_float (items_of (rules_data_for pen)) ≡ false
+rules_plain pen = none_floats rule_data rule_plain (rules_for pen)
 
-tool_nests : (pen : Pen) → depth (tool_data pen) ≤ 5
+pub rules_nest : (pen : Pen) → items_depth (items_of (rules_data_for pen)) ≤ 2
+rules_nest pen = all_nest rule_data 2 rule_nests (rules_for pen)
+
+tool_plain : (rules : List Data) → items_have_float (items_of rules) ≡ false → has_float (tool_data rules) ≡ false
 unfolding tool_data
-tool_nests pen = omega (arith, all_nest rule_data 2 rule_nests (rules_for pen))
+tool_plain rules plain = rw plain refl
+
+tool_nests : (rules : List Data) → items_depth (items_of rules) ≤ 2 → depth (tool_data rules) ≤ 5
+unfolding tool_data
+tool_nests rules flat = omega (arith, flat)
 
 -- ---- a result
 
-region_plain : (line : ℕ) (columns : Option Columns) → has_float (columns_region line columns) ≡ false
+pub region_plain : (line : ℕ) (columns : Option Columns) → has_float (columns_region line columns) ≡ false
 region_plain line None = refl
 region_plain line (Some columns) = refl
 
-region_nests : (line : ℕ) (columns : Option Columns) → depth (columns_region line columns) ≤ 1
+pub region_nests : (line : ℕ) (columns : Option Columns) → depth (columns_region line columns) ≤ 1
 region_nests line None = omega arith
 region_nests line (Some columns) = omega arith
 
@@ -111,10 +117,10 @@ refusal_nests path line fault = omega (arith, result_nests InputRefused path (re
 
 -- ---- the log
 
-pub log_plain : (pen : Pen) (results : Data) → has_float results ≡ false → has_float (log_data pen results) ≡ false
+pub log_plain : (rules : List Data) (results : Data) → items_have_float (items_of rules) ≡ false → has_float results ≡ false → has_float (log_data rules results) ≡ false
 unfolding log_data
-log_plain pen results plain = rw (plain, tool_plain pen) refl
+log_plain rules results ruled plain = rw (plain, tool_plain rules ruled) refl
 
-pub log_nests : (pen : Pen) (results : Data) → depth results ≤ 8 → depth (log_data pen results) ≤ max_depth
+pub log_nests : (rules : List Data) (results : Data) → items_depth (items_of rules) ≤ 2 → depth results ≤ 8 → depth (log_data rules results) ≤ max_depth
 unfolding log_data
-log_nests pen results flat = omega (arith, flat, tool_nests pen)
+log_nests rules results ruled flat = omega (arith, flat, tool_nests rules ruled)

@@ -51,18 +51,18 @@ put_nests n k d (member l e ms) p q =
     (omega (arith, q, put_nests n k d ms p (omega (arith, q))))
 
 -- members without a float, of which none nests deeper than this
-record IsPlain (n : ℕ) (ms : Members) : Type 0 where
-  none : members_have_float ms ≡ false
-  flat : members_depth ms ≤ n
+pub record IsPlain (n : ℕ) (ms : Members) : Type 0 where
+  pub none : members_have_float ms ≡ false
+  pub flat : members_depth ms ≤ n
 
-put_both : (n : ℕ) (k : List ℕ) (d : Data) (ms : Members) → has_float d ≡ false → depth d ≤ n → IsPlain n ms → IsPlain n (put k d ms)
+pub put_both : (n : ℕ) (k : List ℕ) (d : Data) (ms : Members) → has_float d ≡ false → depth d ≤ n → IsPlain n ms → IsPlain n (put k d ms)
 put_both n k d ms value flat old = record { none = put_plain k d ms value old.none; flat = put_nests n k d ms flat old.flat }
 
-count_plain : (n : ℕ) (k : List ℕ) (count : Option ℕ) (ms : Members) → IsPlain n ms → IsPlain n (with_count k count ms)
+pub count_plain : (n : ℕ) (k : List ℕ) (count : Option ℕ) (ms : Members) → IsPlain n ms → IsPlain n (with_count k count ms)
 count_plain n k None ms old = old
 count_plain n k (Some count) ms old = put_both n k (number (unsigned count)) ms refl (omega arith) old
 
-text_plain : (n : ℕ) (k : List ℕ) (text : Option (List ℕ)) (ms : Members) → IsPlain n ms → IsPlain n (with_text k text ms)
+pub text_plain : (n : ℕ) (k : List ℕ) (text : Option (List ℕ)) (ms : Members) → IsPlain n ms → IsPlain n (with_text k text ms)
 text_plain n k None ms old = old
 text_plain n k (Some text) ms old = put_both n k (string text) ms refl (omega arith) old
 
@@ -101,7 +101,7 @@ demo_plain demo =
     let enter : AreFlat (pressed (codes "enter") 1) = record { none = refl; flat = omega arith } in
     pressed_before (demo.rights == 0) (codes "right") demo.rights _ (pressed_before (demo.types == 0) (codes "type C1") demo.types (pressed (codes "enter") 1) enter)
 
-keys_plain : (demo : Option Demo) (ms : Members) → IsPlain 2 ms → IsPlain 2 (with_some (codes "keys") (option_map keys_data demo) ms)
+pub keys_plain : (demo : Option Demo) (ms : Members) → IsPlain 2 ms → IsPlain 2 (with_some (codes "keys") (option_map keys_data demo) ms)
 keys_plain None ms old = old
 keys_plain (Some demo) ms old =
     let plain = demo_plain demo in

@@ -16,7 +16,7 @@ use Rattle.term_findings.specs.declared.rule.Rule.{Rule}
 use Rattle.term_findings.specs.declared.rule.Rule.TheVariants.{InputRefused}
 use Rattle.term_findings.specs.Help.{help_of}
 use Rattle.term_findings.specs.Region.{Standing, standing_in, finding_region, order_region}
-use Rattle.term_findings.specs.Rule.{rules_for, rule_of, rule_index, rule_id, rule_name, brief_of, meaning_of, rule_help}
+use Rattle.term_findings.specs.Rule.{all_rules, rules_for, rule_of, rule_index, rule_id, rule_name, brief_of, meaning_of, rule_help}
 use Rattle.term_findings.specs.Uri.{uri_of}
 
 abbrev pub count : ℕ → Data
@@ -36,13 +36,22 @@ rule_data rule =
     (member (codes "help") (message_data (rule_help rule)) (member (codes "id") (string (rule_id rule))
     (member (codes "name") (string (rule_name rule)) (member (codes "shortDescription") (message_data (brief_of rule)) no_members))))))
 
-abbrev pub driver_data : Pen → Data
-driver_data pen =
-    object (member (codes "name") (string (codes "term3270")) (member (codes "rules") (array (items_of (map rule_data (rules_for pen))))
+-- the rules of what is told of records
+abbrev pub rules_data : List Data
+rules_data = map rule_data all_rules
+
+-- and of the pen, where it is asked for
+abbrev pub rules_data_for : Pen → List Data
+rules_data_for pen = map rule_data (rules_for pen)
+
+-- the program, with rules in the order of their indices
+abbrev pub driver_data : List Data → Data
+driver_data rules =
+    object (member (codes "name") (string (codes "term3270")) (member (codes "rules") (array (items_of rules))
     (member (codes "version") (string (codes "1.0.0")) no_members)))
 
-unfoldable pub tool_data : Pen → Data
-tool_data pen = object (member (codes "driver") (driver_data pen) no_members)
+unfoldable pub tool_data : List Data → Data
+tool_data rules = object (member (codes "driver") (driver_data rules) no_members)
 
 -- ---- a place
 
@@ -117,16 +126,16 @@ refusal_results path line fault = array (item (result_data InputRefused path (re
 
 -- ---- the log
 
-abbrev pub run_data : Pen → Data → Data
-run_data pen results = object (member (codes "results") results (member (codes "tool") (tool_data pen) no_members))
+abbrev pub run_data : List Data → Data → Data
+run_data rules results = object (member (codes "results") results (member (codes "tool") (tool_data rules) no_members))
 
-unfoldable pub log_data : Pen → Data → Data
-log_data pen results =
+unfoldable pub log_data : List Data → Data → Data
+log_data rules results =
     object (member (codes "$schema") (string (codes "https://json.schemastore.org/sarif-2.1.0.json"))
-    (member (codes "runs") (array (item (run_data pen results) no_items)) (member (codes "version") (string (codes "2.1.0")) no_members)))
+    (member (codes "runs") (array (item (run_data rules results) no_items)) (member (codes "version") (string (codes "2.1.0")) no_members)))
 
 abbrev pub findings_log_data : Pen → List ℕ → Declaration → List ℕ → List Traced → Data
-findings_log_data pen path layout input findings = log_data pen (findings_data path layout (standing_in input) findings)
+findings_log_data pen path layout input findings = log_data (rules_data_for pen) (findings_data path layout (standing_in input) findings)
 
 abbrev pub refusal_log_data : Pen → List ℕ → ℕ → Fault → Data
-refusal_log_data pen path line fault = log_data pen (refusal_results path line fault)
+refusal_log_data pen path line fault = log_data (rules_data_for pen) (refusal_results path line fault)

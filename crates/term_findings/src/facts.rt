@@ -83,7 +83,7 @@ fn field_place(finding: &Finding) -> Option<u32>
 }
 
 /// The buffer address of the first character of the field, or of the entry.
-pub(crate) fn place_of(entries: &[Entry], finding: &Finding) -> Option<u32>
+pub fn place_of(entries: &[Entry], finding: &Finding) -> Option<u32>
     ensures { result ≡ place_of entries.now finding.now }
 {
     match field_place(finding) {

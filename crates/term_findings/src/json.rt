@@ -26,7 +26,11 @@ use std::alloc::{AllocError, Global};
 use term_commands::{Answer, Demos, Fault, Status, demo_terminal};
 
 /// A value on a line of its own.
-fn push_line(alloc: Global, out: &mut String, value: &Value) -> Result<(), AllocError>
+///
+/// # Errors
+///
+/// Where a request for memory was refused.
+pub fn push_line(alloc: Global, out: &mut String, value: &Value) -> Result<(), AllocError>
     requires { has_float (view value.now) ≡ false }
     ensures { OnOk result (string_bytes out.new
         ≡ string_bytes out.old ++ data_line (view value.now)) }

@@ -40,7 +40,11 @@ fn put_count(
 }
 
 /// The same of a number of 64 bits.
-fn put_number(
+///
+/// # Errors
+///
+/// Where a request for memory was refused.
+pub fn put_number(
     alloc: Global,
     members: &mut Members,
     key: &str,
@@ -56,7 +60,16 @@ fn put_number(
 }
 
 /// A text at a key.
-fn put_text(alloc: Global, members: &mut Members, key: &str, text: String) -> Result<(), AllocError>
+///
+/// # Errors
+///
+/// Where a request for memory was refused.
+pub fn put_text(
+    alloc: Global,
+    members: &mut Members,
+    key: &str,
+    text: String,
+) -> Result<(), AllocError>
     ensures { OnOk result (members_view members.new.entries
         ≡ with_text key.now (Some (string_bytes text)) (members_view members.old.entries)) }
 {
@@ -133,7 +146,12 @@ fn put_end(
     }
 }
 
-fn put_place(
+/// The place of a finding, with its row and its column, where it has one.
+///
+/// # Errors
+///
+/// Where a request for memory was refused.
+pub fn put_place(
     alloc: Global,
     members: &mut Members,
     size: Size,
@@ -151,7 +169,12 @@ fn put_place(
     put_number(alloc, members, "column", Some(column_at(size, place)))
 }
 
-fn put_entry(
+/// What a finding tells of an entry: how many cells its field has, how many are declared, and its name.
+///
+/// # Errors
+///
+/// Where a request for memory was refused.
+pub fn put_entry(
     alloc: Global,
     members: &mut Members,
     entries: &[Entry],
@@ -231,7 +254,12 @@ fn sends_text(
     Ok(text)
 }
 
-fn put_keys(
+/// The keys that show a finding, and what they send from a terminal.
+///
+/// # Errors
+///
+/// Where a request for memory was refused.
+pub fn put_keys(
     alloc: Global,
     members: &mut Members,
     terminal: Option<&Terminal<PlaneCells>>,

@@ -8,10 +8,14 @@ use serde_json::{Map, Value, push, put};
 use std::alloc::{AllocError, Global};
 
 /// The members of an object.
-pub(crate) type Members = Map<String, Value>;
+pub type Members = Map<String, Value>;
 
 /// A text at a key.
-pub(crate) fn put_str(
+///
+/// # Errors
+///
+/// Where a request for memory was refused.
+pub fn put_str(
     alloc: Global,
     members: &mut Members,
     key: &str,
@@ -25,7 +29,11 @@ pub(crate) fn put_str(
 }
 
 /// An object of one member.
-pub(crate) fn single(alloc: Global, key: &str, value: Value) -> Result<Value, AllocError>
+///
+/// # Errors
+///
+/// Where a request for memory was refused.
+pub fn single(alloc: Global, key: &str, value: Value) -> Result<Value, AllocError>
     ensures { IfOk result (λ made. view made ≡ object (member key.now (view value) no_members)) }
 {
     let mut members = Map::new(alloc);
@@ -34,7 +42,11 @@ pub(crate) fn single(alloc: Global, key: &str, value: Value) -> Result<Value, Al
 }
 
 /// An array of one item.
-pub(crate) fn listed(alloc: Global, value: Value) -> Result<Value, AllocError>
+///
+/// # Errors
+///
+/// Where a request for memory was refused.
+pub fn listed(alloc: Global, value: Value) -> Result<Value, AllocError>
     ensures { IfOk result (λ made. view made ≡ array (item (view value) no_items)) }
 {
     let mut list = Vec::new(alloc);

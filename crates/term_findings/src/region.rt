@@ -17,7 +17,7 @@ const MOST_BYTES: usize = 16_777_216;
 
 /// The columns of a byte's two digits, counted from 1.
 #[derive(Clone, Copy)]
-pub(crate) struct Columns {
+pub struct Columns {
     /// The first digit's.
     pub start: usize,
     /// The one after the second digit.
@@ -26,7 +26,7 @@ pub(crate) struct Columns {
 
 /// Part of an input.
 #[derive(Clone, Copy)]
-pub(crate) struct Region {
+pub struct Region {
     /// The line, counted from 1.
     pub line: usize,
     /// The columns, where a byte is known.

@@ -2,14 +2,14 @@
 
 ghost use Rattle.std.specs.Prelude.{◌≡◌, ◌≤◌, ◌++◌, codes, false, map, option_map, IfOk, OnOk, Some};
 ghost use Rattle.std.specs.String.{string_bytes};
-ghost use Rattle.serde_json.specs.Data.{array, object, item, no_items, depth, put as with_member};
+ghost use Rattle.serde_json.specs.Data.{array, object, item, no_items, depth, items_depth, put as with_member};
 ghost use Rattle.serde_json.specs.Read.{read};
 ghost use Rattle.serde_json.specs.View.{view, items_of, members_view};
-ghost use Rattle.serde_json.specs.Written.{compact_text, has_float};
+ghost use Rattle.serde_json.specs.Written.{compact_text, has_float, items_have_float};
 ghost use Rattle.term_commands.specs.Fault.{fault_text};
 ghost use Rattle.term_findings.specs.Region.{standing_in};
-ghost use Rattle.term_findings.specs.Rule.{rule_help, rules_for};
-ghost use Rattle.term_findings.specs.Sarif.{message_data, level_data, rule_data, driver_data, tool_data, columns_region, region_data, artifact_data, physical_data, location_data, end_data, result_members, result_data, help_end, message_of, end_of, finding_result, findings_data, refusal_results, refusal_log_data, run_data, log_data, findings_log_data};
+ghost use Rattle.term_findings.specs.Rule.{rule_help};
+ghost use Rattle.term_findings.specs.Sarif.{message_data, level_data, rule_data, rules_data, rules_data_for, driver_data, tool_data, columns_region, region_data, artifact_data, physical_data, location_data, end_data, result_members, result_data, help_end, message_of, end_of, finding_result, findings_data, refusal_results, refusal_log_data, run_data, log_data, findings_log_data};
 
 use crate::found::Pen;
 use crate::help::help_text;
@@ -36,7 +36,11 @@ fn message_value(alloc: Global, text: &str) -> Result<Value, AllocError>
 }
 
 /// A message at a key.
-fn put_message(
+///
+/// # Errors
+///
+/// Where a request for memory was refused.
+pub fn put_message(
     alloc: Global,
     members: &mut Members,
     key: &str,
@@ -58,7 +62,11 @@ fn rule_help(alloc: Global, rule: Rule) -> Result<String, AllocError>
 }
 
 /// The level of all results.
-fn level_value(alloc: Global) -> Result<Value, AllocError>
+///
+/// # Errors
+///
+/// Where a request for memory was refused.
+pub fn level_value(alloc: Global) -> Result<Value, AllocError>
     ensures { IfOk result (λ value. view value ≡ level_data) }
 {
     let error = String::from_str(alloc, "error")?;
@@ -85,7 +93,7 @@ fn rule_value(alloc: Global, rule: Rule) -> Result<Value, AllocError>
     Ok(Value::Object(members))
 }
 
-fn rule_values(alloc: Global, rules: &[Rule]) -> Result<Vec<Value>, AllocError>
+fn rules_of(alloc: Global, rules: &[Rule]) -> Result<Vec<Value>, AllocError>
     ensures { IfOk result (λ values. map view values.items ≡ map rule_data rules.now) }
 {
     let mut values = Vec::new(alloc);
@@ -95,34 +103,45 @@ fn rule_values(alloc: Global, rules: &[Rule]) -> Result<Vec<Value>, AllocError>
     Ok(values)
 }
 
-/// The rules, that of the pen last where it was asked for.
-fn rules_value(alloc: Global, pen: Pen) -> Result<Value, AllocError>
-    ensures { IfOk result (λ value. view value ≡ array (items_of (map rule_data (rules_for pen)))) }
+/// The rules of the findings of records, and the one of inputs that are refused, in the order of `ruleIndex`.
+///
+/// # Errors
+///
+/// Where a request for memory was refused.
+pub fn rules_value(alloc: Global) -> Result<Vec<Value>, AllocError>
+    ensures { IfOk result (λ values. map view values.items ≡ rules_data) }
 {
-    let mut values = rule_values(alloc, &all_rules())?;
+    rules_of(alloc, &all_rules())
+}
+
+/// The same, that of the pen last where it was asked for.
+fn rules_value_for(alloc: Global, pen: Pen) -> Result<Vec<Value>, AllocError>
+    ensures { IfOk result (λ values. map view values.items ≡ rules_data_for pen) }
+{
+    let mut values = rules_value(alloc)?;
     match pen {
         Pen::Ignored => {}
         Pen::Asked => values.push(rule_value(alloc, Rule::Selectable)?)?,
     }
-    Ok(Value::Array(values))
+    Ok(values)
 }
 
-/// The program's name and version, with its rules.
-fn driver_value(alloc: Global, pen: Pen) -> Result<Value, AllocError>
-    ensures { IfOk result (λ value. view value ≡ driver_data pen) }
+/// The program's name and version, with these rules.
+fn driver_value(alloc: Global, rules: Vec<Value>) -> Result<Value, AllocError>
+    ensures { IfOk result (λ value. view value ≡ driver_data (map view rules.items)) }
 {
     let mut members = Map::new(alloc);
     put_str(alloc, &mut members, "name", "term3270")?;
-    put(&mut members, alloc, "rules", rules_value(alloc, pen)?)?;
+    put(&mut members, alloc, "rules", Value::Array(rules))?;
     put_str(alloc, &mut members, "version", VERSION)?;
     Ok(Value::Object(members))
 }
 
 #[tactic(auto, unfolding(crate::specs::Sarif::tool_data))]
-fn tool_value(alloc: Global, pen: Pen) -> Result<Value, AllocError>
-    ensures { IfOk result (λ value. view value ≡ tool_data pen) }
+fn tool_value(alloc: Global, rules: Vec<Value>) -> Result<Value, AllocError>
+    ensures { IfOk result (λ value. view value ≡ tool_data (map view rules.items)) }
 {
-    single(alloc, "driver", driver_value(alloc, pen)?)
+    single(alloc, "driver", driver_value(alloc, rules)?)
 }
 
 /// The columns of a line.
@@ -172,7 +191,12 @@ fn physical_value(alloc: Global, path: &str, region: Region) -> Result<Value, Al
     Ok(Value::Object(members))
 }
 
-fn location_value(alloc: Global, path: &str, region: Region) -> Result<Value, AllocError>
+/// A file and a place in it, as a location.
+///
+/// # Errors
+///
+/// Where a request for memory was refused.
+pub fn location_value(alloc: Global, path: &str, region: Region) -> Result<Value, AllocError>
     ensures { IfOk result (λ value. view value ≡ location_data path.now region) }
 {
     let physical = physical_value(alloc, path, region)?;
@@ -344,30 +368,32 @@ fn results_value(
     findings_value(alloc, path, layout, &standing, findings)
 }
 
-/// A run with these results.
-fn run_value(alloc: Global, pen: Pen, results: Value) -> Result<Value, AllocError>
-    ensures { IfOk result (λ value. view value ≡ run_data pen (view results)) }
+/// A run with these rules and results.
+fn run_value(alloc: Global, rules: Vec<Value>, results: Value) -> Result<Value, AllocError>
+    ensures { IfOk result
+        (λ value. view value ≡ run_data (map view rules.items) (view results)) }
 {
     let mut members = Map::new(alloc);
     put(&mut members, alloc, "results", results)?;
-    put(&mut members, alloc, "tool", tool_value(alloc, pen)?)?;
+    put(&mut members, alloc, "tool", tool_value(alloc, rules)?)?;
     Ok(Value::Object(members))
 }
 
 /// The one run of a log.
-fn runs_value(alloc: Global, pen: Pen, results: Value) -> Result<Value, AllocError>
+fn runs_value(alloc: Global, rules: Vec<Value>, results: Value) -> Result<Value, AllocError>
     ensures { IfOk result (λ value. view value
-        ≡ array (item (run_data pen (view results)) no_items)) }
+        ≡ array (item (run_data (map view rules.items) (view results)) no_items)) }
 {
-    listed(alloc, run_value(alloc, pen, results)?)
+    listed(alloc, run_value(alloc, rules, results)?)
 }
 
-/// A log of one run, with these results.
+/// A log of one run, with these rules and results.
 #[tactic(auto, unfolding(crate::specs::Sarif::log_data))]
-fn log_value(alloc: Global, pen: Pen, results: Value) -> Result<Value, AllocError>
-    ensures { IfOk result (λ value. view value ≡ log_data pen (view results)) }
+fn log_value(alloc: Global, rules: Vec<Value>, results: Value) -> Result<Value, AllocError>
+    ensures { IfOk result
+        (λ value. view value ≡ log_data (map view rules.items) (view results)) }
 {
-    let runs = runs_value(alloc, pen, results)?;
+    let runs = runs_value(alloc, rules, results)?;
     let mut members = Map::new(alloc);
     put(&mut members, alloc, "runs", runs)?;
     put_str(alloc, &mut members, "$schema", SCHEMA)?;
@@ -375,16 +401,23 @@ fn log_value(alloc: Global, pen: Pen, results: Value) -> Result<Value, AllocErro
     Ok(Value::Object(members))
 }
 
+/// A log of SARIF 2.1.0 of one run of the program, with these rules and these results. A parser reads the same value again.
+///
+/// # Errors
+///
+/// Where a request for memory was refused.
 #[tactic(auto, using(crate::proofs::Logged::log_plain, crate::proofs::Logged::log_nests))]
-fn log_text(alloc: Global, pen: Pen, results: Value) -> Result<String, AllocError>
+pub fn log_text(alloc: Global, rules: Vec<Value>, results: Value) -> Result<String, AllocError>
+    requires plain_rules { items_have_float (items_of (map view rules.items)) ≡ false }
+    requires flat_rules { items_depth (items_of (map view rules.items)) ≤ 2 }
     requires plain { has_float (view results) ≡ false }
     requires flat { depth (view results) ≤ 8 }
     ensures text { IfOk result (λ text. string_bytes text
-        ≡ compact_text (log_data pen (view results))) }
+        ≡ compact_text (log_data (map view rules.items) (view results))) }
     ensures again { IfOk result (λ text. read (string_bytes text)
-        ≡ Some (log_data pen (view results))) }
+        ≡ Some (log_data (map view rules.items) (view results))) }
 {
-    let value = log_value(alloc, pen, results)?;
+    let value = log_value(alloc, rules, results)?;
     value.to_string(alloc)
 }
 
@@ -394,7 +427,7 @@ fn log_text(alloc: Global, pen: Pen, results: Value) -> Result<String, AllocErro
 /// # Errors
 ///
 /// Where a request for memory was refused.
-#[tactic(auto, using(crate::proofs::Logged::findings_plain, crate::proofs::Logged::findings_nest))]
+#[tactic(auto, using(crate::proofs::Logged::rules_plain, crate::proofs::Logged::rules_nest, crate::proofs::Logged::findings_plain, crate::proofs::Logged::findings_nest))]
 pub fn findings_log(
     alloc: Global,
     pen: Pen,
@@ -409,7 +442,7 @@ pub fn findings_log(
         ≡ Some (findings_log_data pen path.now layout.now input.now findings.now)) }
 {
     let results = results_value(alloc, path, layout, input, findings)?;
-    log_text(alloc, pen, results)
+    log_text(alloc, rules_value_for(alloc, pen)?, results)
 }
 
 fn refusal_results(
@@ -431,7 +464,7 @@ fn refusal_results(
 }
 
 /// What is wrong with the input of this path, at a line, as a log of SARIF 2.1.0.
-#[tactic(auto, using(crate::proofs::Logged::refusal_plain, crate::proofs::Logged::refusal_nests))]
+#[tactic(auto, using(crate::proofs::Logged::rules_plain, crate::proofs::Logged::rules_nest, crate::proofs::Logged::refusal_plain, crate::proofs::Logged::refusal_nests))]
 pub(crate) fn refusal_log(
     alloc: Global,
     pen: Pen,
@@ -443,5 +476,5 @@ pub(crate) fn refusal_log(
         ≡ compact_text (refusal_log_data pen path.now line fault)) }
 {
     let results = refusal_results(alloc, path, line, fault)?;
-    log_text(alloc, pen, results)
+    log_text(alloc, rules_value_for(alloc, pen)?, results)
 }
