@@ -5,3 +5,4 @@ pub mod ValueLaws
 pub mod OperandLaws
 pub mod EntryLaws
 pub mod SourceLaws
+pub mod AgainLaws

@@ -1,7 +1,8 @@
 //! The record of a map: what SEND MAP MAPONLY ERASE sends.
 
-ghost use Rattle.std.specs.Prelude.{◌≡◌, ◌<◌, ◌≤◌, ◌%◌, ◌*◌, true, OnOk};
+ghost use Rattle.std.specs.Prelude.{◌≡◌, ◌<◌, ◌≤◌, ◌%◌, ◌*◌, true, IfOk, OnOk};
 ghost use Rattle.std.specs.List.{flat_map};
+ghost use Rattle.ds_codec.specs.Writing.{IsReadAgain};
 ghost use Rattle.order_lines.specs.Draft.{with_order, with_orders};
 ghost use Rattle.bms_map.specs.Record.{text_orders, attribute_order, cursor_orders, later_orders, parts_orders, field_orders, map_orders, with_bit, control_bits, command_of, IsRecordOf};
 
@@ -162,16 +163,25 @@ fn command_of(map: &Map, control: Control) -> Command
     }
 }
 
-/// The record of a map, and what SEND MAP adds to its write control character.
-///
-/// # Errors
-///
-/// The flaw of its first order that can't be written, or `OutOfMemory`.
-pub fn record_of(alloc: Global, map: &Map, control: Control) -> Result<Vec<u8>, Unwritable>
+fn written_record(alloc: Global, map: &Map, control: Control) -> Result<Vec<u8>, Unwritable>
     ensures { IsRecordOf map.now control result }
 {
     let command = command_of(map, control);
     let mut draft = Draft::new(alloc, command, Mode::Bits14, cells_of(map))?;
     push_map(&mut draft, map)?;
     draft.written()
+}
+
+/// The record of a map, and what SEND MAP adds to its write control character.
+///
+/// # Errors
+///
+/// The flaw of its first order that can't be written, or `OutOfMemory`.
+pub fn record_of(alloc: Global, map: &Map, control: Control) -> Result<Vec<u8>, Unwritable>
+    ensures record { IsRecordOf map.now control result }
+    ensures again { IfOk result (λ bytes. IsReadAgain Mode.Bits14 (command_of map.now control)
+        (map_orders map.now) bytes.items) }
+{
+    let _cells = cells_of(map);
+    written_record(alloc, map, control)
 }
