@@ -68,7 +68,8 @@ export class Work {
     const text = front(parsed, parsed.records.length, { size: false });
     const told = this.library.call("check_json", layouts[0] ?? "", text);
     const lines = told.text.trim().split("\n").map((line) => JSON.parse(line));
-    return { findings: lines.slice(0, -1), ...lines[lines.length - 1], findings_count: undefined };
+    const { verdict, words } = lines.pop();
+    return { findings: lines, verdict, words };
   }
 
   /** @param {string} records @param {string[]} layouts */
