@@ -7,7 +7,10 @@ import pathlib
 import subprocess
 import sys
 
-CASES = pathlib.Path(__file__).parent / "cases" / "check_sarif"
+CASES = pathlib.Path(__file__).parent / "cases"
+RULES = [*(f"F{n}" for n in range(1, 15)), "refused"]
+# Each golden log, and the rules that it lists: that of the pen where it is asked for.
+LOGS = {"check_sarif/*/stdout": RULES, "check_pen/sarif*/stdout": [*RULES, "F15"]}
 # What each object must have, by the standard (2.1.0, sections 3.13 to 3.52) and by what GitHub asks for.
 DRIVER = {"name": str, "version": str, "rules": list}
 RULE = {"id": str, "name": str, "shortDescription": dict, "fullDescription": dict, "help": dict, "defaultConfiguration": dict}
@@ -43,7 +46,7 @@ def faults_of_result(result, rules):
         yield from faults_of_region(related["physicalLocation"]["region"])
 
 
-def faults_of_log(log, version):
+def faults_of_log(log, rules, version):
     if log.get("version") != "2.1.0" or "sarif-2.1.0" not in log.get("$schema", "") or len(log.get("runs", [])) != 1:
         yield "version, $schema or runs"
     driver = log["runs"][0]["tool"]["driver"]
@@ -56,7 +59,7 @@ def faults_of_log(log, version):
             yield f"texts of {rule['id']}"
         if rule["defaultConfiguration"].get("level") not in ("none", "note", "warning", "error"):
             yield f"level of {rule['id']}"
-    if [rule["id"] for rule in driver["rules"]] != [f"F{n}" for n in range(1, 15)] + ["refused"]:
+    if [rule["id"] for rule in driver["rules"]] != rules:
         yield "the rules' ids"
     for result in log["runs"][0]["results"]:
         yield from faults_of_result(result, driver["rules"])
@@ -65,9 +68,9 @@ def faults_of_log(log, version):
 def main(program):
     version = subprocess.run([program, "--version"], capture_output=True, text=True).stdout.split()[-1] if program else None
     passed = failed = 0
-    for path in sorted(CASES.glob("*/stdout")):
+    for path, rules in ((path, rules) for glob, rules in LOGS.items() for path in sorted(CASES.glob(glob))):
         text = path.read_text()
-        faults = list(faults_of_log(json.loads(text), version))
+        faults = list(faults_of_log(json.loads(text), rules, version))
         if text.count("\n") != 1:
             faults.append("not one line")
         passed, failed = passed + (not faults), failed + bool(faults)

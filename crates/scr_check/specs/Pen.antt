@@ -1,5 +1,5 @@
 -- What Cursor Select and a light pen change, the fields that `check` tells of where the pen is asked for, and what a yes
--- then promises (GA23-0059, "Selector Pen").
+-- then promises (GA23-0059, what it says of the selector pen).
 use Rattle.std.specs.Prelude.{◌≡◌, ℕ, ◌/◌, ◌%◌, Bool, true, false, not, ◌&&◌, ◌||◌, ◌==◌, List, [], ◌∷◌, ◌++◌, length, option_to_list, Option, Some, None, Result, Ok, Err, if◌then◌else◌}
 use Rattle.std.specs.List.{flat_map, list_any}
 use Rattle.ds_codec.specs.declared.cell.Cell.{Cell}
