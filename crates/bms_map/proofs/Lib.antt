@@ -6,3 +6,4 @@ pub mod OperandLaws
 pub mod EntryLaws
 pub mod SourceLaws
 pub mod AgainLaws
+pub mod InOrderLaws

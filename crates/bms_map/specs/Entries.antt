@@ -1,5 +1,6 @@
 -- The fields of a map as its macros tell them, and what is shown of them.
-use Rattle.std.specs.Prelude.{ℕ, ◌+◌, ◌-◌, ◌*◌, ◌/◌, ◌%◌, ◌^◌, min, Bool, true, false, not, ◌&&◌, ◌==◌, nat_lt, List, [], ◌∷◌, ◌++◌, map, length, replicate, sum, Option, Some, None, if◌then◌else◌}
+use Rattle.std.specs.List.Sorted.{IsPermutation}
+use Rattle.std.specs.Prelude.{◌≤◌, ℕ, ◌+◌, ◌-◌, ◌*◌, ◌/◌, ◌%◌, ◌^◌, min, Bool, true, false, not, ◌&&◌, ◌==◌, nat_lt, List, [], ◌∷◌, ◌++◌, map, length, replicate, sum, Option, Some, None, if◌then◌else◌}
 use Rattle.std.specs.List.{flat_map, range_with_len}
 use Rattle.bms_map.specs.declared.field.Looks.{Looks}
 use Rattle.ds_codec.specs.Address.{six_bit_code}
@@ -185,6 +186,16 @@ placed_all done (field ∷ fields) = placed_all (placed field done) fields
 -- in the order of their attributes
 abbrev pub in_order : List Shown → List Shown
 in_order fields = placed_all [] fields
+
+-- each attribute comes before the next, or stands at the same position
+abbrev pub AreRising : List Shown → Type 0
+AreRising [] = Unit {0}
+AreRising (field ∷ []) = Unit {0}
+AreRising (field ∷ other ∷ others) = (field.cell ≤ other.cell) × AreRising (other ∷ others)
+
+-- and no field is lost or added
+abbrev pub FieldsAreInOrder : Type 0
+FieldsAreInOrder = (fields : List Shown) → AreRising (in_order fields) × IsPermutation fields (in_order fields)
 
 abbrev pub its_cursor : Ground → Entry → Option ℕ
 its_cursor area entry = if entry.has_cursor && not entry.is_later then Some (cell_in area (index_at entry (entry.occurs - 1))) else None

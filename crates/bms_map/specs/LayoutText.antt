@@ -3,7 +3,7 @@ use Rattle.std.specs.Prelude.{ℕ, ◌+◌, ◌-◌, ◌/◌, ◌%◌, ◌*◌, 
 use Rattle.std.specs.Fmt.{decimal}
 use Rattle.std.specs.List.{flat_map}
 use Rattle.bms_source.specs.Printed.{printed_codes}
-use Rattle.bms_map.specs.Maps.{Shown, Sheet}
+use Rattle.bms_map.specs.Maps.{Shown, Sheet, default_rows}
 use Rattle.bms_map.specs.Overlaps.{is_input, is_declared}
 
 -- a character of a layout name: letters in lower case, @, # and $ as _
@@ -62,7 +62,7 @@ abbrev pub screen_line : Bool → List ℕ
 screen_line is_default = codes "screen = \"" ++ (screen_word is_default ++ codes "\"\n")
 
 abbrev pub top_lines : Sheet → List ℕ
-top_lines map = size_lines map ++ screen_line (map.area.screen.rows == 24)
+top_lines map = size_lines map ++ screen_line (map.area.screen.rows == default_rows)
 
 abbrev pub entry_if : Sheet → Shown → List ℕ
 entry_if map field = if is_declared field then entry_text map field else []

@@ -4,6 +4,10 @@ use Rattle.ds_codec.specs.declared.size.Size.{Size}
 use Rattle.bms_map.specs.declared.field.Looks.{Looks}
 use Rattle.bms_map.specs.declared.place.Area.{Area}
 
+-- the lines of the default screen
+abbrev pub default_rows : ℕ
+default_rows = 24
+
 -- where a map lies on its screen, counted from 0, and how many lines and columns it has
 pub record Ground : Type 0 where
   pub screen : Size

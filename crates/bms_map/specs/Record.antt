@@ -10,7 +10,7 @@ use Rattle.ds_codec.specs.declared.write.Unwritable.{Unwritable}
 use Rattle.ds_codec.specs.declared.write.Unwritable.TheVariants.{OutOfMemory}
 use Rattle.ds_codec.specs.Order.{Item, text, start_field, start_field_extended, set_buffer_address, insert_cursor}
 use Rattle.order_lines.specs.Draft.{written_of}
-use Rattle.bms_map.specs.Maps.{LaterText, Shown, Sheet}
+use Rattle.bms_map.specs.Maps.{LaterText, Shown, Sheet, default_rows}
 use Rattle.bms_map.specs.declared.record.Control.{Control}
 
 -- a text of no character is no order
@@ -52,10 +52,10 @@ with_bit true bit bits = if bits / bit % 2 == 0 then bits + bit else bits
 abbrev pub control_bits : ℕ → Control → ℕ
 control_bits bits control = with_bit control.reset_modified 1 (with_bit control.free_keyboard 2 bits)
 
--- a map of 24 lines is shown on the default screen, another on the alternate one
+-- a map of the default screen's lines is shown there, another on the alternate one
 abbrev pub command_of : Sheet → Control → Command
 command_of map control =
-    if map.area.screen.rows == 24 then EraseWrite (six_bit_code (control_bits map.control control))
+    if map.area.screen.rows == default_rows then EraseWrite (six_bit_code (control_bits map.control control))
     else EraseWriteAlternate (six_bit_code (control_bits map.control control))
 
 -- the bytes of exactly these orders, for the map's screen; or why they can't be written; or memory was refused

@@ -8,6 +8,7 @@ ghost use Rattle.bms_map.specs.LayoutText.{comment, entry_if, entry_text, kind_l
 use crate::field::Field;
 use crate::map::Map;
 use crate::names::name_of;
+use crate::place::DEFAULT_ROWS;
 use bms_source::push_codes;
 use std::alloc::{AllocError, Global};
 
@@ -46,7 +47,7 @@ fn push_top(out: &mut String, map: &Map) -> Result<(), AllocError>
         (string_bytes out.new ≡ string_bytes out.old ++ top_lines map.now) }
 {
     push_sizes(out, map)?;
-    push_screen(out, map.area.screen.rows == 24)
+    push_screen(out, map.area.screen.rows == DEFAULT_ROWS)
 }
 
 /// Adds the number of an occurrence behind a hyphen, unless it is the only one.

@@ -34,3 +34,4 @@ pub use mapset::read_maps;
 pub use overlap::{Overlap, nearest_is_one, overlaps_are_nearest, overlaps_of};
 pub use place::{Area, Extent};
 pub use record::{Control, record_of};
+pub use sheet::fields_are_in_order;

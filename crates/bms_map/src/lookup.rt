@@ -13,7 +13,8 @@ use crate::place::Extent;
 use crate::refuse::refused;
 use crate::text::{codes_of, digits_of, string_of};
 use crate::values::{
-    Kind, Pos, color_of, first_of, highlight_of, kind_of, number_within, pos_of, size_of,
+    Kind, MOST_LENGTH, MOST_OCCURRENCES, Pos, color_of, first_of, highlight_of, kind_of,
+    number_within, pos_of, size_of,
 };
 use bms_source::{Letter, SourceError, Why, is_named, upper_word};
 use std::alloc::{AllocError, Global};
@@ -137,7 +138,7 @@ pub(crate) fn length_in(operands: &[Setting<'_>]) -> Option<u32>
     ensures most { IfSome result (λ n. n ≤ 256) }
 {
     match value_at(operands, b"LENGTH") {
-        Some(value) => number_within(value, 0, 256),
+        Some(value) => number_within(value, 0, MOST_LENGTH),
         None => None,
     }
 }
@@ -147,7 +148,7 @@ pub(crate) fn occurs_in(operands: &[Setting<'_>]) -> Option<u32>
     ensures most { IfSome result (λ n. n ≤ 1000) }
 {
     match value_at(operands, b"OCCURS") {
-        Some(value) => number_within(value, 1, 1000),
+        Some(value) => number_within(value, 1, MOST_OCCURRENCES),
         None => None,
     }
 }

@@ -16,8 +16,8 @@ use crate::list::{
 use crate::refuse::refused;
 use crate::text::{Text, digits_of, string_of};
 use crate::values::{
-    color_of, first_of, highlight_of, kind_of, number_within, only, only_base, only_terminals,
-    pos_of, size_of,
+    MOST_LENGTH, MOST_OCCURRENCES, color_of, first_of, highlight_of, kind_of, number_within, only,
+    only_base, only_terminals, pos_of, size_of,
 };
 use bms_source::{Letter, Operation, SourceError, Why, is_symbol, next_operand, upper_word};
 use std::alloc::{AllocError, Global};
@@ -144,8 +144,8 @@ fn value_fault(alloc: Global, keyword: Keyword, value: &[Letter]) -> Result<Opti
         Keyword::Line => Ok(error_in(first_of(value))),
         Keyword::Column => Ok(error_in(first_of(value))),
         Keyword::Pos => Ok(pos_fault(value)),
-        Keyword::Length => Ok(number_fault(value, 0, 256)),
-        Keyword::Occurs => Ok(number_fault(value, 1, 1000)),
+        Keyword::Length => Ok(number_fault(value, 0, MOST_LENGTH)),
+        Keyword::Occurs => Ok(number_fault(value, 1, MOST_OCCURRENCES)),
         Keyword::Group => Ok(absent(is_group(value))),
         Keyword::Symbols => Ok(only_base(value)),
         Keyword::Terminal => Ok(only_terminals(value)),

@@ -4,11 +4,8 @@ ghost use Rattle.std.specs.Prelude.{◌≡◌, ◌<◌, ◌≤◌, ◌*◌, IfSo
 ghost use Rattle.std.specs.Option.{option_map};
 ghost use Rattle.bms_map.specs.Pictures.{second_in, takes_none, takes_one, symbol_of, symbol_in, close_in, times_of, times_in, positions_in, length_from, length_of};
 
-use crate::values::{between, if_within, number_of};
+use crate::values::{MOST_LENGTH, between, if_within, number_of};
 use bms_source::{Letter, upper};
-
-/// The most character positions.
-const MOST: u32 = 256;
 
 /// The second letter of a symbol of two.
 fn second_in(others: &[Letter], second: u8) -> Option<(u32, &[Letter])>
@@ -171,13 +168,13 @@ fn length_in(picture: &[Letter]) -> Option<u32>
         let Some((positions, others)) = positions_in(rest) else {
             return None;
         };
-        let Some(more) = if_within(0, MOST, length + positions) else {
+        let Some(more) = if_within(0, MOST_LENGTH, length + positions) else {
             return None;
         };
         length = more;
         rest = others;
     }
-    if_within(1, MOST, length)
+    if_within(1, MOST_LENGTH, length)
 }
 
 /// How many character positions a picture in apostrophes has, 1 to 256.

@@ -4,6 +4,9 @@ ghost use Rattle.std.specs.Prelude.{◌≡◌, ◌≤◌, ◌<◌, ◌*◌, ◌+
 
 use ds_codec::Size;
 
+/// The lines of the default screen.
+pub(crate) const DEFAULT_ROWS: u16 = 24;
+
 /// Lines and columns, each from 1 to 240.
 #[derive(Clone, Copy, Debug, PartialEq, Eq)]
 pub struct Extent {

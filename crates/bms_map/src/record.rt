@@ -8,6 +8,7 @@ ghost use Rattle.bms_map.specs.Record.{text_orders, attribute_order, cursor_orde
 
 use crate::field::{Field, Later};
 use crate::map::Map;
+use crate::place::DEFAULT_ROWS;
 use ds_codec::{Attr, Command, Mode, Order, Unwritable, to_six_bit_code};
 use order_lines::Draft;
 use std::alloc::{AllocError, Global};
@@ -156,7 +157,7 @@ fn command_of(map: &Map, control: Control) -> Command
     ensures { result ≡ command_of map.now control }
 {
     let wcc = to_six_bit_code(control_bits(map.control.bits, control));
-    if map.area.screen.rows == 24 {
+    if map.area.screen.rows == DEFAULT_ROWS {
         Command::EraseWrite(wcc)
     } else {
         Command::EraseWriteAlternate(wcc)

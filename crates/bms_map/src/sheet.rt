@@ -5,7 +5,7 @@ ghost use Rattle.std.specs.List.{flat_map};
 ghost use Rattle.std.specs.Option.{option_map};
 ghost use Rattle.bms_map.specs.Maps.{its_ground};
 ghost use Rattle.bms_map.specs.Lookup.{or_else};
-ghost use Rattle.bms_map.specs.Entries.{padded, text_of, later_if, later_in, laters, label_of, number_of, total, pairs_of, shown_at, shown_if, shown_from, shown_of, rank_in, placed, placed_all, in_order, its_cursor, cursor_of, sheet_of};
+ghost use Rattle.bms_map.specs.Entries.{padded, text_of, later_if, later_in, laters, label_of, number_of, total, pairs_of, shown_at, shown_if, shown_from, shown_of, rank_in, placed, placed_all, in_order, its_cursor, cursor_of, sheet_of, FieldsAreInOrder};
 
 use crate::field::{Field, Later};
 use crate::macros::{FieldMacro, MapMacro};
@@ -328,3 +328,8 @@ pub(crate) fn sheet_of(alloc: Global, section: MapMacro) -> Result<Map, AllocErr
         cursor,
     })
 }
+
+/// The fields of a map are in the order of their attributes, each as often as it is told.
+pub fn fields_are_in_order()
+    ensures { FieldsAreInOrder }
+{}

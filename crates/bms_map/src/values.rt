@@ -7,6 +7,13 @@ ghost use Rattle.bms_map.specs.Values.{digits_from, number_of, if_within, number
 use crate::place::Extent;
 use bms_source::{Letter, Why, is_digit, is_named};
 
+/// The most characters of a field.
+pub(crate) const MOST_LENGTH: u32 = 256;
+/// The most occurrences of a field.
+pub(crate) const MOST_OCCURRENCES: u32 = 1000;
+/// The most lines and columns of a map.
+const MOST_SIDE: u32 = 240;
+
 /// Decimal digits, at most 9.
 fn digits_of(value: &[Letter]) -> Option<u32>
     requires { length value.now ≤ 9 }
@@ -137,7 +144,7 @@ fn side_of(number: u32) -> Option<u8>
     ensures side { result ≡ side_of number }
     ensures some { IfSome result (λ n. 0 < n) }
 {
-    if 1 <= number && number <= 240 {
+    if 1 <= number && number <= MOST_SIDE {
         Some(number as u8)
     } else {
         None
@@ -279,7 +286,7 @@ pub(crate) fn first_of(value: &[Letter]) -> Result<u8, Why>
     if is_named(value, b"NEXT") || is_named(value, b"SAME") {
         return Err(Why::Unsupported);
     }
-    match number_within(value, 1, 240) {
+    match number_within(value, 1, MOST_SIDE) {
         Some(number) => Ok((number - 1) as u8),
         None => Err(Why::BadValue),
     }
