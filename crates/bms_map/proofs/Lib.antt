@@ -7,3 +7,5 @@ pub mod EntryLaws
 pub mod SourceLaws
 pub mod AgainLaws
 pub mod InOrderLaws
+pub mod TextsLaws
+pub mod PairLaws

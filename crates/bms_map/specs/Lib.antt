@@ -13,3 +13,4 @@ pub mod Entries
 pub mod Fields
 pub mod Source
 pub mod Mapset
+pub mod Laws

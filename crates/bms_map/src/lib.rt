@@ -32,6 +32,8 @@ pub use layout::{layout_text, push_label};
 pub use map::Map;
 pub use mapset::read_maps;
 pub use overlap::{Overlap, nearest_is_one, overlaps_are_nearest, overlaps_of};
+pub use pairs::pairs_are_good;
 pub use place::{Area, Extent};
 pub use record::{Control, record_of};
 pub use sheet::fields_are_in_order;
+pub use text::texts_are_text;

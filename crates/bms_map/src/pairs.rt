@@ -2,6 +2,7 @@
 
 ghost use Rattle.std.specs.Prelude.{◌≡◌, ◌++◌, ◌<◌, IfOk, OnOk};
 ghost use Rattle.bms_map.specs.Entries.{pair_if, pairs_of};
+ghost use Rattle.bms_map.specs.Laws.{PairsAreGood};
 
 use crate::field::Looks;
 use ds_codec::to_six_bit_code;
@@ -38,3 +39,8 @@ pub(crate) fn pairs_of(alloc: Global, attribute: u8, looks: Looks) -> Result<Vec
     push_pair(&mut pairs, 0xC2, looks.outline)?;
     Ok(pairs)
 }
+
+/// Whatever pairs a field has, a record takes them.
+pub fn pairs_are_good()
+    ensures { PairsAreGood }
+{}

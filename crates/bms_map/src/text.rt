@@ -3,6 +3,7 @@
 ghost use Rattle.std.specs.Prelude.{◌≡◌, ◌<◌, ◌≤◌, IfSome, IfOk, length, is_some};
 ghost use Rattle.bms_map.specs.Texts.{are_doubled, is_doubled, after_front, codes_in, seen, string_of, digit_of, are_digits, text_byte, byte_of, bytes_in, digits_of, text_in};
 ghost use Rattle.std.specs.Option.{option_map};
+ghost use Rattle.bms_map.specs.Laws.{TextsAreText};
 
 use crate::characters::code_of;
 use crate::values::between;
@@ -169,3 +170,8 @@ pub(crate) fn codes_of(text: Text) -> Option<Vec<u8>>
         Text::NoText | Text::Bad(_) => None,
     }
 }
+
+/// Whatever text operands tell, a record takes its characters.
+pub fn texts_are_text()
+    ensures { TextsAreText }
+{}
