@@ -7,10 +7,12 @@ import pathlib
 import subprocess
 import sys
 
-CASES = pathlib.Path(__file__).parent / "cases" / "check_sarif"
+CASES = pathlib.Path(__file__).parent / "cases"
+FOLDERS = ["check_sarif", "check_map_sarif"]
 # What each object must have, by the standard (2.1.0, sections 3.13 to 3.52) and by what GitHub asks for.
 DRIVER = {"name": str, "version": str, "rules": list}
 RULE = {"id": str, "name": str, "shortDescription": dict, "fullDescription": dict, "help": dict, "defaultConfiguration": dict}
+RULES = [f"F{n}" for n in range(1, 15)] + ["refused"]
 RESULT = {"ruleId": str, "ruleIndex": int, "level": str, "message": dict, "locations": list}
 
 
@@ -56,7 +58,7 @@ def faults_of_log(log, version):
             yield f"texts of {rule['id']}"
         if rule["defaultConfiguration"].get("level") not in ("none", "note", "warning", "error"):
             yield f"level of {rule['id']}"
-    if [rule["id"] for rule in driver["rules"]] != [f"F{n}" for n in range(1, 15)] + ["refused"]:
+    if [rule["id"] for rule in driver["rules"]] not in (RULES, [*RULES, "M1", "M2", "map-refused"]):
         yield "the rules' ids"
     for result in log["runs"][0]["results"]:
         yield from faults_of_result(result, driver["rules"])
@@ -65,7 +67,7 @@ def faults_of_log(log, version):
 def main(program):
     version = subprocess.run([program, "--version"], capture_output=True, text=True).stdout.split()[-1] if program else None
     passed = failed = 0
-    for path in sorted(CASES.glob("*/stdout")):
+    for path in sorted(path for folder in FOLDERS for path in (CASES / folder).glob("*/stdout")):
         text = path.read_text()
         faults = list(faults_of_log(json.loads(text), version))
         if text.count("\n") != 1:
