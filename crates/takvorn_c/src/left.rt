@@ -5,7 +5,11 @@ ghost use Rattle.term_commands.specs.declared.fault.Fault.{Fault};
 ghost use Rattle.term_commands.specs.Fault.{Gives, GivesOrFails};
 ghost use Rattle.term_commands.specs.Held.{answer_seen};
 ghost use Rattle.term_commands.specs.Printed.{Printed, printed_or_fault};
-ghost use Rattle.takvorn_c.specs.Left.{laid_over, IsTold, Leaves};
+ghost use Rattle.std.specs.Prelude.{List};
+ghost use Rattle.bms_source.specs.Told.{Told};
+ghost use Rattle.bms_map.specs.declared.map.Map.{Map as AMap};
+ghost use Rattle.cli_maps.specs.Printed.{GivesRead};
+ghost use Rattle.takvorn_c.specs.Left.{laid_over, IsTold, Leaves, LeavesRead};
 
 use std::alloc::Global;
 use term_commands::{Answer, CommandError, Status, printed};
@@ -51,4 +55,17 @@ pub fn leave(
             Status::NoMemory.code()
         }
     }
+}
+
+/// The same of what is answered to some reading of a source.
+pub fn leave_read(
+    alloc: Global,
+    answer: Result<Answer, CommandError>,
+    out: &mut [u8],
+    needed: &mut usize,
+) -> u8
+    ensures { (due : Result (List AMap) Told → Result Printed Fault) → GivesRead due answer
+        → LeavesRead due out.old out.new needed.new (pos result) }
+{
+    leave(alloc, answer, out, needed)
 }
