@@ -7,12 +7,12 @@ _term3270() {
     return
   fi
   case $command in
-    show) COMPREPLY=($(compgen -W '--format --color --layout --help' -- "$word") $(compgen -f -- "$word")) ;;
+    show) COMPREPLY=($(compgen -W '--format --color --layout --map --map-name --freekb --frset --help' -- "$word") $(compgen -f -- "$word")) ;;
     check) COMPREPLY=($(compgen -W '--demo --pen --records --format --map --map-name --freekb --frset --help' -- "$word") $(compgen -f -- "$word")) ;;
     talk) COMPREPLY=($(compgen -W '--help' -- "$word") $(compgen -f -- "$word")) ;;
     press) COMPREPLY=($(compgen -W '--strokes --help' -- "$word") $(compgen -f -- "$word")) ;;
     convert) COMPREPLY=($(compgen -W '--back --help' -- "$word")) ;;
-    draft) COMPREPLY=($(compgen -W '--help' -- "$word")) ;;
+    draft) COMPREPLY=($(compgen -W '--map --map-name --freekb --frset --help' -- "$word") $(compgen -f -- "$word")) ;;
     bind) COMPREPLY=($(compgen -W '--text --help' -- "$word") $(compgen -f -- "$word")) ;;
     records) COMPREPLY=($(compgen -W '--from --answers --help' -- "$word")) ;;
     serve) COMPREPLY=($(compgen -W '--port --count --listen --help' -- "$word") $(compgen -f -- "$word")) ;;

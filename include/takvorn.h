@@ -1,6 +1,6 @@
 /*
  * Takvorn's commands for programs in C (C99) and C++: 3270 screens shown, checked against layouts, drafted, typed
- * into, converted to lines and back, and answers of terminals read back into fields. Each function does what the
+ * into, converted to lines and back, BMS maps checked, and answers of terminals read back into fields. Each function does what the
  * command of the same name of the program `term3270` does; its text and its status are the program's.
  *
  * Texts. An input or an output is a pointer to bytes and a number of bytes. No text ends with a 0, and a 0 is a byte
@@ -32,9 +32,10 @@ extern "C" {
 
 /* Statuses, as the program ends with them; 3, a read or a write that failed, is of the program alone. */
 enum {
-  /* The text is the command's answer; that of takvorn_check and takvorn_talk is `yes`, of takvorn_check_json the verdict. */
+  /* The text is the command's answer; that of takvorn_check and takvorn_talk is `yes`, of takvorn_check_json the verdict, of
+   * takvorn_check_map a yes of each map. */
   TAKVORN_DONE = 0,
-  /* The text is findings, of takvorn_check, takvorn_check_json, takvorn_talk or takvorn_draft, a line each. */
+  /* The text is findings, of takvorn_check, takvorn_check_json, takvorn_check_map, takvorn_talk or takvorn_draft, a line each. */
   TAKVORN_FINDINGS = 1,
   /* The text is one line, the first fault of the inputs; or answers of takvorn_bind, not all of which are bound; or of
    * takvorn_records what came before the fault, and its line. */
@@ -128,6 +129,17 @@ int32_t takvorn_bind(const uint8_t *layout, size_t layout_length, const uint8_t 
  * refused or has a fault, and tells it. A line has at most TAKVORN_MOST_BYTES; there is no other limit. */
 int32_t takvorn_records(const uint8_t *trace, size_t trace_length, bool stream, bool answers, uint8_t *out,
                         size_t out_length, size_t *needed);
+
+/* BMS maps, from their source: for each map a comment with its name, line and screen, and the record that SEND MAP MAPONLY
+ * ERASE sends, in hexadecimal; or with `layout` the layout of the one map. With a name, in either case, that map alone; where
+ * `name_length` is 0 all. `freekb` and `frset` are what SEND MAP says. A source that is refused is TAKVORN_BAD_INPUT, with the
+ * first refusal and its line and column. */
+int32_t takvorn_map(const uint8_t *source, size_t source_length, const uint8_t *name, size_t name_length, bool layout,
+                    bool freekb, bool frset, uint8_t *out, size_t out_length, size_t *needed);
+
+/* For each of these maps a line with `yes`, or one for each finding, by the map, the field and the line of its macro. */
+int32_t takvorn_check_map(const uint8_t *source, size_t source_length, const uint8_t *name, size_t name_length, bool freekb,
+                          bool frset, uint8_t *out, size_t out_length, size_t *needed);
 
 #ifdef __cplusplus
 }

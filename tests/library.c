@@ -38,6 +38,9 @@ static bool flag;
 static const char *form = "text";
 static takvorn_text files[MOST_LAYOUTS], input;
 static size_t file_count;
+/* Of `map` and `check --map`: the map's name, and what is asked for. */
+static const char *map_name = "";
+static bool is_of_map, freekb, frset;
 
 static takvorn_text contents(FILE *file) {
   size_t room = 1 << 16, length = 0, got;
@@ -61,9 +64,42 @@ static bool is_form(const char *option, const char *value) {
   return is_show && (!strcmp(value, "svg") || !strcmp(value, "html")) ? (form = value, true) : false;
 }
 
+static void take_file(const char *path) {
+  FILE *file = fopen(path, "rb");
+  if (!file) exit(102);
+  files[file_count++] = contents(file);
+  fclose(file);
+}
+
+/* Whether the words are those of `map`, or of `check --map`. */
+static bool take_map_words(int count, char **words) {
+  bool is_map = !strcmp(command, "map");
+  const char *named = is_map ? "--map" : "--map-name", *source = NULL;
+  for (int i = 1; i < count; i++) {
+    if (i + 1 < count && !strcmp(words[i], named)) map_name = words[++i];
+    else if (!is_map && i + 1 < count && !strcmp(words[i], "--map")) source = words[++i];
+    else if (is_map && !strcmp(words[i], "--layout")) flag = true;
+    else if (!strcmp(words[i], "--freekb")) freekb = true;
+    else if (!strcmp(words[i], "--frset")) frset = true;
+    else if (is_map && words[i][0] != '-' && !source) source = words[i];
+    else return false;
+  }
+  if (!source) return false;
+  take_file(source);
+  return is_of_map = true;
+}
+
+/* Whether a word is among those of the command. */
+static bool has_word(int count, char **words, const char *word) {
+  for (int i = 1; i < count; i++)
+    if (!strcmp(words[i], word)) return true;
+  return false;
+}
+
 /* Whether the words are a command's. */
 static bool take_words(int count, char **words) {
   command = count > 0 ? words[0] : "show";
+  if (!strcmp(command, "map") || (!strcmp(command, "check") && has_word(count, words, "--map"))) return take_map_words(count, words);
   bool is_flagged = false;
   for (int i = 1; i < count; i++) {
     if (i + 1 < count && is_form(words[i], words[i + 1])) {
@@ -76,11 +112,8 @@ static bool take_words(int count, char **words) {
       if (is_flagged || strcmp(words[i], taken)) return false;
       is_flagged = flag = true;
     } else {
-      FILE *file = fopen(words[i], "rb");
-      if (!file) exit(102);
       if (file_count == MOST_LAYOUTS) return false;
-      files[file_count++] = contents(file);
-      fclose(file);
+      take_file(words[i]);
     }
   }
   size_t wanted = !strcmp(command, "check") || !strcmp(command, "bind") || !strncmp(command, "press", 5) || !strcmp(command, "origins") ? 1 : 0;
@@ -90,6 +123,10 @@ static bool take_words(int count, char **words) {
 
 static int call(uint8_t *out, size_t room, size_t *needed) {
   const takvorn_text *f = files, *r = &input;
+  const uint8_t *name = (const uint8_t *)map_name;
+  size_t length = strlen(map_name);
+  if (is_of_map && command[0] == 'm') return takvorn_map(f->bytes, f->length, name, length, flag, freekb, frset, out, room, needed);
+  if (is_of_map) return takvorn_check_map(f->bytes, f->length, name, length, freekb, frset, out, room, needed);
   switch (command[0]) {
   case 's':
     return (*form == 's' ? takvorn_show_svg : *form == 'h' ? takvorn_show_html : *form == 'c' ? takvorn_show_colored

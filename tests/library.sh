@@ -53,7 +53,8 @@ fi
 # ---- the golden cases
 left_out=0
 for folder in "$root"/tests/cases/show "$root"/tests/cases/check "$root"/tests/cases/talk "$root"/tests/cases/press \
-  "$root"/tests/cases/convert "$root"/tests/cases/convert_back "$root"/tests/cases/draft "$root"/tests/cases/bind "$root"/tests/cases/records; do
+  "$root"/tests/cases/convert "$root"/tests/cases/convert_back "$root"/tests/cases/draft "$root"/tests/cases/bind \
+  "$root"/tests/cases/records "$root"/tests/cases/map "$root"/tests/cases/map_layout "$root"/tests/cases/check_map; do
   for case in "$folder"/*/; do
     name=${case#"$root"/tests/cases/}
     rm -rf "$work/in" && cp -r "$case" "$work/in"
@@ -126,6 +127,7 @@ sed 's/1DF0E2C9/1DF1E2C9/' signon.hex > "$work/flawed"
 printf 'type C1\ntab\ntype E2\nenter\n' > "$work/keys"
 printf '7DC5D411C4C3E4E2F111C5D3E7\n7D40\n' > "$work/answers"
 echo XY > "$work/bad"
+grep -v 'POS=(4,28)' signon.bms > "$work/flawed.bms"
 each() { # MODE PROGRAM.., with a row for each command: its input and its words
   mode=$1
   shift
@@ -160,6 +162,10 @@ session.trc records
 session.trc records --answers
 $work/answers bind signon.toml
 $work/answers bind signon.toml --text
+$work/keys map signon.bms --map signon --freekb
+$work/keys map signon.bms --layout
+$work/keys check --map signon.bms
+$work/keys check --map $work/flawed.bms --frset
 END
 }
 each refused "$work/refusing"

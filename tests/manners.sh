@@ -79,6 +79,8 @@ compare 'a long text that is not written' 'term3270: standard output: No space l
 if command -v python3 > /dev/null; then
   compare 'the logs of SARIF' '0 failed' "$(PYTHONDONTWRITEBYTECODE=1 python3 "$root/tests/sarif.py" "$program" | tail -n 1 | sed 's/.*, //')"
   compare 'maps drawn at random' '1020 passed, 0 failed' "$(PYTHONDONTWRITEBYTECODE=1 python3 "$root/tests/maps.py" "$program" | tail -n 1)"
+  compare 'what a help says of a map ends its finding' '0 failed' "$(PYTHONDONTWRITEBYTECODE=1 python3 "$root/tests/mends.py" "$program" | tail -n 1 | sed 's/.*, //')"
+  compare 'map sources cut at every byte' '0 failed' "$(PYTHONDONTWRITEBYTECODE=1 python3 "$root/tests/cuts.py" "$program" | tail -n 1 | sed 's/.*, //')"
   compare 'where findings come from' '300 passed, 0 failed' "$(PYTHONDONTWRITEBYTECODE=1 python3 "$root/tests/origins.py" "$program" | tail -n 1)"
   compare 'what a help says ends its finding' '300 passed, 0 failed' "$(PYTHONDONTWRITEBYTECODE=1 python3 "$root/tests/helps.py" "$program" | tail -n 1)"
   compare 'what the golden cases have in common' '0 failed' "$(PYTHONDONTWRITEBYTECODE=1 python3 "$root/tests/forms.py" "$program" | tail -n 1 | sed 's/.*, //')"

@@ -1,0 +1,4 @@
+mod Plain
+mod Logged
+mod Folds
+mod Read

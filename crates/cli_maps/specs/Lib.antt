@@ -1,1 +1,11 @@
-pub mod Ends
+pub mod Asked
+pub mod Refused
+pub mod Judged
+pub mod Lines
+pub mod Mend
+pub mod Source
+pub mod Rules
+pub mod Json
+pub mod Sarif
+pub mod Told
+pub mod Printed

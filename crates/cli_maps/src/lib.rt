@@ -4,10 +4,20 @@
 
 mod asked;
 mod checking;
+mod each;
+mod json;
+mod judged;
+mod lines;
 mod mapping;
+mod mend;
 mod refusal;
+mod rendering;
+mod rules;
+mod sarif;
+mod source;
 mod told;
 
-pub use asked::{Asked, Form};
+pub use asked::{Asked, Form, Rendering, Report};
 pub use checking::{check_map_text, run_check_map};
 pub use mapping::{map_text, run_map};
+pub use rendering::{render_map_text, run_render_map};

@@ -1,87 +1,82 @@
 //! The command `map`.
 
-ghost use Rattle.std.specs.Prelude.{◌+◌, IfOk, IfErr};
-ghost use Rattle.term_commands.specs.Causes.{ReadsNothing, ToldBy};
-ghost use Rattle.cli_maps.specs.Ends.{IsVerdict, EndsSo};
+ghost use Rattle.std.specs.Prelude.{◌≡◌, ◌≤◌, ◌+◌, Result as AResult, List, IfSome, length};
+ghost use Rattle.bms_source.specs.Results.{Gives as GivesMaps};
+ghost use Rattle.bms_source.specs.Told.{Told};
+ghost use Rattle.bms_map.specs.declared.map.Map.{Map as AMap};
+ghost use Rattle.term_commands.specs.Causes.{ToldBy};
+ghost use Rattle.term_commands.specs.Fault.{Gives};
+ghost use Rattle.term_commands.specs.Held.{answer_seen};
+ghost use Rattle.cli_maps.specs.Asked.{name_in};
+ghost use Rattle.cli_maps.specs.Printed.{AnswersRead, GivesRead, PrintsRead, layout_told, map_source, map_told, mapped};
+ghost use Rattle.cli_maps.specs.Refused.{or_refused};
 
 use crate::asked::{Asked, Form};
-use crate::refusal::{refused, without_place};
-use crate::told::{maps_asked, push_name};
-use bms_map::{Map, layout_text, record_of};
+use crate::each::{MapForm, all_told};
+use crate::refusal::refused;
+use crate::told::{maps_asked, without_place};
+use bms_map::{Control, Map, layout_text};
 use bms_source::{SourceError, Why};
-use ds_codec::Unwritable;
-use order_lines::push_bytes;
 use std::alloc::{AllocError, Global};
 use term_commands::{
-    Answer, CommandError, Fault, GivesBytes, Status, TakesBytes, finish, read_text, within_limit,
+    Answer, CommandError, GivesBytes, Status, TakesBytes, finish, read_text, within_limit,
 };
 
-fn push_header(out: &mut String, map: &Map) -> Result<(), AllocError> {
-    out.push_str("# map ")?;
-    push_name(out, &map.name)?;
-    let line = map.line;
-    let rows = map.area.screen.rows;
-    let cols = map.area.screen.cols;
-    write!(out, " at line {line}, screen {rows}x{cols}\n")
-}
-
-/// The record of a map that is asked for.
-pub(crate) fn record_asked(
-    alloc: Global,
-    map: &Map,
-    asked: Asked<'_>,
-) -> Result<Vec<u8>, CommandError>
-    ensures { IfErr result ReadsNothing }
-{
-    match record_of(alloc, map, asked.control) {
-        Ok(bytes) => Ok(bytes),
-        Err(Unwritable::OutOfMemory) => Err(CommandError::OutOfMemory),
-        Err(flaw) => Err(CommandError::Fault(Fault::Unwritable(0, flaw))),
-    }
-}
-
-fn push_record(
-    alloc: Global,
-    out: &mut String,
-    map: &Map,
-    asked: Asked<'_>,
-) -> Result<(), CommandError>
-    ensures { IfErr result ReadsNothing }
-{
-    push_header(out, map)?;
-    let bytes = record_asked(alloc, map, asked)?;
-    push_bytes(out, &bytes)?;
-    out.push_str("\n")?;
-    Ok(())
-}
-
-/// The lines of the maps' records.
-fn records_of(alloc: Global, maps: &[Map], asked: Asked<'_>) -> Result<Answer, CommandError>
-    ensures status { IfOk result (λ answer. IsVerdict answer.status) }
-    ensures cause { IfErr result ReadsNothing }
-{
-    let mut text = String::new(alloc);
-    for map in maps {
-        push_record(alloc, &mut text, map, asked)?;
-    }
-    Ok(Answer {
-        text,
-        status: Status::Done,
-    })
-}
-
 /// The layout of the one map.
-fn layout_of(alloc: Global, maps: &[Map]) -> Result<Answer, CommandError>
-    ensures status { IfOk result (λ answer. IsVerdict answer.status) }
-    ensures cause { IfErr result ReadsNothing }
+fn layout_told(alloc: Global, maps: &[Map]) -> Result<Answer, CommandError>
+    ensures { Gives answer_seen result (layout_told maps.now) }
 {
     match maps {
         [map] => Ok(Answer {
             text: layout_text(alloc, map)?,
             status: Status::Done,
         }),
-        _ => refused(alloc, without_place(alloc, Why::SeveralMaps)),
+        _ => Ok(refused(alloc, &without_place(alloc, Why::SeveralMaps))?),
     }
+}
+
+fn mapped(
+    alloc: Global,
+    form: Form,
+    control: Control,
+    maps: &[Map],
+) -> Result<Answer, CommandError>
+    ensures { Gives answer_seen result (mapped form control maps.now) }
+{
+    match form {
+        Form::Records => all_told(alloc, MapForm::Record, maps, control),
+        Form::Layout => layout_told(alloc, maps),
+    }
+}
+
+/// What is printed of the maps that are asked for.
+fn mapped_or_refused(
+    alloc: Global,
+    form: Form,
+    control: Control,
+    maps: Result<Vec<Map>, SourceError>,
+) -> Result<Answer, CommandError>
+    ensures { (due : AResult (List AMap) Told) → GivesMaps (λ maps. maps.items) maps due
+        → Gives answer_seen result (or_refused (mapped form control) due) }
+{
+    match maps {
+        Ok(maps) => mapped(alloc, form, control, maps.as_slice()),
+        Err(SourceError::Refused(refusal)) => Ok(refused(alloc, &refusal)?),
+        Err(SourceError::OutOfMemory) => Err(CommandError::OutOfMemory),
+    }
+}
+
+fn map_within(
+    alloc: Global,
+    form: Form,
+    asked: Asked<'_>,
+    source: &[u8],
+) -> Result<Answer, CommandError>
+    requires { length source.now ≤ 16777216 }
+    ensures { GivesRead (map_told form (name_in asked.entry.name) asked.entry.control) result }
+{
+    let maps = maps_asked(alloc, source, asked.name);
+    mapped_or_refused(alloc, form, asked.control, maps)
 }
 
 /// What `map` answers to a source.
@@ -95,14 +90,12 @@ pub fn map_text(
     asked: Asked<'_>,
     form: Form,
 ) -> Result<Answer, CommandError>
-    ensures status { IfOk result (λ answer. IsVerdict answer.status) }
-    ensures cause { IfErr result ReadsNothing }
+    ensures { GivesRead (map_source form (name_in asked.entry.name) asked.entry.control source.now)
+        result }
 {
-    let source = within_limit(source)?;
-    match (maps_asked(alloc, source, asked.name), form) {
-        (Ok(maps), Form::Records) => records_of(alloc, &maps, asked),
-        (Ok(maps), Form::Layout) => layout_of(alloc, &maps),
-        (Err(error), _) => refused(alloc, error),
+    match within_limit(source) {
+        Ok(source) => map_within(alloc, form, asked, source),
+        Err(error) => Err(error),
     }
 }
 
@@ -112,11 +105,14 @@ fn map_read<R: GivesBytes>(
     asked: Asked<'_>,
     form: Form,
 ) -> Result<Answer, CommandError>
-    ensures status { IfOk result (λ answer. IsVerdict answer.status) }
+    ensures answer { IfSome (R.remaining reader.old) (λ input. AnswersRead
+        (map_source form (name_in asked.entry.name) asked.entry.control input) result) }
     ensures cause { ToldBy (R.failures reader.old) (R.failures reader.new) result }
 {
-    let source = read_text(alloc, reader)?;
-    map_text(alloc, &source, asked, form)
+    match read_text(alloc, reader) {
+        Ok(source) => map_text(alloc, source.as_slice(), asked, form),
+        Err(error) => Err(error),
+    }
 }
 
 /// Reads the source of BMS maps, and prints for each map a comment with its name, its line and its screen, and its record in
@@ -130,8 +126,11 @@ pub fn run_map<R: GivesBytes, W: TakesBytes>(
     asked: Asked<'_>,
     form: Form,
 ) -> Status
-    ensures { EndsSo (R.failures reader.old + W.failures writer.old)
-        (R.failures reader.new + W.failures writer.new) result }
+    ensures { IfSome (R.remaining reader.old) (λ input. PrintsRead
+        (map_source form (name_in asked.entry.name) asked.entry.control input)
+        (W.contents writer.old) (W.contents writer.new)
+        (R.failures reader.old + W.failures writer.old)
+        (R.failures reader.new + W.failures writer.new) result) }
 {
     let answer = map_read(alloc, reader, asked, form);
     finish(alloc, writer, answer)

@@ -1,39 +1,30 @@
-//! The line of a refusal.
+//! What is printed for a source that is refused.
 
-ghost use Rattle.std.specs.Prelude.{IfOk, IfErr};
-ghost use Rattle.term_commands.specs.Causes.{ReadsNothing};
-ghost use Rattle.cli_maps.specs.Ends.{IsVerdict};
+ghost use Rattle.std.specs.Prelude.{◌≡◌, IfOk};
+ghost use Rattle.std.specs.String.{string_bytes};
+ghost use Rattle.term_commands.specs.Held.{answer_seen};
+ghost use Rattle.cli_maps.specs.Refused.{refused, refusal_words};
 
-use bms_source::{Refusal, SourceError, Why};
+use bms_source::Refusal;
 use std::alloc::{AllocError, Global};
-use term_commands::{Answer, CommandError, Status};
+use term_commands::{Answer, Status};
 
-fn line_of(alloc: Global, refusal: &Refusal) -> Result<String, AllocError> {
-    let mut line = String::from_str(alloc, "map refused: ")?;
-    refusal.push_text(&mut line)?;
-    line.push_str("\n")?;
-    Ok(line)
-}
-
-/// What is printed for a refusal.
-pub(crate) fn refused(alloc: Global, error: SourceError) -> Result<Answer, CommandError>
-    ensures status { IfOk result (λ answer. IsVerdict answer.status) }
-    ensures cause { IfErr result ReadsNothing }
+pub(crate) fn refusal_words(alloc: Global, refusal: &Refusal) -> Result<String, AllocError>
+    ensures { IfOk result (λ text. string_bytes text ≡ refusal_words refusal.now) }
 {
-    match error {
-        SourceError::Refused(refusal) => Ok(Answer {
-            text: line_of(alloc, &refusal)?,
-            status: Status::BadInput,
-        }),
-        SourceError::OutOfMemory => Err(CommandError::OutOfMemory),
-    }
+    let mut words = String::from_str(alloc, "map refused: ")?;
+    refusal.push_text(&mut words)?;
+    Ok(words)
 }
 
-/// A refusal of a source that is good, which has no place.
-pub(crate) fn without_place(alloc: Global, why: Why) -> SourceError {
-    SourceError::Refused(Refusal {
-        why,
-        word: Vec::new(alloc),
-        place: None,
+/// The line of a refusal.
+pub(crate) fn refused(alloc: Global, refusal: &Refusal) -> Result<Answer, AllocError>
+    ensures { IfOk result (λ answer. answer_seen answer ≡ refused refusal.now) }
+{
+    let mut text = refusal_words(alloc, refusal)?;
+    text.push_str("\n")?;
+    Ok(Answer {
+        text,
+        status: Status::BadInput,
     })
 }

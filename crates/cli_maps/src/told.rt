@@ -1,57 +1,93 @@
-//! The maps that are asked for, and the words for them.
+//! The maps that are asked for.
 
-ghost use Rattle.std.specs.Prelude.{◌<◌, ◌^◌, length};
+ghost use Rattle.std.specs.Prelude.{◌≡◌, ◌<◌, ◌^◌, length, List, Result as AResult, IfOk};
+ghost use Rattle.std.specs.List.{filter};
+ghost use Rattle.bms_source.specs.Results.{Gives};
+ghost use Rattle.bms_source.specs.Told.{Told};
+ghost use Rattle.bms_map.specs.declared.map.Map.{Map as AMap};
+ghost use Rattle.cli_maps.specs.Asked.{is_asked, is_name, maps_asked, name_in, named, without};
 
-use crate::refusal::without_place;
 use bms_map::{Map, read_maps};
-use bms_source::{SourceError, Why, upper};
+use bms_source::{Refusal, SourceError, Why, upper};
 use std::alloc::{AllocError, Global};
 
-/// Whether a name is that of a map, which is in upper case.
-fn is_name(map: &Map, name: &[u8]) -> bool {
-    let own = map.name.as_slice();
-    if own.len() != name.len() {
-        return false;
+/// Whether a name in upper case is this one, in either case.
+fn is_name(own: &[u8], name: &[u8]) -> bool
+    ensures { result ≡ is_name own.now name.now }
+{
+    match own {
+        [] => name.is_empty(),
+        [code, codes @ ..] => match name {
+            [] => false,
+            [other, others @ ..] => *code == upper(*other) && is_name(codes, others),
+        },
     }
-    for i in 0..own.len() {
-        if own[i] != upper(name[i]) {
-            return false;
-        }
-    }
-    true
 }
 
-fn is_asked(map: &Map, name: Option<&str>) -> bool {
+fn is_asked(map: &Map, name: Option<&[u8]>) -> bool
+    ensures { result ≡ is_asked (name_in name.entry) map.now }
+{
     match name {
-        Some(name) => is_name(map, name.as_bytes()),
+        Some(name) => is_name(map.name.as_slice(), name),
         None => true,
     }
 }
 
-/// The maps of a source that are asked for: one of this name, or all where none is named.
-pub(crate) fn maps_asked(
+/// A refusal of a source that is good, which has no place.
+pub(crate) fn without_place(alloc: Global, why: Why) -> Refusal
+    ensures { result ≡ without why }
+{
+    Refusal {
+        why,
+        word: Vec::new(alloc),
+        place: None,
+    }
+}
+
+/// Those of a name.
+fn those_asked(
     alloc: Global,
-    source: &[u8],
-    name: Option<&str>,
-) -> Result<Vec<Map>, SourceError>
-    requires { length source.now < 2 ^ 62 }
+    maps: Vec<Map>,
+    name: Option<&[u8]>,
+) -> Result<Vec<Map>, AllocError>
+    ensures { IfOk result (λ asked. asked.items ≡ filter (is_asked (name_in name.entry)) maps.items) }
 {
     let mut asked = Vec::new(alloc);
-    for map in read_maps(alloc, source)? {
+    for map in maps {
         if is_asked(&map, name) {
             asked.push(map)?;
         }
     }
+    Ok(asked)
+}
+
+/// The maps that are asked for: those of this name, or all where none is named.
+pub(crate) fn named(
+    alloc: Global,
+    maps: Vec<Map>,
+    name: Option<&[u8]>,
+) -> Result<Vec<Map>, SourceError>
+    ensures { Gives (λ maps. maps.items) result (named (name_in name.entry) maps.items) }
+{
+    let asked = those_asked(alloc, maps, name)?;
     if asked.is_empty() {
-        return Err(without_place(alloc, Why::NoSuchMap));
+        return Err(SourceError::Refused(without_place(alloc, Why::NoSuchMap)));
     }
     Ok(asked)
 }
 
-/// Adds a name.
-pub(crate) fn push_name(out: &mut String, name: &[u8]) -> Result<(), AllocError> {
-    for code in name {
-        out.push(char::from(*code))?;
+/// The maps of a source that are asked for.
+pub(crate) fn maps_asked(
+    alloc: Global,
+    source: &[u8],
+    name: Option<&[u8]>,
+) -> Result<Vec<Map>, SourceError>
+    requires { length source.now < 2 ^ 62 }
+    ensures { (told : AResult (List AMap) Told)
+        × Gives (λ maps. maps.items) result (maps_asked (name_in name.entry) told) }
+{
+    match read_maps(alloc, source) {
+        Ok(maps) => named(alloc, maps, name),
+        Err(error) => Err(error),
     }
-    Ok(())
 }

@@ -3,6 +3,8 @@
 use crate::files::texts_of;
 use crate::notation::push_written;
 use anyhow::{Context, Result, ensure};
+use bms_map::Control;
+use cli_maps::{Asked, Form, Rendering, Report, run_check_map, run_map, run_render_map};
 use std::alloc::Global;
 use std::io;
 use std::io::{Read, Write};
@@ -23,6 +25,12 @@ pub(crate) enum Command {
     Check,
     Demo,
     Talk,
+    Map,
+    MapLayout,
+    MapCheck,
+    MapReport,
+    MapLog,
+    MapShow,
 }
 
 /// The command of a name.
@@ -36,7 +44,40 @@ pub(crate) fn command_of(name: &str) -> Option<Command> {
         "check" => Some(Command::Check),
         "demo" => Some(Command::Demo),
         "talk" => Some(Command::Talk),
+        "map" => Some(Command::Map),
+        "map-layout" => Some(Command::MapLayout),
+        "map-check" => Some(Command::MapCheck),
+        "map-report" => Some(Command::MapReport),
+        "map-log" => Some(Command::MapLog),
+        "map-show" => Some(Command::MapShow),
         _ => None,
+    }
+}
+
+/// Runs a command on all maps of a source.
+fn run_on_maps<R: GivesBytes, W: TakesBytes>(
+    alloc: Global,
+    command: Command,
+    input: &mut R,
+    writer: &mut W,
+) -> Status {
+    let control = Control {
+        free_keyboard: false,
+        reset_modified: false,
+    };
+    let asked = Asked {
+        name: None,
+        control,
+    };
+    match command {
+        Command::Map => run_map(alloc, input, writer, asked, Form::Records),
+        Command::MapLayout => run_map(alloc, input, writer, asked, Form::Layout),
+        Command::MapReport => {
+            run_check_map(alloc, Report::Json("screen.bms"), input, writer, asked)
+        }
+        Command::MapLog => run_check_map(alloc, Report::Sarif("screen.bms"), input, writer, asked),
+        Command::MapShow => run_render_map(alloc, Rendering::Text, input, writer, asked),
+        _ => run_check_map(alloc, Report::Text, input, writer, asked),
     }
 }
 
@@ -55,6 +96,12 @@ fn run_with_file<R: GivesBytes, F: GivesBytes, W: TakesBytes>(
         Command::Press => run_press(alloc, input, file, writer),
         Command::Strike => run_press_strokes(alloc, input, file, writer),
         Command::Check => run_check(alloc, file, input, writer, Demos::Omitted),
+        Command::Map
+        | Command::MapLayout
+        | Command::MapCheck
+        | Command::MapReport
+        | Command::MapLog
+        | Command::MapShow => run_on_maps(alloc, command, input, writer),
         _ => run_check(alloc, file, input, writer, Demos::Printed),
     }
 }

@@ -1,11 +1,17 @@
 -- What a call leaves to C: a buffer, a length and a status.
-use Rattle.std.specs.Prelude.{◌≡◌, ◌⊎◌, ℕ, ℤ, pos, Bool, true, false, List, ◌++◌, take, drop, length}
+use Rattle.std.specs.Prelude.{◌≡◌, ◌⊎◌, ℕ, ℤ, pos, Bool, true, false, List, [], ◌∷◌, ◌++◌, Option, Some, None, Result, take, drop, length}
+use Rattle.bms_source.specs.Told.{Told}
+use Rattle.bms_map.specs.Maps.{Sheet}
+use Rattle.bms_map.specs.declared.record.Control.{Control}
+use Rattle.cli_maps.specs.declared.asked.Form.{Form as MapForm}
+use Rattle.cli_maps.specs.declared.asked.Form.TheVariants as map_forms
 use Rattle.term_binds.specs.declared.fields.Form.{Form}
 use Rattle.term_binds.specs.declared.fields.Form.TheVariants.{Hexadecimal, Text}
 use Rattle.term_commands.specs.declared.output.demo.Demos.{Demos}
 use Rattle.term_commands.specs.declared.output.demo.Demos.TheVariants.{Omitted, Printed as PrintedDemos}
+use Rattle.term_commands.specs.declared.fault.Fault.{Fault}
 use Rattle.term_commands.specs.declared.status.Status.{Status}
-use Rattle.term_commands.specs.Printed.{Printed, printed}
+use Rattle.term_commands.specs.Printed.{Printed, printed, printed_or_fault}
 use Rattle.term_commands.specs.Status.{code_of}
 use Rattle.term_pictures.specs.declared.drawing.Drawing.{Drawing}
 use Rattle.term_pictures.specs.declared.drawing.Drawing.TheVariants.{Json, Svg}
@@ -37,6 +43,10 @@ LeavesRecords asked input old new needed status =
     ((text : List ℕ) × (ends : Status) × TellsRecords asked input text ends × IsTold (printed text ends) old new needed status)
     ⊎ IsRefused old new needed status
 
+-- the same of what is printed for some reading of a source
+abbrev pub LeavesRead : (Result (List Sheet) Told → Result Printed Fault) → List ℕ → List ℕ → ℕ → ℤ → Type 0
+LeavesRead due old new needed status = (told : Result (List Sheet) Told) × Leaves (printed_or_fault (due told)) old new needed status
+
 -- ---- flags
 
 -- a line of JSON where that is asked for, else a drawing
@@ -65,3 +75,17 @@ demos_of false = Omitted
 abbrev pub form_of : Bool → Form
 form_of true = Text
 form_of false = Hexadecimal
+
+-- all maps where no name is given
+abbrev pub name_of : List ℕ → Option (List ℕ)
+name_of [] = None
+name_of (code ∷ codes) = Some (code ∷ codes)
+
+-- the layout of one map where that is asked for, else records
+abbrev pub map_form_of : Bool → MapForm
+map_form_of true = map_forms.Layout
+map_form_of false = map_forms.Records
+
+-- what SEND MAP adds
+abbrev pub control_of : Bool → Bool → Control
+control_of freekb frset = record { free_keyboard = freekb; reset_modified = frset }

@@ -15,11 +15,17 @@ ghost use Rattle.term_findings.specs.Origins.{printed_origins};
 ghost use Rattle.term_findings.specs.Report.{printed_report};
 ghost use Rattle.term_pictures.specs.Picture.{printed_picture};
 ghost use Rattle.term_pictures.specs.Pressed.{printed_pressed};
-ghost use Rattle.takvorn_c.specs.Left.{Leaves, LeavesRecords, asked_of, demos_of, drawing_of, form_of};
+ghost use Rattle.cli_maps.specs.Asked.{as_text, name_in};
+ghost use Rattle.cli_maps.specs.Printed.{check_source, map_source};
+ghost use Rattle.takvorn_c.specs.Left.{Leaves, LeavesRead, LeavesRecords, asked_of, control_of, demos_of, drawing_of, form_of, map_form_of, name_of};
 
 mod left;
 
-use left::{leave, leave_records};
+use bms_map::Control;
+use cli_maps::{
+    Asked as MapsAsked, Form as MapForm, Report as MapReport, check_map_text, map_text,
+};
+use left::{leave, leave_read, leave_records};
 use std::alloc::Global;
 use term_binds::{Form, bind_texts};
 use term_commands::{
@@ -302,4 +308,75 @@ pub extern "C" fn takvorn_records(
 {
     let told = records_text(alloc, asked_of(stream, answers), trace);
     i32::from(leave_records(told, out, needed))
+}
+
+/// The map of a name; all where it is empty.
+fn name_of(name: &[u8]) -> Option<&[u8]>
+    ensures { name_in result ≡ name_of name.now }
+{
+    if name.is_empty() { None } else { Some(name) }
+}
+
+fn map_form_of(layout: bool) -> MapForm
+    ensures { result ≡ map_form_of layout }
+{
+    if layout {
+        MapForm::Layout
+    } else {
+        MapForm::Records
+    }
+}
+
+fn control_of(freekb: bool, frset: bool) -> Control
+    ensures { result ≡ control_of freekb frset }
+{
+    Control {
+        free_keyboard: freekb,
+        reset_modified: frset,
+    }
+}
+
+/// `map`: the records of BMS maps, or with `layout` the layout of one.
+#[unsafe(no_mangle)]
+pub extern "C" fn takvorn_map(
+    alloc: Global,
+    source: &[u8],
+    name: &[u8],
+    layout: bool,
+    freekb: bool,
+    frset: bool,
+    out: &mut [u8],
+    needed: &mut usize,
+) -> i32
+    ensures { LeavesRead (map_source (map_form_of layout) (name_of name.now)
+        (control_of freekb frset) source.now) out.old out.new needed.new result }
+{
+    let asked = MapsAsked {
+        name: name_of(name),
+        control: control_of(freekb, frset),
+    };
+    let answer = map_text(alloc, source, asked, map_form_of(layout));
+    i32::from(leave_read(alloc, answer, out, needed))
+}
+
+/// `check --map`: for each map `yes`, or what stands against it.
+#[unsafe(no_mangle)]
+pub extern "C" fn takvorn_check_map(
+    alloc: Global,
+    source: &[u8],
+    name: &[u8],
+    freekb: bool,
+    frset: bool,
+    out: &mut [u8],
+    needed: &mut usize,
+) -> i32
+    ensures { LeavesRead (check_source as_text (name_of name.now) (control_of freekb frset)
+        source.now) out.old out.new needed.new result }
+{
+    let asked = MapsAsked {
+        name: name_of(name),
+        control: control_of(freekb, frset),
+    };
+    let answer = check_map_text(alloc, MapReport::Text, source, asked);
+    i32::from(leave_read(alloc, answer, out, needed))
 }

@@ -6,6 +6,8 @@ use Rattle.bms_map.specs.declared.record.Control.{Control}
 use Rattle.clap.specs.Words.{Row, Text, first_of, one_of}
 use Rattle.cli_maps.specs.declared.asked.Form.{Form as MapForm}
 use Rattle.cli_maps.specs.declared.asked.Form.TheVariants as map_forms
+use Rattle.cli_maps.specs.declared.asked.Rendering.{Rendering}
+use Rattle.cli_maps.specs.declared.asked.Rendering.TheVariants as renderings
 use Rattle.term_binds.specs.declared.fields.Form.{Form}
 use Rattle.term_binds.specs.declared.fields.Form.TheVariants as forms
 use Rattle.term_commands.specs.declared.output.demo.Demos.{Demos}
@@ -15,7 +17,7 @@ use Rattle.term3270.specs.declared.asked.When.TheVariants.{Auto, Always, Never}
 use Rattle.term3270.specs.declared.asked.ReportForm.{ReportForm}
 use Rattle.term3270.specs.declared.asked.ReportForm.TheVariants.{Json, Sarif}
 use Rattle.term3270.specs.declared.asked.Asked.{Asked}
-use Rattle.term3270.specs.declared.asked.Asked.TheVariants.{Show, Draw, Annotate, Undrawn, Check, Report, Talk, Press, Strike, Convert, ConvertBack, Draft, Bind, Records, Serve, Attach, Map, CheckMap, NoLayout, Unreported}
+use Rattle.term3270.specs.declared.asked.Asked.TheVariants.{Show, Draw, Annotate, Undrawn, Check, Report, Talk, Press, Strike, Convert, ConvertBack, Draft, Bind, Records, Serve, Attach, Map, CheckMap, RenderMap, NoLayout}
 use Rattle.term_findings.specs.declared.found.Pen.{Pen}
 use Rattle.term_findings.specs.declared.found.Pen.TheVariants as pens
 use Rattle.term_pictures.specs.declared.annotated.Annotated.{Annotated}
@@ -75,10 +77,6 @@ IsWithLayout rows asked = (first_of (codes "format") rows ≡ Some (codes "svg")
     × (first_of (codes "format") rows ≡ Some (codes "text") → asked ≡ Undrawn)
     × (first_of (codes "format") rows ≡ Some (codes "json") → asked ≡ Undrawn)
 
-abbrev pub IsShow : List Row → Asked → Type 0
-IsShow rows asked = (is_some (first_of (codes "layout") rows) ≡ false → IsDrawn rows asked)
-    × (is_some (first_of (codes "layout") rows) ≡ true → IsWithLayout rows asked)
-
 -- the path that was given for an option, where it was
 abbrev pub IsPath : Text → List Row → Option (Bor Text) → Type 0
 IsPath option rows given = option_map (λ path. path.now) given ≡ first_of option rows
@@ -106,16 +104,45 @@ IsMap rows (Map source name control form) =
     IsText (codes "FILE") rows source × IsPath (codes "map") rows name × AreControls rows control × IsMapForm rows form
 IsMap rows _ = ⊥
 
-abbrev pub IsPlainMapCheck : List Row → Asked → Type 0
-IsPlainMapCheck rows (CheckMap source name control) =
-    IsText (codes "map") rows source × IsPath (codes "map-name") rows name × AreControls rows control
-IsPlainMapCheck rows _ = ⊥
+-- a form that tools read, or text
+abbrev pub IsReportForm : List Row → Option ReportForm → Type 0
+IsReportForm rows form = (first_of (codes "format") rows ≡ Some (codes "text") → form ≡ None)
+    × (first_of (codes "format") rows ≡ Some (codes "json") → form ≡ Some Json)
+    × (first_of (codes "format") rows ≡ Some (codes "sarif") → form ≡ Some Sarif)
 
--- the verdict on maps; in the other forms that is a fault of the command line
+-- the verdict on maps
 abbrev pub IsMapCheck : List Row → Asked → Type 0
-IsMapCheck rows asked = (first_of (codes "format") rows ≡ Some (codes "text") → IsPlainMapCheck rows asked)
-    × (first_of (codes "format") rows ≡ Some (codes "json") → asked ≡ Unreported)
-    × (first_of (codes "format") rows ≡ Some (codes "sarif") → asked ≡ Unreported)
+IsMapCheck rows (CheckMap source name control form) =
+    IsText (codes "map") rows source × IsPath (codes "map-name") rows name × AreControls rows control × IsReportForm rows form
+IsMapCheck rows _ = ⊥
+
+abbrev pub IsRendering : List Row → Rendering → Type 0
+IsRendering rows rendering = (first_of (codes "format") rows ≡ Some (codes "text") → rendering ≡ renderings.Text)
+    × (first_of (codes "format") rows ≡ Some (codes "svg") → rendering ≡ renderings.Svg)
+    × (first_of (codes "format") rows ≡ Some (codes "html") → rendering ≡ renderings.Html)
+    × (first_of (codes "format") rows ≡ Some (codes "json") → rendering ≡ renderings.Json)
+
+-- a map's screen, in the form that is named
+abbrev pub IsShownMap : List Row → Asked → Type 0
+IsShownMap rows (RenderMap source name control rendering) =
+    IsText (codes "map") rows source × IsPath (codes "map-name") rows name × AreControls rows control × IsRendering rows rendering
+IsShownMap rows _ = ⊥
+
+-- a layout that is drafted from a map's screen
+abbrev pub IsDraftedMap : List Row → Asked → Type 0
+IsDraftedMap rows (RenderMap source name control rendering) =
+    IsText (codes "map") rows source × IsPath (codes "map-name") rows name × AreControls rows control × (rendering ≡ renderings.Draft)
+IsDraftedMap rows _ = ⊥
+
+-- a map's, or the screen with a layout, or alone
+abbrev pub IsShow : List Row → Asked → Type 0
+IsShow rows asked = (is_some (first_of (codes "map") rows) ≡ true → IsShownMap rows asked)
+    × (is_some (first_of (codes "map") rows) ≡ false → is_some (first_of (codes "layout") rows) ≡ false → IsDrawn rows asked)
+    × (is_some (first_of (codes "map") rows) ≡ false → is_some (first_of (codes "layout") rows) ≡ true → IsWithLayout rows asked)
+
+abbrev pub IsDraft : List Row → Asked → Type 0
+IsDraft rows asked = (is_some (first_of (codes "map") rows) ≡ true → IsDraftedMap rows asked)
+    × (is_some (first_of (codes "map") rows) ≡ false → asked ≡ Draft)
 
 -- the verdict with a layout, in the form that is named
 abbrev pub IsLayoutCheck : List Row → Asked → Type 0
@@ -177,7 +204,7 @@ pub record AsksFor (name : Text) (rows : List Row) (asked : Asked) : Type 0 wher
   pub talk : name ≡ codes "talk" → asked ≡ Talk
   pub press : name ≡ codes "press" → IsPress rows asked
   pub convert : name ≡ codes "convert" → IsConvert rows asked
-  pub draft : name ≡ codes "draft" → asked ≡ Draft
+  pub draft : name ≡ codes "draft" → IsDraft rows asked
   pub bind : name ≡ codes "bind" → IsBind rows asked
   pub records : name ≡ codes "records" → IsRecords rows asked
   pub serve : name ≡ codes "serve" → IsServe rows asked

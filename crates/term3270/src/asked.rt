@@ -2,11 +2,11 @@
 
 ghost use Rattle.std.specs.Prelude.{◌≡◌, is_some, option_map};
 ghost use Rattle.clap.specs.Words.{first_of, found_of, rows_of, subcommand_rows_of};
-ghost use Rattle.term3270.specs.Asked.{AreDemos, AsksFor, IsCheck, IsDrawn, IsForm, IsConvert, IsNumber, IsOption, IsPath, IsPen, IsPress, IsShow, IsSide, IsSource, IsText, IsWhen, IsWithLayout, IsMap, IsMapForm, IsMapCheck, IsLayoutCheck, AreControls};
+ghost use Rattle.term3270.specs.Asked.{AreDemos, AsksFor, IsCheck, IsDrawn, IsForm, IsConvert, IsNumber, IsOption, IsPath, IsPen, IsPress, IsShow, IsDraft, IsDraftedMap, IsRendering, IsShownMap, IsReportForm, IsSide, IsSource, IsText, IsWhen, IsWithLayout, IsMap, IsMapForm, IsMapCheck, IsLayoutCheck, AreControls};
 
 use bms_map::Control;
 use clap::ArgMatches;
-use cli_maps::Form as MapForm;
+use cli_maps::{Form as MapForm, Rendering};
 use term_binds::Form;
 use term_commands::Demos;
 use term_findings::Pen;
@@ -93,15 +93,21 @@ pub(crate) enum Asked<'a> {
         control: Control,
         form: MapForm,
     },
+    /// The verdict on maps, as text where no other form is named.
     CheckMap {
         source: &'a str,
         name: Option<&'a str>,
         control: Control,
+        form: Option<ReportForm>,
+    },
+    RenderMap {
+        source: &'a str,
+        name: Option<&'a str>,
+        control: Control,
+        rendering: Rendering,
     },
     /// `check` without a layout, and without the source of maps.
     NoLayout,
-    /// The findings of maps in a form that only those of a layout have.
-    Unreported,
 }
 
 impl<'a> Asked<'a> {
@@ -136,7 +142,7 @@ fn command_of<'a>(name: &str, words: &ArgMatches<'a>) -> Asked<'a>
         "talk" => Asked::Talk,
         "press" => press_of(words),
         "convert" => convert_of(words),
-        "draft" => Asked::Draft,
+        "draft" => draft_of(words),
         "bind" => Asked::Bind {
             layout: text_in(words, "LAYOUT"),
             form: form_in(words),
@@ -162,11 +168,60 @@ fn command_of<'a>(name: &str, words: &ArgMatches<'a>) -> Asked<'a>
     }
 }
 
-/// `show`, with a layout where one is named.
+/// The form in which the screen of a map is shown.
+fn rendering_in(words: &ArgMatches<'_>) -> Rendering
+    ensures { IsRendering (rows_of (found_of words.now)) result }
+{
+    match text_in(words, "format") {
+        "svg" => Rendering::Svg,
+        "html" => Rendering::Html,
+        "json" => Rendering::Json,
+        _ => Rendering::Text,
+    }
+}
+
+/// `show` of a map, in the form that is named.
+fn shown_map_of<'a>(words: &ArgMatches<'a>) -> Asked<'a>
+    ensures { IsShownMap (rows_of (found_of words.now)) result }
+{
+    Asked::RenderMap {
+        source: text_in(words, "map"),
+        name: path_in(words, "map-name"),
+        control: control_in(words),
+        rendering: rendering_in(words),
+    }
+}
+
+/// `draft` of a map.
+fn drafted_map_of<'a>(words: &ArgMatches<'a>) -> Asked<'a>
+    ensures { IsDraftedMap (rows_of (found_of words.now)) result }
+{
+    Asked::RenderMap {
+        source: text_in(words, "map"),
+        name: path_in(words, "map-name"),
+        control: control_in(words),
+        rendering: Rendering::Draft,
+    }
+}
+
+/// `draft`, of a map where a source is named.
+fn draft_of<'a>(words: &ArgMatches<'a>) -> Asked<'a>
+    ensures { IsDraft (rows_of (found_of words.now)) result }
+{
+    if is_named(words, "map") {
+        drafted_map_of(words)
+    } else {
+        Asked::Draft
+    }
+}
+
+/// `show`, of a map where a source is named, or with a layout where one is.
 fn show_of<'a>(words: &ArgMatches<'a>) -> Asked<'a>
     ensures { IsShow (rows_of (found_of words.now)) result }
 {
-    if is_named(words, "layout") {
+    if is_named(words, "map") {
+        shown_map_of(words)
+    } else if is_named(words, "layout") {
         annotate_of(words)
     } else {
         draw_of(words)
@@ -265,17 +320,26 @@ fn check_of<'a>(words: &ArgMatches<'a>) -> Asked<'a>
     }
 }
 
+/// The form that tools read, where one is named.
+fn report_form_in(words: &ArgMatches<'_>) -> Option<ReportForm>
+    ensures { IsReportForm (rows_of (found_of words.now)) result }
+{
+    match text_in(words, "format") {
+        "json" => Some(ReportForm::Json),
+        "sarif" => Some(ReportForm::Sarif),
+        _ => None,
+    }
+}
+
 /// `check` of maps, in the form that is named.
 fn map_check_of<'a>(words: &ArgMatches<'a>) -> Asked<'a>
     ensures { IsMapCheck (rows_of (found_of words.now)) result }
 {
-    match text_in(words, "format") {
-        "json" | "sarif" => Asked::Unreported,
-        _ => Asked::CheckMap {
-            source: text_in(words, "map"),
-            name: path_in(words, "map-name"),
-            control: control_in(words),
-        },
+    Asked::CheckMap {
+        source: text_in(words, "map"),
+        name: path_in(words, "map-name"),
+        control: control_in(words),
+        form: report_form_in(words),
     }
 }
 

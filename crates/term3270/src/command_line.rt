@@ -37,8 +37,10 @@ Forms:
   With --layout svg and html have the name of each field of the layout at its place, and a red frame at each
   finding of check, which tells its words. The sizes are the layout's.
 
+  With --map the screen is that of a map, and svg and html have the names of its fields (docs/MAPS.md).
+
 Statuses:
-  0 done, 2 bad input, 3 the layout can't be read, or a read or a write failed, 4 out of memory";
+  0 done, 2 bad input, 3 a file can't be read, or a read or a write failed, 4 out of memory";
 
 const CHECK: &str = "Input:
   The layout is a file in TOML (docs/LAYOUTS.md). Records are in hexadecimal, one a line, on standard input or
@@ -51,7 +53,8 @@ Example:
 
 Forms:
   json is an object a line for each finding, with what its keys send, and one with the verdict; sarif is a log
-  of SARIF 2.1.0, with the lines of the files at which findings stand (docs/FINDINGS.md).
+  of SARIF 2.1.0, with the lines of the files at which findings stand (docs/FINDINGS.md). With --map they tell the
+  map, the field, and the line and the column of its macro, and what to write (docs/MAPS.md).
 
 Statuses:
   0 yes, 1 findings, 2 bad input, 3 a file can't be read, or a read or a write failed, 4 out of memory";
@@ -110,6 +113,7 @@ const DRAFT: &str = "Input:
 Output:
   A layout in TOML (docs/LAYOUTS.md), with a field for each that an operator can change or that is sent, named
   by the text before it; these records conform to it if they do to any. Or what no layout can mend, as check prints it.
+  With --map the screen is that of a map: fields without a label are named too, as 'map --layout' doesn't.
 
 Example:
   $ term3270 draft < examples/signon.hex > signon.toml
@@ -153,6 +157,12 @@ Statuses:
 const FREEKB_HELP: &str = "SEND MAP says FREEKB: the keyboard is freed, whatever CTRL says";
 
 const FRSET_HELP: &str = "SEND MAP says FRSET: modified data tags are reset, whatever CTRL says";
+
+const WITH_FREEKB_HELP: &str =
+    "With --map: SEND MAP says FREEKB: the keyboard is freed, whatever CTRL says";
+
+const WITH_FRSET_HELP: &str =
+    "With --map: SEND MAP says FRSET: modified data tags are reset, whatever CTRL says";
 
 const SCREEN_FORMS: &[&str] = &["text", "svg", "html", "json"];
 
@@ -231,6 +241,10 @@ enum Takes<'a> {
     Value(&'a str),
     /// The path of a file, where none of these is given.
     FileAlone(&'a [&'a str]),
+    /// A value of this name, which may be given where an option of this name is, and none of these.
+    ValueWith(&'a str, &'a str, &'a [&'a str]),
+    /// Nothing: the option may be there where one of this name is, and none of these.
+    NothingWith(&'a str, &'a [&'a str]),
 }
 
 /// An argument of a command.
@@ -269,6 +283,26 @@ const SCREENS: &[Described<'_>] = &[
                 name: "layout",
                 takes: Takes::FileWithout("color"),
                 help: "With svg and html: name the fields of this layout, and mark what check finds",
+            },
+            Argument {
+                name: "map",
+                takes: Takes::FileAlone(&["layout", "color"]),
+                help: "Show a map of this BMS source, in place of records",
+            },
+            Argument {
+                name: "map-name",
+                takes: Takes::ValueWith("NAME", "map", &[]),
+                help: "With --map: the map of this name",
+            },
+            Argument {
+                name: "freekb",
+                takes: Takes::NothingWith("map", &[]),
+                help: WITH_FREEKB_HELP,
+            },
+            Argument {
+                name: "frset",
+                takes: Takes::NothingWith("map", &[]),
+                help: WITH_FRSET_HELP,
             },
         ],
     },
@@ -309,18 +343,18 @@ const SCREENS: &[Described<'_>] = &[
             },
             Argument {
                 name: "map-name",
-                takes: Takes::Value("NAME"),
+                takes: Takes::ValueWith("NAME", "map", &["LAYOUT"]),
                 help: "With --map: check the map of this name alone",
             },
             Argument {
                 name: "freekb",
-                takes: Takes::Nothing,
-                help: FREEKB_HELP,
+                takes: Takes::NothingWith("map", &["LAYOUT"]),
+                help: WITH_FREEKB_HELP,
             },
             Argument {
                 name: "frset",
-                takes: Takes::Nothing,
-                help: FRSET_HELP,
+                takes: Takes::NothingWith("map", &["LAYOUT"]),
+                help: WITH_FRSET_HELP,
             },
         ],
     },
@@ -401,7 +435,28 @@ const OTHERS: &[Described<'_>] = &[
         name: "draft",
         about: "Print a layout for the screen that the records leave",
         after_help: DRAFT,
-        arguments: &[],
+        arguments: &[
+            Argument {
+                name: "map",
+                takes: Takes::File,
+                help: "Draft a layout of a map of this BMS source, in place of records",
+            },
+            Argument {
+                name: "map-name",
+                takes: Takes::ValueWith("NAME", "map", &[]),
+                help: "With --map: the map of this name",
+            },
+            Argument {
+                name: "freekb",
+                takes: Takes::NothingWith("map", &[]),
+                help: WITH_FREEKB_HELP,
+            },
+            Argument {
+                name: "frset",
+                takes: Takes::NothingWith("map", &[]),
+                help: WITH_FRSET_HELP,
+            },
+        ],
     },
     Described {
         name: "bind",
@@ -544,6 +599,10 @@ fn bare<'a>(alloc: Global, name: &'a str, takes: Takes<'a>) -> Result<Arg<'a>, A
         Takes::Optional => Ok(Arg::new(alloc, name)),
         Takes::Value(value) => Ok(option(alloc, name, value)),
         Takes::FileAlone(others) => alone(option(alloc, name, "FILE"), others),
+        Takes::ValueWith(value, other, others) => {
+            alone(option(alloc, name, value).requires_arg(other)?, others)
+        }
+        Takes::NothingWith(other, others) => alone(flag(alloc, name).requires_arg(other)?, others),
     }
 }
 

@@ -6,7 +6,10 @@ use crate::sessions::{run_attach, run_serve};
 use crate::stream::Named;
 use crate::tcp::Place;
 use clap::ArgMatches;
-use cli_maps::{Asked as MapsAsked, Form as MapForm, run_check_map, run_map};
+use cli_maps::{
+    Asked as MapsAsked, Form as MapForm, Rendering, Report as MapReport, run_check_map, run_map,
+    run_render_map,
+};
 use std::alloc::AllocError;
 use std::env;
 use std::env::VarError;
@@ -217,21 +220,36 @@ pub(crate) fn map(rt: &HostRuntime, source: &str, asked: MapsAsked<'_>, form: Ma
     run_map(rt.alloc(), &mut source, &mut output(rt), asked, form)
 }
 
-/// `check` of the maps of a file.
-pub(crate) fn check_map(rt: &HostRuntime, source: &str, asked: MapsAsked<'_>) -> Status {
-    let mut source = file_at(rt, source);
-    run_check_map(rt.alloc(), &mut source, &mut output(rt), asked)
+/// `check` of the maps of a file, in the form that is named.
+pub(crate) fn check_map(
+    rt: &HostRuntime,
+    path: &str,
+    asked: MapsAsked<'_>,
+    form: Option<ReportForm>,
+) -> Status {
+    let report = match form {
+        None => MapReport::Text,
+        Some(ReportForm::Json) => MapReport::Json(path),
+        Some(ReportForm::Sarif) => MapReport::Sarif(path),
+    };
+    let mut source = file_at(rt, path);
+    run_check_map(rt.alloc(), report, &mut source, &mut output(rt), asked)
+}
+
+/// `show` or `draft` of a map of a file.
+pub(crate) fn render_map(
+    rt: &HostRuntime,
+    path: &str,
+    asked: MapsAsked<'_>,
+    rendering: Rendering,
+) -> Status {
+    let mut source = file_at(rt, path);
+    run_render_map(rt.alloc(), rendering, &mut source, &mut output(rt), asked)
 }
 
 /// Says that `check` has nothing to check with.
 pub(crate) fn refuse_no_layout(rt: &HostRuntime) -> Status {
     let _ = eprintln!(rt; "error: 'check' needs a layout, or '--map <FILE>'");
-    Status::BadInput
-}
-
-/// Says that the findings of maps are text.
-pub(crate) fn refuse_unreported(rt: &HostRuntime) -> Status {
-    let _ = eprintln!(rt; "error: '--map <FILE>' has no other form than '--format text'");
     Status::BadInput
 }
 

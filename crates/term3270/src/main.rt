@@ -14,12 +14,22 @@ use crate::asked::Asked;
 use crate::bad_word::tell_bad_word;
 use crate::command_line::parsed;
 use crate::tcp::Place;
+use bms_map::Control;
 use clap::ArgMatches;
 use clap::error::ErrorKind;
 use cli_maps::Asked as MapsAsked;
 use std::process::ExitCode;
 use std::{env, io};
 use term_commands::{Status, failure};
+
+/// The maps of this name, or all, and what SEND MAP adds.
+fn maps_asked(name: Option<&str>, control: Control) -> MapsAsked<'_> {
+    let name = match name {
+        Some(name) => Some(name.as_bytes()),
+        None => None,
+    };
+    MapsAsked { name, control }
+}
 
 /// Runs a command on the standard streams, and on the files that it was given.
 fn run(rt: &HostRuntime, asked: Asked<'_>, matches: &ArgMatches<'_>) -> Status {
@@ -65,14 +75,20 @@ fn run(rt: &HostRuntime, asked: Asked<'_>, matches: &ArgMatches<'_>) -> Status {
             name,
             control,
             form,
-        } => commands::map(rt, source, MapsAsked { name, control }, form),
+        } => commands::map(rt, source, maps_asked(name, control), form),
         Asked::CheckMap {
             source,
             name,
             control,
-        } => commands::check_map(rt, source, MapsAsked { name, control }),
+            form,
+        } => commands::check_map(rt, source, maps_asked(name, control), form),
+        Asked::RenderMap {
+            source,
+            name,
+            control,
+            rendering,
+        } => commands::render_map(rt, source, maps_asked(name, control), rendering),
         Asked::NoLayout => commands::refuse_no_layout(rt),
-        Asked::Unreported => commands::refuse_unreported(rt),
     }
 }
 

@@ -1,0 +1,54 @@
+-- The maps that are asked for.
+use Rattle.std.specs.Prelude.{ℕ, Bool, true, false, ◌&&◌, ◌==◌, List, [], ◌∷◌, Option, Some, None, option_map, Result, Ok, Err}
+use Rattle.std.specs.Borrow.{Bor}
+use Rattle.std.specs.List.{filter}
+use Rattle.bms_source.specs.declared.refusal.Why.{Why}
+use Rattle.bms_source.specs.declared.refusal.Why.TheVariants.{NoSuchMap}
+use Rattle.bms_source.specs.Told.{Told, ◌>>=◌}
+use Rattle.bms_source.specs.Words.{upper}
+use Rattle.bms_map.specs.declared.map.Map.{Map}
+use Rattle.cli_maps.specs.declared.asked.Report.{Report}
+use Rattle.cli_maps.specs.declared.asked.Report.TheVariants.{Text, Json, Sarif}
+
+-- a name in upper case is this one, in either case
+abbrev pub is_name : List ℕ → List ℕ → Bool
+is_name [] [] = true
+is_name [] (c ∷ cs) = false
+is_name (n ∷ ns) [] = false
+is_name (n ∷ ns) (c ∷ cs) = (n == upper c) && is_name ns cs
+
+-- all where none is named
+abbrev pub is_asked : Option (List ℕ) → Map → Bool
+is_asked None map = true
+is_asked (Some name) map = is_name map.name.items name
+
+-- a refusal of a source that is good
+abbrev pub without : Why → Told
+without why = record { why = why; word = []; place = None }
+
+abbrev pub some_of : List Map → Result (List Map) Told
+some_of [] = Err (without NoSuchMap)
+some_of (map ∷ maps) = Ok (map ∷ maps)
+
+-- those of the name, of which there has to be one
+abbrev pub named : Option (List ℕ) → List Map → Result (List Map) Told
+named name maps = some_of (filter (is_asked name) maps)
+
+abbrev pub maps_asked : Option (List ℕ) → Result (List Map) Told → Result (List Map) Told
+maps_asked name told = told >>= named name
+
+-- ---- as the program holds it
+
+abbrev pub name_in : Option (Bor (List ℕ)) → Option (List ℕ)
+name_in name = option_map (λ name. name.now) name
+
+-- the form of a report, with the path of the source
+pub data Reported : Type 0 where
+  as_text : Reported
+  as_json : (path : List ℕ) → Reported
+  as_log : (path : List ℕ) → Reported
+
+abbrev pub report_seen : Report → Reported
+report_seen Text = as_text
+report_seen (Json path) = as_json path.now
+report_seen (Sarif path) = as_log path.now
