@@ -372,7 +372,8 @@ class Page {
     const records = this.work.library.call("map", text, "", false, false, false);
     if (records.status !== 0) return this.note(`The source is refused: ${linesOf(records.text.trim())[0]}`, true);
     const layout = this.work.library.call("map", text, "", true, false, false);
-    this.change({ map: text, records: records.text, layouts: [layout.text], keys: [], step: null });
+    const layouts = layout.status === 0 ? [layout.text] : this.state.layouts;
+    this.change({ map: text, records: records.text, layouts, keys: [], step: null });
   }
 
   /** @param {Iterable<File>} files */

@@ -27,5 +27,7 @@ export class Takvorn {
   call(name: "convert_back", lines: Text): Answer;
   call(name: "bind", layout: Text, answers: Text, text: boolean): Answer;
   call(name: "records", trace: Text, stream: boolean, answers: boolean): Answer;
+  call(name: "map", source: Text, map: Text, layout: boolean, freekb: boolean, frset: boolean): Answer;
+  call(name: "check_map", source: Text, map: Text, freekb: boolean, frset: boolean): Answer;
   call(name: string, ...inputs: (Text | boolean | Text[])[]): Answer;
 }

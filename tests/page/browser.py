@@ -134,6 +134,15 @@ def try_dialogue(trial):
     trial.picture("dialogue")
 
 
+def try_map(trial):
+    """BMS source: its record, its layout and the verdict."""
+    trial.open()
+    trial.drop("signon.bms", both(ROOT / "examples/signon.bms"))
+    trial.holds("the verdict of the map is yes", "return document.querySelector('#verdict').className === 'yes'")
+    trial.compare("it was taken for BMS source", True, "BMS source" in trial.text("#note"))
+    trial.compare("the layout is the map's", True, trial.browser.run("return takvornPage.state.layouts[0].includes('[[field]]')"))
+
+
 def try_refusals(trial):
     """A garbage file, a file of 16 MB, a module that stops: each is said, and what was put in is kept."""
     trial.open()
@@ -209,7 +218,7 @@ def try_requests(trial):
     trial.compare("but for the page", True, all(address.split("#")[0] == pathlib.Path(trial.page).as_uri() for address in asked))
 
 
-TRIALS = [try_speed, try_sign_on, try_flaw, try_orders, try_dialogue, try_refusals, try_link, try_widths, try_keyboard]
+TRIALS = [try_speed, try_sign_on, try_flaw, try_orders, try_dialogue, try_map, try_refusals, try_link, try_widths, try_keyboard]
 
 
 def run(browser, page, pictures):

@@ -12,6 +12,8 @@ const isLayout = (word) => word.endsWith(".toml");
 /** The call of a case's words, as the name of a function and its inputs; none where the library has no such. */
 function callOf(folder, words, read, input) {
   const layouts = words.filter(isLayout);
+  const map = callOfMap(words, read);
+  if (map) return map;
   const form = words.map((word) => (isLayout(word) ? "LAYOUT" : word === "keys" ? "KEYS" : word)).join(" ");
   const calls = {
     "": () => ["show", input()],
@@ -44,6 +46,18 @@ function callOf(folder, words, read, input) {
   return form in calls ? calls[form]() : null;
 }
 
+/** The call of `map FILE` or `check --map FILE`, with a name and flags; none where the words are others. */
+function callOfMap(words, read) {
+  const file = words.find((word) => word.endsWith(".bms"));
+  const rest = words.filter((word) => word !== file);
+  if (!file || rest.includes("--format") || !(rest[0] === "map" || (rest[0] === "check" && rest[1] === "--map"))) return null;
+  const options = rest.slice(rest[0] === "map" ? 1 : 2);
+  const at = options.findIndex((word) => word === "--map" || word === "--map-name");
+  const name = at < 0 ? "" : options[at + 1];
+  const flags = ["--freekb", "--frset"].map((flag) => options.includes(flag));
+  return rest[0] === "map" ? ["map", read(file), name, options.includes("--layout"), ...flags] : ["check_map", read(file), name, ...flags];
+}
+
 function runCase(folder) {
   const has = (name) => fs.existsSync(path.join(folder, name));
   const read = (name) => fs.readFileSync(path.join(folder, name));
@@ -52,7 +66,8 @@ function runCase(folder) {
     return execFileSync("sh", ["./make-stdin"], { cwd: folder, maxBuffer: 1 << 28, env: { ...process.env, PROGRAM: program } });
   };
   const words = has("args") ? read("args").toString().split("\n").filter((word) => word !== "") : [];
-  if (words.filter(isLayout).some((name) => !has(name)) || (words.includes("keys") && !has("keys"))) return null;
+  const files = words.filter((word) => isLayout(word) || word.endsWith(".bms"));
+  if (files.some((name) => !has(name)) || (words.includes("keys") && !has("keys"))) return null;
   const call = callOf(folder, words, read, input);
   if (!call) return null;
   const answer = takvorn.call(...call);

@@ -48,6 +48,7 @@ class Drawn:
         self.layouts = self.read(f"{cases}/*/*/*.toml")
         self.keys = self.read(f"{cases}/*/*/keys")
         self.traces = self.read(f"{cases}/records/*/stdin")
+        self.sources = self.read(f"{cases}/map/*/*.bms")
 
     @staticmethod
     def read(pattern):
@@ -73,13 +74,14 @@ class Drawn:
 
     def call(self):
         flag = lambda: self.random.random() < 0.5
-        name = self.random.choice([*ONE, "check", "check_json", "talk", "press", "bind", "show_pressed", "origins", "records"])
+        name = self.random.choice([*ONE, "check", "check_json", "talk", "press", "bind", "show_pressed", "origins", "records", "map", "check_map"])
         records, layout = self.changed(self.records), self.changed(self.layouts)
         some = [self.changed(self.layouts) for _ in range(self.random.randrange(1, 4))]
         inputs = {
             "check": [layout, records, flag()], "check_json": [layout, records], "talk": [some, records], "bind": [layout, records, flag()],
             "press": [records, self.changed(self.keys)], "show_pressed": [records, self.changed(self.keys), flag()],
             "origins": [layout, records], "records": [self.changed(self.traces), flag(), flag()],
+            "map": [self.changed(self.sources), b"", flag(), flag(), flag()], "check_map": [self.changed(self.sources), b"", flag(), flag()],
         }
         return name, inputs.get(name, [records])
 
