@@ -15,6 +15,7 @@ use std::alloc::{AllocError, Global};
 use term_commands::{Answer, CommandError, Keys, Records, SizeLine, keys_in, records_in, show_all};
 
 /// Presses keys in turn; what they send is left aside.
+#[tactic(auto, unfolding(ds_keys::specs::KeyRuns::after))]
 fn press_all(
     alloc: Global,
     terminal: &mut Terminal<PlaneCells>,
