@@ -4,6 +4,7 @@ use Rattle.serde_json.specs.Data.{Data, depth, items_depth}
 use Rattle.serde_json.specs.View.{items_of}
 use Rattle.serde_json.specs.Written.{has_float, items_have_float}
 use Rattle.bms_map.specs.Maps.{Sheet}
+use Rattle.term_findings.specs.declared.found.Pen.TheVariants.{Ignored}
 use Rattle.term_findings.specs.declared.region.Region.{Region}
 use Rattle.term_findings.specs.Sarif.{rules_data}
 use Rattle.term_findings.proofs.Logged as logs
@@ -34,10 +35,10 @@ unfolding map_rule_data
 rule_nests rule = omega arith
 
 pub rules_plain : items_have_float (items_of all_data) ≡ false
-rules_plain = both_plain rules_data (map map_rule_data map_rules) logs.rules_plain (logs.none_floats map_rule_data rule_plain map_rules)
+rules_plain = both_plain rules_data (map map_rule_data map_rules) (logs.rules_plain Ignored) (logs.none_floats map_rule_data rule_plain map_rules)
 
 pub rules_nest : items_depth (items_of all_data) ≤ 2
-rules_nest = both_nest 2 rules_data (map map_rule_data map_rules) logs.rules_nest (logs.all_nest map_rule_data 2 rule_nests map_rules)
+rules_nest = both_nest 2 rules_data (map map_rule_data map_rules) (logs.rules_nest Ignored) (logs.all_nest map_rule_data 2 rule_nests map_rules)
 
 -- ---- results
 

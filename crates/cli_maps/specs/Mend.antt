@@ -74,8 +74,11 @@ label_help field = if field.length == 0 then [] else codes "give it a label, or 
 abbrev pub undeclared_help : Shown → List ℕ
 undeclared_help field = label_help field ++ (codes "protect it by " ++ attrb_text 3 (field.attribute / 4 % 4))
 
+abbrev pub unset_of : ℕ → List ℕ
+unset_of attribute = codes "take FSET away by " ++ attrb_text (attribute / 16 % 4) (attribute / 4 % 4)
+
 abbrev pub unset_help : Shown → List ℕ
-unset_help field = codes "take FSET away by " ++ attrb_text (field.attribute / 16 % 4) (field.attribute / 4 % 4)
+unset_help field = unset_of field.attribute
 
 abbrev pub undeclared_fixed_help : Shown → List ℕ
 undeclared_fixed_help field = label_help field ++ unset_help field
@@ -91,8 +94,11 @@ is_stopper_at cell field = (field.cell == cell) && (field.length == 0)
 abbrev pub stopper_at : Sheet → ℕ → Option Shown
 stopper_at map cell = find (is_stopper_at cell) map.fields
 
+abbrev pub moved_of : ℕ × ℕ → ℕ → List ℕ
+moved_of spot line = codes "write " ++ (pos_text spot ++ (codes " at the stopper of line " ++ (decimal line ++ codes ", which stands a column too far")))
+
 abbrev pub moved_help : ℕ × ℕ → Shown → List ℕ
-moved_help spot stopper = codes "write " ++ (pos_text spot ++ (codes " at the stopper of line " ++ (decimal stopper.line ++ codes ", which stands a column too far")))
+moved_help spot stopper = moved_of spot stopper.line
 
 abbrev pub end_help : ℕ × ℕ → Option Shown → List ℕ
 end_help spot None = stopper_help spot
