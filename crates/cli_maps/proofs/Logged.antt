@@ -3,7 +3,8 @@ use Rattle.std.proofs.Common.{◌≡◌, ◌≤◌, ℕ, false, ◌||◌, List, 
 use Rattle.serde_json.specs.Data.{Data, depth, items_depth}
 use Rattle.serde_json.specs.View.{items_of}
 use Rattle.serde_json.specs.Written.{has_float, items_have_float}
-use Rattle.bms_map.specs.declared.map.Map.{Map}
+use Rattle.bms_map.specs.Maps.{Sheet}
+use Rattle.term_findings.specs.declared.found.Pen.TheVariants.{Ignored}
 use Rattle.term_findings.specs.declared.region.Region.{Region}
 use Rattle.term_findings.specs.Sarif.{rules_data}
 use Rattle.term_findings.proofs.Logged as logs
@@ -34,10 +35,10 @@ unfolding map_rule_data
 rule_nests rule = omega arith
 
 pub rules_plain : items_have_float (items_of all_data) ≡ false
-rules_plain = both_plain rules_data (map map_rule_data map_rules) logs.rules_plain (logs.none_floats map_rule_data rule_plain map_rules)
+rules_plain = both_plain rules_data (map map_rule_data map_rules) (logs.rules_plain Ignored) (logs.none_floats map_rule_data rule_plain map_rules)
 
 pub rules_nest : items_depth (items_of all_data) ≤ 2
-rules_nest = both_nest 2 rules_data (map map_rule_data map_rules) logs.rules_nest (logs.all_nest map_rule_data 2 rule_nests map_rules)
+rules_nest = both_nest 2 rules_data (map map_rule_data map_rules) (logs.rules_nest Ignored) (logs.all_nest map_rule_data 2 rule_nests map_rules)
 
 -- ---- results
 
@@ -49,10 +50,10 @@ result_nests : (id : List ℕ) (index : ℕ) (path : List ℕ) (region : Region)
 unfolding result_data
 result_nests id index path region text = omega (arith, logs.region_nests region.line region.columns)
 
-pub results_plain : (path : List ℕ) (lines : List (List ℕ)) (it : Map) (judged : Judged) → items_have_float (items_of (results_of path lines it judged)) ≡ false
+pub results_plain : (path : List ℕ) (lines : List (List ℕ)) (it : Sheet) (judged : Judged) → items_have_float (items_of (results_of path lines it judged)) ≡ false
 results_plain path lines it judged = logs.none_floats (finding_result path lines it judged.layout.entries) (λ finding. result_plain _ _ path _ _) judged.findings
 
-pub results_nest : (path : List ℕ) (lines : List (List ℕ)) (it : Map) (judged : Judged) → items_depth (items_of (results_of path lines it judged)) ≤ 6
+pub results_nest : (path : List ℕ) (lines : List (List ℕ)) (it : Sheet) (judged : Judged) → items_depth (items_of (results_of path lines it judged)) ≤ 6
 results_nest path lines it judged = logs.all_nest (finding_result path lines it judged.layout.entries) 6 (λ finding. result_nests _ _ path _ _) judged.findings
 
 pub refused_plain : (path : List ℕ) (region : Region) (words : List ℕ) → items_have_float (items_of (refused_result path region words ∷ [])) ≡ false

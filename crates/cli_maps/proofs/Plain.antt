@@ -6,8 +6,7 @@ use Rattle.serde_json.specs.Data.{Members, no_members, depth}
 use Rattle.serde_json.specs.Written.{has_float}
 use Rattle.ds_screen.specs.Picture.{Picture}
 use Rattle.bms_source.specs.Printed.{printed_codes}
-use Rattle.bms_map.specs.declared.field.Field.{Field}
-use Rattle.bms_map.specs.declared.map.Map.{Map}
+use Rattle.bms_map.specs.Maps.{Sheet, Shown}
 use Rattle.bms_map.specs.LayoutText.{label_text}
 use Rattle.scr_layout.specs.Entry.{Declared}
 use Rattle.scr_layout.specs.Layout.{Declaration}
@@ -51,7 +50,7 @@ facts_plain layout opened (Found finding) ms old =
     let keyed = keys_plain (demo_of finding) _ entered in
     text_plain 2 (codes "sends") (option_map encode_upper (sent_from opened (demo_of finding))) _ keyed
 
-plain_finding : (path : List ℕ) (lines : List (List ℕ)) (it : Map) (layout : Declaration) (opened : Option Picture) (finding : MapFinding)
+plain_finding : (path : List ℕ) (lines : List (List ℕ)) (it : Sheet) (layout : Declaration) (opened : Option Picture) (finding : MapFinding)
     → IsPlain 2 (with_text (codes "help") (help_of it layout.entries finding) (with_facts layout opened finding
     (with_macro path lines it (field_of it layout.entries finding) (with_words it layout.entries finding no_members))))
 plain_finding path lines it layout opened finding =
@@ -59,13 +58,13 @@ plain_finding path lines it layout opened finding =
     let ruled = text_plain 2 (codes "rule") (Some (id_of finding)) no_members (nothing 2) in
     let named = text_plain 2 (codes "name") (Some (name_of finding)) _ ruled in
     let worded = text_plain 2 (codes "words") (Some (map_words it layout.entries finding)) _ named in
-    let mapped = text_plain 2 (codes "map") (Some (printed_codes it.name.items)) _ worded in
+    let mapped = text_plain 2 (codes "map") (Some (printed_codes it.name)) _ worded in
     let labelled = text_plain 2 (codes "field") (option_map label_text field) _ mapped in
     let placed = source_plain path (macro_region lines (line_of it field)) _ labelled in
     let told = facts_plain layout opened finding _ placed in
     text_plain 2 (codes "help") (help_of it layout.entries finding) _ told
 
-pub finding_plain : (path : List ℕ) (lines : List (List ℕ)) (it : Map) (layout : Declaration) (opened : Option Picture) (finding : MapFinding)
+pub finding_plain : (path : List ℕ) (lines : List (List ℕ)) (it : Sheet) (layout : Declaration) (opened : Option Picture) (finding : MapFinding)
     → has_float (finding_data path lines it layout opened finding) ≡ false
 finding_plain path lines it layout opened finding = (plain_finding path lines it layout opened finding).none
 

@@ -6,7 +6,7 @@ use Rattle.bms_source.specs.declared.refusal.Why.{Why}
 use Rattle.bms_source.specs.declared.refusal.Why.TheVariants.{NoSuchMap}
 use Rattle.bms_source.specs.Told.{Told, ◌>>=◌}
 use Rattle.bms_source.specs.Words.{upper}
-use Rattle.bms_map.specs.declared.map.Map.{Map}
+use Rattle.bms_map.specs.Maps.{Sheet}
 use Rattle.cli_maps.specs.declared.asked.Report.{Report}
 use Rattle.cli_maps.specs.declared.asked.Report.TheVariants.{Text, Json, Sarif}
 
@@ -18,23 +18,23 @@ is_name (n ∷ ns) [] = false
 is_name (n ∷ ns) (c ∷ cs) = (n == upper c) && is_name ns cs
 
 -- all where none is named
-abbrev pub is_asked : Option (List ℕ) → Map → Bool
+abbrev pub is_asked : Option (List ℕ) → Sheet → Bool
 is_asked None map = true
-is_asked (Some name) map = is_name map.name.items name
+is_asked (Some name) map = is_name map.name name
 
 -- a refusal of a source that is good
 abbrev pub without : Why → Told
 without why = record { why = why; word = []; place = None }
 
-abbrev pub some_of : List Map → Result (List Map) Told
+abbrev pub some_of : List Sheet → Result (List Sheet) Told
 some_of [] = Err (without NoSuchMap)
 some_of (map ∷ maps) = Ok (map ∷ maps)
 
 -- those of the name, of which there has to be one
-abbrev pub named : Option (List ℕ) → List Map → Result (List Map) Told
+abbrev pub named : Option (List ℕ) → List Sheet → Result (List Sheet) Told
 named name maps = some_of (filter (is_asked name) maps)
 
-abbrev pub maps_asked : Option (List ℕ) → Result (List Map) Told → Result (List Map) Told
+abbrev pub maps_asked : Option (List ℕ) → Result (List Sheet) Told → Result (List Sheet) Told
 maps_asked name told = told >>= named name
 
 -- ---- as the program holds it

@@ -4,8 +4,7 @@ use Rattle.std.specs.List.{flat_map}
 use Rattle.serde_json.specs.Data.{Data, number, unsigned, string, object, Members, member, no_members}
 use Rattle.ds_screen.specs.Picture.{Picture}
 use Rattle.bms_source.specs.Printed.{printed_codes}
-use Rattle.bms_map.specs.declared.field.Field.{Field}
-use Rattle.bms_map.specs.declared.map.Map.{Map}
+use Rattle.bms_map.specs.Maps.{Sheet, Shown}
 use Rattle.bms_map.specs.LayoutText.{label_text}
 use Rattle.scr_layout.specs.Entry.{Declared}
 use Rattle.scr_layout.specs.Layout.{Declaration}
@@ -36,16 +35,16 @@ with_source path region members = with_some (codes "source") (Some (source_data 
 
 -- ---- a finding
 
-abbrev pub with_words : Map → List Declared → MapFinding → Members → Members
+abbrev pub with_words : Sheet → List Declared → MapFinding → Members → Members
 with_words map entries finding members =
     with_text (codes "words") (Some (map_words map entries finding))
     (with_text (codes "name") (Some (name_of finding)) (with_text (codes "rule") (Some (id_of finding)) members))
 
 -- the map, the field, and where its macro stands
-abbrev pub with_macro : List ℕ → List (List ℕ) → Map → Option Field → Members → Members
+abbrev pub with_macro : List ℕ → List (List ℕ) → Sheet → Option Shown → Members → Members
 with_macro path lines map field members =
     with_source path (macro_region lines (line_of map field))
-    (with_text (codes "field") (option_map label_text field) (with_text (codes "map") (Some (printed_codes map.name.items)) members))
+    (with_text (codes "field") (option_map label_text field) (with_text (codes "map") (Some (printed_codes map.name)) members))
 
 -- what `check` tells of a screen besides
 abbrev pub with_facts : Declaration → Option Picture → MapFinding → Members → Members
@@ -53,14 +52,14 @@ with_facts layout opened (Overlapping overlap) members = members
 with_facts layout opened (Found finding) members =
     with_keys opened (demo_of finding) (with_entry layout.entries finding (with_place layout.size (place_of layout.entries finding) members))
 
-abbrev pub finding_data : List ℕ → List (List ℕ) → Map → Declaration → Option Picture → MapFinding → Data
+abbrev pub finding_data : List ℕ → List (List ℕ) → Sheet → Declaration → Option Picture → MapFinding → Data
 finding_data path lines map layout opened finding =
     object (with_text (codes "help") (help_of map layout.entries finding) (with_facts layout opened finding
     (with_macro path lines map (field_of map layout.entries finding) (with_words map layout.entries finding no_members))))
 
 -- ---- lines
 
-abbrev pub finding_line : List ℕ → List (List ℕ) → Map → Declaration → Option Picture → MapFinding → List ℕ
+abbrev pub finding_line : List ℕ → List (List ℕ) → Sheet → Declaration → Option Picture → MapFinding → List ℕ
 finding_line path lines map layout opened finding = data_line (finding_data path lines map layout opened finding)
 
 abbrev pub verdict_word : List MapFinding → List ℕ
@@ -68,20 +67,20 @@ verdict_word [] = codes "yes"
 verdict_word (finding ∷ findings) = codes "no"
 
 -- how many findings a map has and how many fields its layout, and the verdict
-abbrev pub verdict_data : Map → Judged → Data
+abbrev pub verdict_data : Sheet → Judged → Data
 verdict_data map judged =
     object (member (codes "fields") (number (unsigned (length judged.layout.entries)))
     (member (codes "findings") (number (unsigned (length judged.findings)))
     (member (codes "line") (number (unsigned map.line))
-    (member (codes "map") (string (printed_codes map.name.items)) (member (codes "verdict") (string (verdict_word judged.findings)) no_members)))))
+    (member (codes "map") (string (printed_codes map.name)) (member (codes "verdict") (string (verdict_word judged.findings)) no_members)))))
 
 -- a line for each finding, whose keys are pressed on the picture that the record leaves
-abbrev pub finding_lines : List ℕ → List (List ℕ) → Map → Judged → List ℕ
+abbrev pub finding_lines : List ℕ → List (List ℕ) → Sheet → Judged → List ℕ
 finding_lines path lines map judged =
     flat_map (finding_line path lines map judged.layout (asked Pressed (shown_on judged.layout judged.records))) judged.findings
 
 -- these, and one for the verdict
-abbrev pub json_lines : List ℕ → List (List ℕ) → Map → Judged → List ℕ
+abbrev pub json_lines : List ℕ → List (List ℕ) → Sheet → Judged → List ℕ
 json_lines path lines map judged = finding_lines path lines map judged ++ data_line (verdict_data map judged)
 
 -- ---- what is refused

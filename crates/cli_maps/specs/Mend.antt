@@ -2,11 +2,9 @@
 use Rattle.std.specs.Prelude.{ℕ, ◌+◌, ◌-◌, ◌*◌, ◌/◌, ◌%◌, Bool, not, ◌&&◌, ◌==◌, nat_le, nat_lt, List, [], ◌∷◌, ◌++◌, codes, slice_get, Option, Some, None, if◌then◌else◌}
 use Rattle.std.specs.Fmt.{decimal}
 use Rattle.std.specs.List.{find}
-use Rattle.bms_map.specs.declared.field.Field.{Field}
-use Rattle.bms_map.specs.declared.map.Map.{Map}
+use Rattle.bms_map.specs.Maps.{Ground, Sheet, Shown}
 use Rattle.bms_map.specs.declared.overlap.Overlap.{Overlap}
 use Rattle.bms_map.specs.declared.overlap.Overlap.TheVariants.{Overlaps, PastEnd}
-use Rattle.bms_map.specs.declared.place.Area.{Area}
 use Rattle.bms_map.specs.LayoutText.{label_text}
 use Rattle.scr_layout.specs.Entry.{Declared}
 use Rattle.scr_check.specs.declared.finding.Finding.{Finding}
@@ -19,19 +17,19 @@ use Rattle.cli_maps.specs.Lines.{field_of}
 -- ---- places
 
 -- a position of the screen lies on this line and in this column of the map, both counted from 1
-abbrev pub is_in : Area → ℕ → ℕ → Bool
+abbrev pub is_in : Ground → ℕ → ℕ → Bool
 is_in area row column =
-    (nat_le area.top row && nat_lt row (area.top + area.extent.lines)) && (nat_le area.left column && nat_lt column (area.left + area.extent.columns))
+    (nat_le area.top row && nat_lt row (area.top + area.lines)) && (nat_le area.left column && nat_lt column (area.left + area.columns))
 
-abbrev pub spot_if : Bool → Area → ℕ → ℕ → Option (ℕ × ℕ)
+abbrev pub spot_if : Bool → Ground → ℕ → ℕ → Option (ℕ × ℕ)
 spot_if inside area row column = if inside then Some (row - area.top + 1, column - area.left + 1) else None
 
 -- the line and the column of the map at which a position of its screen lies, if it does
-abbrev pub spot_in : Area → ℕ → Option (ℕ × ℕ)
+abbrev pub spot_in : Ground → ℕ → Option (ℕ × ℕ)
 spot_in area cell = spot_if (is_in area (cell / area.screen.cols) (cell % area.screen.cols)) area (cell / area.screen.cols) (cell % area.screen.cols)
 
 -- the position after a field's last character, round the screen's end
-abbrev pub after_field : Map → Field → ℕ
+abbrev pub after_field : Sheet → Shown → ℕ
 after_field map field = (field.cell + field.length + 1) % (map.area.screen.rows * map.area.screen.cols)
 
 abbrev pub pos_text : ℕ × ℕ → List ℕ
@@ -70,16 +68,19 @@ abbrev pub missing_help : List ℕ
 missing_help = codes "correct POS or LENGTH of the field that covers its attribute, or follows it at once"
 
 -- a stopper alone has no label
-abbrev pub label_help : Field → List ℕ
+abbrev pub label_help : Shown → List ℕ
 label_help field = if field.length == 0 then [] else codes "give it a label, or "
 
-abbrev pub undeclared_help : Field → List ℕ
+abbrev pub undeclared_help : Shown → List ℕ
 undeclared_help field = label_help field ++ (codes "protect it by " ++ attrb_text 3 (field.attribute / 4 % 4))
 
-abbrev pub unset_help : Field → List ℕ
-unset_help field = codes "take FSET away by " ++ attrb_text (field.attribute / 16 % 4) (field.attribute / 4 % 4)
+abbrev pub unset_of : ℕ → List ℕ
+unset_of attribute = codes "take FSET away by " ++ attrb_text (attribute / 16 % 4) (attribute / 4 % 4)
 
-abbrev pub undeclared_fixed_help : Field → List ℕ
+abbrev pub unset_help : Shown → List ℕ
+unset_help field = unset_of field.attribute
+
+abbrev pub undeclared_fixed_help : Shown → List ℕ
 undeclared_fixed_help field = label_help field ++ unset_help field
 
 -- the macro that ends a field
@@ -87,21 +88,24 @@ abbrev pub stopper_help : ℕ × ℕ → List ℕ
 stopper_help spot = codes "end it by a stopper:\n         DFHMDF " ++ (pos_text spot ++ codes ",LENGTH=0,ATTRB=ASKIP")
 
 -- a stopper stands there
-abbrev pub is_stopper_at : ℕ → Field → Bool
+abbrev pub is_stopper_at : ℕ → Shown → Bool
 is_stopper_at cell field = (field.cell == cell) && (field.length == 0)
 
-abbrev pub stopper_at : Map → ℕ → Option Field
-stopper_at map cell = find (is_stopper_at cell) map.fields.items
+abbrev pub stopper_at : Sheet → ℕ → Option Shown
+stopper_at map cell = find (is_stopper_at cell) map.fields
 
-abbrev pub moved_help : ℕ × ℕ → Field → List ℕ
-moved_help spot stopper = codes "write " ++ (pos_text spot ++ (codes " at the stopper of line " ++ (decimal stopper.line ++ codes ", which stands a column too far")))
+abbrev pub moved_of : ℕ × ℕ → ℕ → List ℕ
+moved_of spot line = codes "write " ++ (pos_text spot ++ (codes " at the stopper of line " ++ (decimal line ++ codes ", which stands a column too far")))
 
-abbrev pub end_help : ℕ × ℕ → Option Field → List ℕ
+abbrev pub moved_help : ℕ × ℕ → Shown → List ℕ
+moved_help spot stopper = moved_of spot stopper.line
+
+abbrev pub end_help : ℕ × ℕ → Option Shown → List ℕ
 end_help spot None = stopper_help spot
 end_help spot (Some stopper) = moved_help spot stopper
 
 -- it ends where the map has this place, before a stopper a column too far if there is one
-abbrev pub too_long_help : Map → Field → Option (ℕ × ℕ) → List ℕ
+abbrev pub too_long_help : Sheet → Shown → Option (ℕ × ℕ) → List ℕ
 too_long_help map field None = codes "no place of the map comes after it for a stopper: write a smaller LENGTH, or a larger SIZE"
 too_long_help map field (Some spot) = end_help spot (stopper_at map (after_field map field + 1))
 
@@ -110,21 +114,21 @@ abbrev pub behind : Option (ℕ × ℕ) → List ℕ
 behind None = []
 behind (Some spot) = codes " to " ++ (pos_text spot ++ codes " or behind")
 
-abbrev pub moved_behind : Map → Field → List ℕ
+abbrev pub moved_behind : Sheet → Shown → List ℕ
 moved_behind map other = codes "move it" ++ (behind (spot_in map.area (after_field map other)) ++ (codes ", or write a smaller LENGTH of " ++ label_text other))
 
-abbrev pub overlap_help : Map → Option Field → List ℕ
+abbrev pub overlap_help : Sheet → Option Shown → List ℕ
 overlap_help map None = codes "move it"
 overlap_help map (Some other) = moved_behind map other
 
 abbrev pub past_help : ℕ → List ℕ
 past_help by = codes "write a LENGTH that is smaller by " ++ (decimal by ++ codes ", or a larger SIZE")
 
-abbrev pub overlaps_help : Map → Overlap → List ℕ
-overlaps_help map (Overlaps index other) = overlap_help map (slice_get map.fields.items other)
+abbrev pub overlaps_help : Sheet → Overlap → List ℕ
+overlaps_help map (Overlaps index other) = overlap_help map (slice_get map.fields other)
 overlaps_help map (PastEnd index by) = past_help by
 
-abbrev pub field_help : Map → Field → Finding → Option (List ℕ)
+abbrev pub field_help : Sheet → Shown → Finding → Option (List ℕ)
 field_help map field (Undeclared place demo) = Some (undeclared_help field)
 field_help map field (UndeclaredFixed place demo) = Some (undeclared_fixed_help field)
 field_help map field (Missing index) = Some missing_help
@@ -132,13 +136,13 @@ field_help map field (TooLong found) = Some (too_long_help map field (spot_in ma
 field_help map field (EmptyModified place) = Some (unset_help field)
 field_help map field finding = None
 
-abbrev pub finding_help : Map → Option Field → Finding → Option (List ℕ)
+abbrev pub finding_help : Sheet → Option Shown → Finding → Option (List ℕ)
 finding_help map field KeyboardLocked = Some locked_help
 finding_help map field Unformatted = Some unformatted_help
 finding_help map None finding = None
 finding_help map (Some field) finding = field_help map field finding
 
 -- the change that ends a finding
-abbrev pub help_of : Map → List Declared → MapFinding → Option (List ℕ)
+abbrev pub help_of : Sheet → List Declared → MapFinding → Option (List ℕ)
 help_of map entries (Overlapping overlap) = Some (overlaps_help map overlap)
 help_of map entries (Found finding) = finding_help map (field_of map entries (Found finding)) finding

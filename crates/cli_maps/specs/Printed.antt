@@ -5,7 +5,7 @@ use Rattle.ds_codec.specs.Reading.{◌>>=◌}
 use Rattle.bms_source.specs.Rows.{lines_in}
 use Rattle.bms_source.specs.declared.refusal.Why.TheVariants.{SeveralMaps}
 use Rattle.bms_source.specs.Told.{Told}
-use Rattle.bms_map.specs.declared.map.Map.{Map}
+use Rattle.bms_map.specs.Maps.{Sheet}
 use Rattle.bms_map.specs.declared.record.Control.{Control}
 use Rattle.bms_map.specs.LayoutText.{layout_text}
 use Rattle.term_commands.specs.declared.fault.Fault.{Fault}
@@ -41,26 +41,26 @@ use Rattle.cli_maps.specs.Told.{all_told, record_line, record_told, text_told, j
 -- ---- map
 
 -- the layout of the one map
-abbrev pub layout_told : List Map → Result Printed Fault
+abbrev pub layout_told : List Sheet → Result Printed Fault
 layout_told [] = Ok (refused (without SeveralMaps))
 layout_told (it ∷ []) = Ok (printed (layout_text it) Done)
 layout_told (it ∷ other ∷ maps) = Ok (refused (without SeveralMaps))
 
-abbrev pub mapped : Form → Control → List Map → Result Printed Fault
+abbrev pub mapped : Form → Control → List Sheet → Result Printed Fault
 mapped forms.Records control maps = all_told (record_told control) maps
 mapped forms.Layout control maps = layout_told maps
 
 -- what `map` prints of a reading
-abbrev pub map_told : Form → Option (List ℕ) → Control → Result (List Map) Told → Result Printed Fault
+abbrev pub map_told : Form → Option (List ℕ) → Control → Result (List Sheet) Told → Result Printed Fault
 map_told form name control told = or_refused (mapped form control) (maps_asked name told)
 
 -- what `map` answers to a source that is read so
-abbrev pub map_source : Form → Option (List ℕ) → Control → List ℕ → Result (List Map) Told → Result Printed Fault
+abbrev pub map_source : Form → Option (List ℕ) → Control → List ℕ → Result (List Sheet) Told → Result Printed Fault
 map_source form name control input told = within_limit input >>= λ text. map_told form name control told
 
 -- ---- check --map
 
-abbrev pub checked : Reported → Control → List ℕ → List Map → Result Printed Fault
+abbrev pub checked : Reported → Control → List ℕ → List Sheet → Result Printed Fault
 checked as_text control text maps = all_told (text_told control) maps
 checked (as_json path) control text maps = all_told (json_told path (lines_in text) control) maps
 checked (as_log path) control text maps = log_told path (lines_in text) control maps
@@ -84,30 +84,30 @@ or_faulted as_text (Err fault) = Err fault
 or_faulted (as_json path) (Err fault) = Ok (refused_json path (refusal_region None) (fault_text fault))
 or_faulted (as_log path) (Err fault) = Ok (refused_log path (refusal_region None) (fault_text fault))
 
-abbrev pub or_refused_in : Reported → (List Map → Result Printed Fault) → Result (List Map) Told → Result Printed Fault
+abbrev pub or_refused_in : Reported → (List Sheet → Result Printed Fault) → Result (List Sheet) Told → Result Printed Fault
 or_refused_in report answer (Ok maps) = answer maps
 or_refused_in report answer (Err told) = Ok (refused_in report told)
 
 -- what `check --map` prints of a reading of a text
-abbrev pub check_told : Reported → Option (List ℕ) → Control → List ℕ → Result (List Map) Told → Result Printed Fault
+abbrev pub check_told : Reported → Option (List ℕ) → Control → List ℕ → Result (List Sheet) Told → Result Printed Fault
 check_told report name control text told = or_refused_in report (checked report control text) (maps_asked name told)
 
-abbrev pub check_limited : Reported → Option (List ℕ) → Control → Result (List ℕ) Fault → Result (List Map) Told → Result Printed Fault
+abbrev pub check_limited : Reported → Option (List ℕ) → Control → Result (List ℕ) Fault → Result (List Sheet) Told → Result Printed Fault
 check_limited report name control input told = input >>= λ text. check_told report name control text told
 
 -- what it answers to a source that is read so; a fault of the input is reported too
-abbrev pub check_source : Reported → Option (List ℕ) → Control → List ℕ → Result (List Map) Told → Result Printed Fault
+abbrev pub check_source : Reported → Option (List ℕ) → Control → List ℕ → Result (List Sheet) Told → Result Printed Fault
 check_source report name control input told = or_faulted report (check_limited report name control (within_limit input) told)
 
 -- ---- show --map, draft --map
 
 -- the line of the sizes, and the record
-abbrev pub sized_record : Map → List ℕ → List ℕ
+abbrev pub sized_record : Sheet → List ℕ → List ℕ
 sized_record it bytes =
     codes "size 24x80 " ++ (decimal it.area.screen.rows ++ (codes "x" ++ (decimal it.area.screen.cols ++ (codes "\n" ++ record_line bytes))))
 
 -- the screen of a map's record, with the names of its layout where it is drawn; or the layout that is drafted from it
-abbrev pub rendered : Rendering → Map → List ℕ → Result Printed Fault
+abbrev pub rendered : Rendering → Sheet → List ℕ → Result Printed Fault
 rendered renderings.Text it bytes = show (sized_record it bytes)
 rendered renderings.Json it bytes = pictured drawings.Json (sized_record it bytes)
 rendered renderings.Svg it bytes = annotated annotations.Svg (layout_text it) (record_line bytes)
@@ -115,30 +115,30 @@ rendered renderings.Html it bytes = annotated annotations.Html (layout_text it) 
 rendered renderings.Draft it bytes = draft (sized_record it bytes)
 
 -- that of the one map
-abbrev pub one_rendered : Rendering → Control → List Map → Result Printed Fault
+abbrev pub one_rendered : Rendering → Control → List Sheet → Result Printed Fault
 one_rendered rendering control [] = Ok (refused (without SeveralMaps))
 one_rendered rendering control (it ∷ []) = record_due control it >>= rendered rendering it
 one_rendered rendering control (it ∷ other ∷ maps) = Ok (refused (without SeveralMaps))
 
 -- what `show --map` and `draft --map` print of a reading
-abbrev pub render_told : Rendering → Option (List ℕ) → Control → Result (List Map) Told → Result Printed Fault
+abbrev pub render_told : Rendering → Option (List ℕ) → Control → Result (List Sheet) Told → Result Printed Fault
 render_told rendering name control told = or_refused (one_rendered rendering control) (maps_asked name told)
 
 -- what they answer to a source that is read so
-abbrev pub render_source : Rendering → Option (List ℕ) → Control → List ℕ → Result (List Map) Told → Result Printed Fault
+abbrev pub render_source : Rendering → Option (List ℕ) → Control → List ℕ → Result (List Sheet) Told → Result Printed Fault
 render_source rendering name control input told = within_limit input >>= λ text. render_told rendering name control told
 
 -- ---- over streams
 
 -- the text is that of some reading of the source, as is the status, unless a read or a write failed or memory was refused
-abbrev pub PrintsRead : (Result (List Map) Told → Result Printed Fault) → Option (List ℕ) → Option (List ℕ) → ℕ → ℕ → Status → Type 0
+abbrev pub PrintsRead : (Result (List Sheet) Told → Result Printed Fault) → Option (List ℕ) → Option (List ℕ) → ℕ → ℕ → Status → Type 0
 PrintsRead due held left old new status =
-    (told : Result (List Map) Told) × Prints held left status (printed_or_fault (due told)) × EndsBy old new (printed_or_fault (due told)).status status
+    (told : Result (List Sheet) Told) × Prints held left status (printed_or_fault (due told)) × EndsBy old new (printed_or_fault (due told)).status status
 
 -- the answer is that of some reading of the source, or a read failed
-abbrev pub AnswersRead : (Result (List Map) Told → Result Printed Fault) → Result Answer CommandError → Type 0
-AnswersRead due answer = (told : Result (List Map) Told) × GivesOrFails answer_seen answer (due told)
+abbrev pub AnswersRead : (Result (List Sheet) Told → Result Printed Fault) → Result Answer CommandError → Type 0
+AnswersRead due answer = (told : Result (List Sheet) Told) × GivesOrFails answer_seen answer (due told)
 
 -- the same of a text
-abbrev pub GivesRead : (Result (List Map) Told → Result Printed Fault) → Result Answer CommandError → Type 0
-GivesRead due answer = (told : Result (List Map) Told) × Gives answer_seen answer (due told)
+abbrev pub GivesRead : (Result (List Sheet) Told → Result Printed Fault) → Result Answer CommandError → Type 0
+GivesRead due answer = (told : Result (List Sheet) Told) × Gives answer_seen answer (due told)

@@ -2,7 +2,7 @@
 use Rattle.std.specs.Prelude.{ℕ, List, [], ◌∷◌, ◌++◌, codes, map}
 use Rattle.serde_json.specs.Data.{Data, string, array, object, item, no_items, member, no_members}
 use Rattle.serde_json.specs.View.{items_of}
-use Rattle.bms_map.specs.declared.map.Map.{Map}
+use Rattle.bms_map.specs.Maps.{Sheet}
 use Rattle.scr_layout.specs.Entry.{Declared}
 use Rattle.term_findings.specs.declared.region.Region.{Region}
 use Rattle.term_findings.specs.Lines.{data_line}
@@ -22,14 +22,14 @@ result_data id index path region text =
     (member (codes "message") (message_data text) (member (codes "ruleId") (string id) (member (codes "ruleIndex") (count index) no_members)))))
 
 -- what is found, and what to do
-abbrev pub message_of : Map → List Declared → MapFinding → List ℕ
+abbrev pub message_of : Sheet → List Declared → MapFinding → List ℕ
 message_of it entries finding = map_words it entries finding ++ help_end (help_of it entries finding)
 
-abbrev pub finding_result : List ℕ → List (List ℕ) → Map → List Declared → MapFinding → Data
+abbrev pub finding_result : List ℕ → List (List ℕ) → Sheet → List Declared → MapFinding → Data
 finding_result path lines it entries finding =
     result_data (id_of finding) (index_of finding) path (macro_region lines (line_of it (field_of it entries finding))) (message_of it entries finding)
 
-abbrev pub results_of : List ℕ → List (List ℕ) → Map → Judged → List Data
+abbrev pub results_of : List ℕ → List (List ℕ) → Sheet → Judged → List Data
 results_of path lines it judged = map (finding_result path lines it judged.layout.entries) judged.findings
 
 abbrev pub refused_result : List ℕ → Region → List ℕ → Data

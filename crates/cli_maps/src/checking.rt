@@ -3,7 +3,7 @@
 ghost use Rattle.std.specs.Prelude.{◌≡◌, ◌≤◌, ◌+◌, ℕ, Result as AResult, List, IfOk, IfSome, length, Err};
 ghost use Rattle.bms_source.specs.Results.{Gives as GivesMaps};
 ghost use Rattle.bms_source.specs.Told.{Told};
-ghost use Rattle.bms_map.specs.declared.map.Map.{Map as AMap};
+ghost use Rattle.bms_map.specs.Maps.{Sheet};
 ghost use Rattle.term_commands.specs.Causes.{ToldBy};
 ghost use Rattle.term_commands.specs.Fault.{Gives, GivesOrFails};
 ghost use Rattle.term_commands.specs.Held.{answer_seen};
@@ -116,11 +116,7 @@ fn refused_log(
 }
 
 /// What is printed for a source that is refused, in a form.
-fn refused_in(
-    alloc: Global,
-    report: Report<'_>,
-    refusal: &Refusal,
-) -> Result<Answer, AllocError>
+fn refused_in(alloc: Global, report: Report<'_>, refusal: &Refusal) -> Result<Answer, AllocError>
     ensures { IfOk result (λ answer. answer_seen answer ≡ refused_in (report_seen report.entry) refusal.now) }
 {
     let region = refusal_region(refusal.place);
@@ -139,7 +135,7 @@ fn checked_or_refused(
     source: &[u8],
     maps: Result<Vec<Map>, SourceError>,
 ) -> Result<Answer, CommandError>
-    ensures { (due : AResult (List AMap) Told) → GivesMaps (λ maps. maps.items) maps due
+    ensures { (due : AResult (List Sheet) Told) → GivesMaps (λ maps. maps.items) maps due
         → Gives answer_seen result (or_refused_in (report_seen report.entry) (checked (report_seen report.entry) control source.now) due) }
 {
     match maps {

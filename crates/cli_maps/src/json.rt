@@ -92,7 +92,7 @@ fn put_words(
 }
 
 fn name_text(alloc: Global, map: &Map) -> Result<String, AllocError>
-    ensures { IfOk result (λ text. string_bytes text ≡ printed_codes map.now.name.items) }
+    ensures { IfOk result (λ text. string_bytes text ≡ printed_codes map.now.name) }
 {
     let mut name = String::new(alloc);
     push_codes(&mut name, map.name.as_slice())?;
@@ -100,11 +100,7 @@ fn name_text(alloc: Global, map: &Map) -> Result<String, AllocError>
 }
 
 /// What people call a field.
-fn put_label(
-    alloc: Global,
-    members: &mut Members,
-    field: Option<&Field>,
-) -> Result<(), AllocError>
+fn put_label(alloc: Global, members: &mut Members, field: Option<&Field>) -> Result<(), AllocError>
     ensures { OnOk result (members_view members.new.entries ≡ with_text (codes "field")
         (option_map (λ field. label_text field.now) field.entry) (members_view members.old.entries)) }
 {

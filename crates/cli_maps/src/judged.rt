@@ -74,11 +74,7 @@ fn push_each(found: &mut Vec<MapFinding>, overlaps: &[Overlap]) -> Result<(), Al
 }
 
 /// Adds what no record shows.
-fn push_overlaps(
-    alloc: Global,
-    found: &mut Vec<MapFinding>,
-    map: &Map,
-) -> Result<(), AllocError>
+fn push_overlaps(alloc: Global, found: &mut Vec<MapFinding>, map: &Map) -> Result<(), AllocError>
     ensures { OnOk result (found.new.items ≡ found.old.items
         ++ all_of (λ overlap. MapFinding.Overlapping overlap) (overlaps_of map.now)) }
 {

@@ -3,7 +3,7 @@
 ghost use Rattle.std.specs.Prelude.{◌≡◌, ◌≤◌, ◌+◌, Result as AResult, List, IfSome, length};
 ghost use Rattle.bms_source.specs.Results.{Gives as GivesMaps};
 ghost use Rattle.bms_source.specs.Told.{Told};
-ghost use Rattle.bms_map.specs.declared.map.Map.{Map as AMap};
+ghost use Rattle.bms_map.specs.Maps.{Sheet};
 ghost use Rattle.term_commands.specs.Causes.{ToldBy};
 ghost use Rattle.term_commands.specs.Fault.{Gives};
 ghost use Rattle.term_commands.specs.Held.{answer_seen};
@@ -35,12 +35,7 @@ fn layout_told(alloc: Global, maps: &[Map]) -> Result<Answer, CommandError>
     }
 }
 
-fn mapped(
-    alloc: Global,
-    form: Form,
-    control: Control,
-    maps: &[Map],
-) -> Result<Answer, CommandError>
+fn mapped(alloc: Global, form: Form, control: Control, maps: &[Map]) -> Result<Answer, CommandError>
     ensures { Gives answer_seen result (mapped form control maps.now) }
 {
     match form {
@@ -56,7 +51,7 @@ fn mapped_or_refused(
     control: Control,
     maps: Result<Vec<Map>, SourceError>,
 ) -> Result<Answer, CommandError>
-    ensures { (due : AResult (List AMap) Told) → GivesMaps (λ maps. maps.items) maps due
+    ensures { (due : AResult (List Sheet) Told) → GivesMaps (λ maps. maps.items) maps due
         → Gives answer_seen result (or_refused (mapped form control) due) }
 {
     match maps {

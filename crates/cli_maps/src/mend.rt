@@ -3,7 +3,8 @@
 ghost use Rattle.std.specs.Prelude.{◌≡◌, ◌++◌, option_map, slice_get, IfOk, OnOk, Some};
 ghost use Rattle.std.specs.List.{find};
 ghost use Rattle.std.specs.String.{string_bytes};
-ghost use Rattle.cli_maps.specs.Mend.{after_field, attrb_text, behind, end_help, field_help, finding_help, help_of, is_in, is_stopper_at, is_word, label_help, look_words, moved_behind, moved_help, overlap_help, overlaps_help, past_help, pos_text, protection_words, spot_if, spot_in, stopper_at, stopper_help, too_long_help, undeclared_fixed_help, undeclared_help, unset_help};
+ghost use Rattle.bms_map.specs.Maps.{its_ground};
+ghost use Rattle.cli_maps.specs.Mend.{after_field, attrb_text, behind, end_help, field_help, finding_help, help_of, is_in, is_stopper_at, is_word, label_help, look_words, moved_behind, moved_help, overlap_help, overlaps_help, past_help, pos_text, protection_words, spot_if, spot_in, stopper_at, stopper_help, too_long_help, undeclared_fixed_help, undeclared_help, unset_help, unset_of, moved_of};
 
 use crate::judged::MapFinding;
 use crate::lines::field_of;
@@ -17,7 +18,7 @@ type Spot = (u32, u32);
 
 /// Whether a position of the screen lies in the map.
 fn is_in(area: Area, row: u32, column: u32) -> bool
-    ensures { result ≡ is_in area row column }
+    ensures { result ≡ is_in (its_ground area) row column }
 {
     let top = u32::from(area.top);
     let left = u32::from(area.left);
@@ -28,7 +29,7 @@ fn is_in(area: Area, row: u32, column: u32) -> bool
 
 /// The line and the column of the map at which a position of its screen lies, if it does.
 fn spot_in(area: Area, cell: u32) -> Option<Spot>
-    ensures { result ≡ spot_in area cell }
+    ensures { result ≡ spot_in (its_ground area) cell }
 {
     let row = cell / u32::from(area.screen.cols);
     let column = cell % u32::from(area.screen.cols);
@@ -119,11 +120,17 @@ fn undeclared_help(alloc: Global, field: &Field) -> Result<String, AllocError>
     Ok(text)
 }
 
+fn push_unset_of(out: &mut String, attribute: u8) -> Result<(), AllocError>
+    ensures { OnOk result (string_bytes out.new ≡ string_bytes out.old ++ unset_of attribute) }
+{
+    out.push_str("take FSET away by ")?;
+    push_attrb(out, attribute / 16 % 4, attribute / 4 % 4)
+}
+
 fn push_unset(out: &mut String, field: &Field) -> Result<(), AllocError>
     ensures { OnOk result (string_bytes out.new ≡ string_bytes out.old ++ unset_help field.now) }
 {
-    out.push_str("take FSET away by ")?;
-    push_attrb(out, field.attribute / 16 % 4, field.attribute / 4 % 4)
+    push_unset_of(out, field.attribute)
 }
 
 fn unset_help(alloc: Global, field: &Field) -> Result<String, AllocError>
@@ -170,14 +177,23 @@ fn stopper_at(map: &Map, cell: u32) -> Option<&Field>
     None
 }
 
-fn moved_help(alloc: Global, spot: Spot, stopper: &Field) -> Result<String, AllocError>
-    ensures { IfOk result (λ text. string_bytes text ≡ moved_help spot stopper.now) }
+/// The same of a stopper on this line.
+fn moved_of(alloc: Global, spot: Spot, line: usize) -> Result<String, AllocError>
+    ensures { IfOk result (λ text. string_bytes text ≡ moved_of spot line) }
 {
     let mut text = String::from_str(alloc, "write ")?;
     push_pos(&mut text, spot)?;
-    let line = stopper.line;
-    write!(text, " at the stopper of line {line}, which stands a column too far")?;
+    write!(
+        text,
+        " at the stopper of line {line}, which stands a column too far"
+    )?;
     Ok(text)
+}
+
+fn moved_help(alloc: Global, spot: Spot, stopper: &Field) -> Result<String, AllocError>
+    ensures { IfOk result (λ text. string_bytes text ≡ moved_help spot stopper.now) }
+{
+    moved_of(alloc, spot, stopper.line)
 }
 
 fn end_help(alloc: Global, spot: Spot, stopper: Option<&Field>) -> Result<String, AllocError>

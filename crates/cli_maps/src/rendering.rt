@@ -4,7 +4,7 @@ ghost use Rattle.std.specs.Prelude.{◌≡◌, ◌≤◌, ◌+◌, ◌++◌, Res
 ghost use Rattle.std.specs.String.{string_bytes};
 ghost use Rattle.bms_source.specs.Results.{Gives as GivesMaps};
 ghost use Rattle.bms_source.specs.Told.{Told};
-ghost use Rattle.bms_map.specs.declared.map.Map.{Map as AMap};
+ghost use Rattle.bms_map.specs.Maps.{Sheet};
 ghost use Rattle.bms_map.specs.LayoutText.{layout_text};
 ghost use Rattle.term_commands.specs.Causes.{ToldBy};
 ghost use Rattle.term_commands.specs.Fault.{Gives};
@@ -128,7 +128,7 @@ fn rendered_or_refused(
     control: Control,
     maps: Result<Vec<Map>, SourceError>,
 ) -> Result<Answer, CommandError>
-    ensures { (due : AResult (List AMap) Told) → GivesMaps (λ maps. maps.items) maps due
+    ensures { (due : AResult (List Sheet) Told) → GivesMaps (λ maps. maps.items) maps due
         → Gives answer_seen result (or_refused (one_rendered rendering control) due) }
 {
     match maps {

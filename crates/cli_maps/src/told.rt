@@ -4,7 +4,7 @@ ghost use Rattle.std.specs.Prelude.{◌≡◌, ◌<◌, ◌^◌, length, List, R
 ghost use Rattle.std.specs.List.{filter};
 ghost use Rattle.bms_source.specs.Results.{Gives};
 ghost use Rattle.bms_source.specs.Told.{Told};
-ghost use Rattle.bms_map.specs.declared.map.Map.{Map as AMap};
+ghost use Rattle.bms_map.specs.Maps.{Sheet};
 ghost use Rattle.cli_maps.specs.Asked.{is_asked, is_name, maps_asked, name_in, named, without};
 
 use bms_map::{Map, read_maps};
@@ -45,11 +45,7 @@ pub(crate) fn without_place(alloc: Global, why: Why) -> Refusal
 }
 
 /// Those of a name.
-fn those_asked(
-    alloc: Global,
-    maps: Vec<Map>,
-    name: Option<&[u8]>,
-) -> Result<Vec<Map>, AllocError>
+fn those_asked(alloc: Global, maps: Vec<Map>, name: Option<&[u8]>) -> Result<Vec<Map>, AllocError>
     ensures { IfOk result (λ asked. asked.items ≡ filter (is_asked (name_in name.entry)) maps.items) }
 {
     let mut asked = Vec::new(alloc);
@@ -83,7 +79,7 @@ pub(crate) fn maps_asked(
     name: Option<&[u8]>,
 ) -> Result<Vec<Map>, SourceError>
     requires { length source.now < 2 ^ 62 }
-    ensures { (told : AResult (List AMap) Told)
+    ensures { (told : AResult (List Sheet) Told)
         × Gives (λ maps. maps.items) result (maps_asked (name_in name.entry) told) }
 {
     match read_maps(alloc, source) {

@@ -1,6 +1,5 @@
 use Rattle.std.proofs.Common.{ℕ, List, subst}
 use Rattle.ds_codec.specs.Reading.{◌>>=◌}
-use Rattle.term_commands.specs.Lines.{within_limit}
 use Rattle.cli_maps.specs.Asked.{name_in}
 use Rattle.cli_maps.specs.Printed.{GivesRead, map_source, map_told}
 use Rattle.cli_maps.proofs.Read.{read_fails, read_on}
