@@ -117,7 +117,8 @@ fn refused_log(
 
 /// What is printed for a source that is refused, in a form.
 fn refused_in(alloc: Global, report: Report<'_>, refusal: &Refusal) -> Result<Answer, AllocError>
-    ensures { IfOk result (λ answer. answer_seen answer ≡ refused_in (report_seen report.entry) refusal.now) }
+    ensures { IfOk result (λ answer. answer_seen answer
+        ≡ refused_in (report_seen report.entry) refusal.now) }
 {
     let region = refusal_region(refusal.place);
     match report {

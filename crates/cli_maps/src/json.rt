@@ -236,7 +236,8 @@ fn push_findings(
     terminal: Option<&Terminal<PlaneCells>>,
     findings: &[MapFinding],
 ) -> Result<(), AllocError>
-    ensures { OnOk result (string_bytes out.new ≡ string_bytes out.old ++ flat_map (finding_line path.now
+    ensures { OnOk result (string_bytes out.new ≡ string_bytes out.old
+        ++ flat_map (finding_line path.now
         (all_of (λ line. line.now) lines.now) map.now layout.now (option_map (λ t. t.now) terminal.entry)) findings.now) }
 {
     for finding in findings {

@@ -46,7 +46,8 @@ pub(crate) fn without_place(alloc: Global, why: Why) -> Refusal
 
 /// Those of a name.
 fn those_asked(alloc: Global, maps: Vec<Map>, name: Option<&[u8]>) -> Result<Vec<Map>, AllocError>
-    ensures { IfOk result (λ asked. asked.items ≡ filter (is_asked (name_in name.entry)) maps.items) }
+    ensures { IfOk result (λ asked. asked.items
+        ≡ filter (is_asked (name_in name.entry)) maps.items) }
 {
     let mut asked = Vec::new(alloc);
     for map in maps {
