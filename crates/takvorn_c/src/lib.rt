@@ -2,7 +2,7 @@
 //! `include/takvorn.h` declares them. The caller passes nothing for `alloc`; a slice is a pointer and a length.
 #![tactic(auto)]
 
-ghost use Rattle.std.specs.Prelude.{◌≡◌, map};
+ghost use Rattle.std.specs.Prelude.{◌≡◌, map, pos};
 ghost use Rattle.term_binds.specs.Bind.{printed_bind};
 ghost use Rattle.term_commands.specs.Back.{printed_back};
 ghost use Rattle.term_commands.specs.Check.{printed_check};
@@ -294,6 +294,23 @@ pub extern "C" fn takvorn_origins(
     i32::from(leave(alloc, origins_text(alloc, layout, records), out, needed))
 }
 
+/// The records of a side, and the status.
+fn records_left(
+    alloc: Global,
+    trace: &[u8],
+    stream: bool,
+    answers: bool,
+    out: &mut [u8],
+    needed: &mut usize,
+) -> u8
+    ensures { LeavesRecords (asked_of stream answers) trace.now out.old out.new needed.new
+        (pos result) }
+{
+    let asked = asked_of(stream, answers);
+    let told = records_text(alloc, asked, trace);
+    leave_records(told, out, needed)
+}
+
 /// `records`: the records of a side of a session that was traced, or captured as a stream.
 #[unsafe(no_mangle)]
 pub extern "C" fn takvorn_records(
@@ -306,8 +323,7 @@ pub extern "C" fn takvorn_records(
 ) -> i32
     ensures { LeavesRecords (asked_of stream answers) trace.now out.old out.new needed.new result }
 {
-    let told = records_text(alloc, asked_of(stream, answers), trace);
-    i32::from(leave_records(told, out, needed))
+    i32::from(records_left(alloc, trace, stream, answers, out, needed))
 }
 
 /// The map of a name; all where it is empty.
@@ -336,6 +352,48 @@ fn control_of(freekb: bool, frset: bool) -> Control
     }
 }
 
+/// What is asked of maps.
+fn maps_asked(name: &[u8], freekb: bool, frset: bool) -> MapsAsked<'_>
+    ensures name { name_in result.name ≡ name_of name.now }
+    ensures control { result.control ≡ control_of freekb frset }
+{
+    MapsAsked {
+        name: name_of(name),
+        control: control_of(freekb, frset),
+    }
+}
+
+/// What `map` answers, and the status.
+fn map_left(
+    alloc: Global,
+    source: &[u8],
+    asked: MapsAsked<'_>,
+    form: MapForm,
+    out: &mut [u8],
+    needed: &mut usize,
+) -> u8
+    ensures { LeavesRead (map_source form (name_in asked.entry.name) asked.entry.control source.now)
+        out.old out.new needed.new (pos result) }
+{
+    let answer = map_text(alloc, source, asked, form);
+    leave_read(alloc, answer, out, needed)
+}
+
+/// What `check --map` answers, and the status.
+fn check_left(
+    alloc: Global,
+    source: &[u8],
+    asked: MapsAsked<'_>,
+    out: &mut [u8],
+    needed: &mut usize,
+) -> u8
+    ensures { LeavesRead (check_source as_text (name_in asked.entry.name) asked.entry.control
+        source.now) out.old out.new needed.new (pos result) }
+{
+    let answer = check_map_text(alloc, MapReport::Text, source, asked);
+    leave_read(alloc, answer, out, needed)
+}
+
 /// `map`: the records of BMS maps, or with `layout` the layout of one.
 #[unsafe(no_mangle)]
 pub extern "C" fn takvorn_map(
@@ -351,12 +409,15 @@ pub extern "C" fn takvorn_map(
     ensures { LeavesRead (map_source (map_form_of layout) (name_of name.now)
         (control_of freekb frset) source.now) out.old out.new needed.new result }
 {
-    let asked = MapsAsked {
-        name: name_of(name),
-        control: control_of(freekb, frset),
-    };
-    let answer = map_text(alloc, source, asked, map_form_of(layout));
-    i32::from(leave_read(alloc, answer, out, needed))
+    let form = map_form_of(layout);
+    i32::from(map_left(
+        alloc,
+        source,
+        maps_asked(name, freekb, frset),
+        form,
+        out,
+        needed,
+    ))
 }
 
 /// `check --map`: for each map `yes`, or what stands against it.
@@ -373,10 +434,5 @@ pub extern "C" fn takvorn_check_map(
     ensures { LeavesRead (check_source as_text (name_of name.now) (control_of freekb frset)
         source.now) out.old out.new needed.new result }
 {
-    let asked = MapsAsked {
-        name: name_of(name),
-        control: control_of(freekb, frset),
-    };
-    let answer = check_map_text(alloc, MapReport::Text, source, asked);
-    i32::from(leave_read(alloc, answer, out, needed))
+    i32::from(check_left(alloc, source, maps_asked(name, freekb, frset), out, needed))
 }
