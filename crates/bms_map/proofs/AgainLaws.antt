@@ -58,7 +58,7 @@ abbrev AllValid : List Item → Type 0
 AllValid [] = Unit {0}
 AllValid (item ∷ items) = IsValidItem item × AllValid items
 
-valid_at : (items : List Item) → AllValid items → AreValid items
+pub valid_at : (items : List Item) → AllValid items → AreValid items
 valid_at [] all zero = tt
 valid_at [] all (suc k) = tt
 valid_at (item ∷ items) all zero = all.0
@@ -94,7 +94,7 @@ valid_field cursor field = (
   ),
 )
 
-valid_fields : (cursor : Option ℕ) (fields : List Shown) → AllValid (flat_map (field_orders cursor) fields)
+pub valid_fields : (cursor : Option ℕ) (fields : List Shown) → AllValid (flat_map (field_orders cursor) fields)
 valid_fields cursor [] = tt
 valid_fields cursor (field ∷ fields) = valid_append (field_orders cursor field) (flat_map (field_orders cursor) fields) (valid_field cursor field) (valid_fields cursor fields)
 

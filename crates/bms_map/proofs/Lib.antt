@@ -9,3 +9,5 @@ pub mod AgainLaws
 pub mod InOrderLaws
 pub mod TextsLaws
 pub mod PairLaws
+pub mod FitLaws
+pub mod WrittenLaws

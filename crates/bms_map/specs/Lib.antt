@@ -14,3 +14,4 @@ pub mod Fields
 pub mod Source
 pub mod Mapset
 pub mod Laws
+pub mod Fit

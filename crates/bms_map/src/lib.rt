@@ -7,6 +7,7 @@ mod field;
 mod fields;
 mod groups;
 mod keyword;
+mod laws;
 mod layout;
 mod list;
 mod lookup;
@@ -28,6 +29,7 @@ mod values;
 
 pub use bits::Bits;
 pub use field::{Field, Later, Looks};
+pub use laws::{maps_are_fit, records_are_written};
 pub use layout::{layout_text, push_label};
 pub use map::Map;
 pub use mapset::read_maps;
