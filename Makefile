@@ -6,7 +6,7 @@
 # make edits  tries every edit that the prover must refuse, of all crates or, with CRATE=ds_codec, of one
 # make bench  times the program beside plain Rust, and calls of the C library beside the program
 # make c      builds the C library: out/libtakvorn.a, out/libtakvorn.so and out/takvorn.pc (docs/LIBRARY.md)
-# make page   makes the checker for a browser, which is begun and not yet tried (docs/PAGE.md)
+# make page   makes the checker for a browser, dist/takvorn.html, and the module that it stands on (docs/PAGE.md)
 # make install PREFIX=/usr/local   puts the program, the C library with its header, the manual page and the completions
 #             below PREFIX; with DESTDIR=FOLDER below that folder, for a package
 # make dist   packs what make install puts, with the documents and examples: dist/takvorn-VERSION-linux-x86_64.tar.gz and,

@@ -307,7 +307,8 @@ class Page {
 
   /** @param {import("./work.mjs").Field} field */
   fieldWords(field) {
-    const looks = [field.protected ? "protected" : "input", field.numeric && "numeric", field.hidden && "hidden", field.intensified && "intensified", field.modified && "modified"];
+    const kind = field.protected ? (field.numeric ? "protected, skipped" : "protected") : field.numeric ? "input, numeric" : "input";
+    const looks = [kind, field.hidden && "hidden", field.intensified && "intensified", field.modified && "modified"];
     return `field at ${field.place}, ${field.length} cells, ${looks.filter(Boolean).join(", ")}`;
   }
 
@@ -439,7 +440,7 @@ function connect(page) {
 function connectScreen(page) {
   const screen = at("screen");
   screen.addEventListener("keydown", (event) => {
-    if (event.key === "Escape") return at("step").focus();
+    if (event.key === "Escape") return at("keyboard").querySelector("button")?.focus();
     const lines = linesOfKey(event, page.work.codes);
     if (lines.length === 0) return;
     event.preventDefault();

@@ -21,8 +21,16 @@ function toLetters(bytes) {
   return btoa(letters).replace(/\+/g, "-").replace(/\//g, "_").replace(/=+$/, "");
 }
 
+/** @param {string} letters the letters of base64 (RFC 4648, section 4) */
+export function bytesOfLetters(letters) {
+  const text = atob(letters);
+  const bytes = new Uint8Array(text.length);
+  for (let index = 0; index < text.length; index += 1) bytes[index] = text.charCodeAt(index);
+  return bytes;
+}
+
 /** @param {string} letters */
-const fromLetters = (letters) => Uint8Array.from(atob(letters.replace(/-/g, "+").replace(/_/g, "/")), (letter) => letter.charCodeAt(0));
+const fromLetters = (letters) => bytesOfLetters(letters.replace(/-/g, "+").replace(/_/g, "/"));
 
 /**
  * The fragment of a state, `#1` and its letters.
