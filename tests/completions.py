@@ -75,8 +75,10 @@ class Shell:
         for file in (self.line, self.offered):
             file.unlink(missing_ok=True)
         self.strike(f"{typed}\t\x18\x10" if typed else "\x18\x10")
-        for _ in range(500):
+        for tried in range(1000):
             self.drain()
+            if tried % 100 == 99:
+                self.strike("\x18\x10")
             if self.line.exists() and self.line.read_text().endswith("\n"):
                 break
             time.sleep(0.02)
