@@ -7,10 +7,10 @@
 # make bench  times the program beside plain Rust, and calls of the C library beside the program
 # make c      builds the C library: out/libtakvorn.a, out/libtakvorn.so and out/takvorn.pc (docs/LIBRARY.md)
 # make page   makes the checker for a browser, dist/takvorn.html, and the module that it stands on (docs/PAGE.md)
-# make install PREFIX=/usr/local   puts the program, the C library with its header, the manual page and the completions
-#             below PREFIX; with DESTDIR=FOLDER below that folder, for a package
-# make dist   packs what make install puts, with the documents and examples: dist/takvorn-VERSION-linux-x86_64.tar.gz and,
-#             where dpkg-dev is installed, dist/takvorn_VERSION_amd64.deb
+# make install PREFIX=/usr/local   puts the program, the C library with its header, the manual page, the completions, the
+#             documents and the examples below PREFIX; with DESTDIR=FOLDER below that folder, for a package
+# make dist   packs what make install puts: dist/takvorn-VERSION-linux-x86_64.tar.gz and, where dpkg-dev is installed,
+#             dist/takvorn_VERSION_amd64.deb
 RT := $(shell command -v rt 2>/dev/null)
 BUILT := crates/term3270/out/term3270
 WIRE := crates/parts_tests/out/parts_tests

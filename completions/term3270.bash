@@ -1,24 +1,100 @@
 # Completions of term3270 for bash: source this file, or put it into bash-completion's folder under the name term3270.
-_term3270() {
-  local word=${COMP_WORDS[COMP_CWORD]} command=${COMP_WORDS[1]}
-  COMPREPLY=()
-  if [ "$COMP_CWORD" -eq 1 ]; then
-    COMPREPLY=($(compgen -W 'show check talk press convert draft bind records serve attach map help --help --version' -- "$word"))
-    return
-  fi
-  case $command in
-    show) COMPREPLY=($(compgen -W '--format --color --layout --map --map-name --freekb --frset --help' -- "$word") $(compgen -f -- "$word")) ;;
-    check) COMPREPLY=($(compgen -W '--demo --pen --records --format --map --map-name --freekb --frset --help' -- "$word") $(compgen -f -- "$word")) ;;
-    talk) COMPREPLY=($(compgen -W '--help' -- "$word") $(compgen -f -- "$word")) ;;
-    press) COMPREPLY=($(compgen -W '--strokes --help' -- "$word") $(compgen -f -- "$word")) ;;
-    convert) COMPREPLY=($(compgen -W '--back --help' -- "$word")) ;;
-    draft) COMPREPLY=($(compgen -W '--map --map-name --freekb --frset --help' -- "$word") $(compgen -f -- "$word")) ;;
-    bind) COMPREPLY=($(compgen -W '--text --help' -- "$word") $(compgen -f -- "$word")) ;;
-    records) COMPREPLY=($(compgen -W '--from --answers --help' -- "$word")) ;;
-    serve) COMPREPLY=($(compgen -W '--port --count --listen --help' -- "$word") $(compgen -f -- "$word")) ;;
-    attach) COMPREPLY=($(compgen -W '--port --device --help' -- "$word") $(compgen -A hostname -- "$word") $(compgen -f -- "$word")) ;;
-    map) COMPREPLY=($(compgen -W '--map --layout --freekb --frset --help' -- "$word") $(compgen -f -- "$word")) ;;
-    help) COMPREPLY=($(compgen -W 'show check talk press convert draft bind records serve attach map' -- "$word")) ;;
+
+# Adds what compgen offers with these words to COMPREPLY, a line each, so that names keep their spaces.
+_term3270_offer() {
+  local line
+  while IFS= read -r line; do COMPREPLY+=("$line"); done < <(compgen "$@" -- "$word")
+}
+
+# Offers the files whose names match PATTERN, and folders; where there are none all files.
+_term3270_files() { # [PATTERN]
+  compopt -o filenames 2> /dev/null
+  word=${word#[\'\"]}
+  word=${word//\\/}
+  if [ -n "$1" ]; then _term3270_offer -f -X "!$1"; fi
+  if [ ${#COMPREPLY[@]} -eq 0 ]; then _term3270_offer -f; else _term3270_offer -d; fi
+}
+
+# Offers the values of OPTION of the command; fails where it takes none.
+_term3270_values() { # OPTION
+  local device devices=
+  case $command$1 in
+    show--format) _term3270_offer -W 'text svg html json' ;;
+    show--color) _term3270_offer -W 'auto always never' ;;
+    check--format) _term3270_offer -W 'text json sarif' ;;
+    records--from) _term3270_offer -W 'trace stream' ;;
+    attach--device)
+      for device in IBM-327{8,9}-{2,3,4,5}{,-E}; do devices="$devices $device"; done
+      _term3270_offer -W "$devices"
+      ;;
+    show--layout) _term3270_files '*.toml' ;;
+    check--records) _term3270_files '*.hex' ;;
+    show--map | check--map | draft--map) _term3270_files '*.bms' ;;
+    serve--listen) _term3270_offer -A hostname ;;
+    map--map | *--map-name | *--port | *--count) ;;
+    *) return 1 ;;
   esac
 }
-complete -o filenames -F _term3270 term3270
+
+# Offers what stands at the command's place N, counted from 0, and after < what it reads.
+_term3270_place() { # N, or <
+  case $command$1 in
+    check0 | talk* | bind0 | serve0) _term3270_files '*.toml' ;;
+    map0) _term3270_files '*.bms' ;;
+    press0 | attach1) _term3270_files ;;
+    attach0) _term3270_offer -A hostname ;;
+    help0) _term3270_offer -W 'show check talk press convert draft bind records serve attach map' ;;
+    *) return 1 ;;
+  esac
+}
+
+_term3270_options() {
+  local options=
+  case $command in
+    show) options='--format --color --layout --map --map-name --freekb --frset' ;;
+    check) options='--demo --pen --records --format --map --map-name --freekb --frset' ;;
+    press) options='--strokes' ;;
+    convert) options='--back' ;;
+    draft) options='--map --map-name --freekb --frset' ;;
+    bind) options='--text' ;;
+    records) options='--from --answers' ;;
+    serve) options='--port --count --listen' ;;
+    attach) options='--port --device' ;;
+    map) options='--map --layout --freekb --frset' ;;
+    help) return ;;
+  esac
+  _term3270_offer -W "$options --help"
+}
+
+_term3270() {
+  local word=${COMP_WORDS[COMP_CWORD]} before=${COMP_WORDS[COMP_CWORD - 1]} command=${COMP_WORDS[1]} index place=0
+  COMPREPLY=()
+  # Bash parts --format=json in three words.
+  if [ "$word" = = ]; then word=; elif [ "$before" = = ]; then before=${COMP_WORDS[COMP_CWORD - 2]}; fi
+  case $before in
+    '<')
+      case $command in convert | bind | records) _term3270_files ;; *) _term3270_files '*.hex' ;; esac
+      return
+      ;;
+    '>' | '>>' | '2>') _term3270_files; return ;;
+  esac
+  if [ "$COMP_CWORD" -eq 1 ]; then
+    _term3270_offer -W 'show check talk press convert draft bind records serve attach map help --help --version'
+    return
+  fi
+  case $before in --*) if _term3270_values "$before"; then return; fi ;; esac
+  for ((index = 2; index < COMP_CWORD; index++)); do
+    case ${COMP_WORDS[index]} in
+      = | '<' | '>') index=$((index + 1)) ;;
+      --format | --color | --from | --device | --records | --layout | --map | --map-name | --port | --count | --listen)
+        # A value comes after =, or as the next word.
+        if [ "$command${COMP_WORDS[index]}" != map--layout ] && [ "${COMP_WORDS[index + 1]}" != = ]; then index=$((index + 1)); fi
+        ;;
+      -*) ;;
+      *) place=$((place + 1)) ;;
+    esac
+  done
+  case $word in -*) ;; *) if _term3270_place "$place"; then return; fi ;; esac
+  _term3270_options
+}
+complete -F _term3270 term3270

@@ -65,8 +65,8 @@ typedef struct takvorn_text {
 /* The screen that records leave. Records are in hexadecimal, one a line; the first line may tell sizes. */
 int32_t takvorn_show(const uint8_t *records, size_t records_length, uint8_t *out, size_t out_length, size_t *needed);
 
-/* The same screen in another form: a drawing (SVG 1.1), a page with that drawing (HTML), the text with the looks of its
- * cells between sequences that begin with ESC, and a line of JSON. */
+/* The same screen in another form: a drawing (SVG 1.1), a page with that drawing (HTML), the text in bold, underline
+ * and reverse video between sequences that begin with ESC, and a line of JSON. */
 int32_t takvorn_show_svg(const uint8_t *records, size_t records_length, uint8_t *out, size_t out_length,
                          size_t *needed);
 int32_t takvorn_show_html(const uint8_t *records, size_t records_length, uint8_t *out, size_t out_length,

@@ -1,7 +1,8 @@
 #!/bin/sh
 # Packs a built program and the C library in out/ twice, and tries what comes of it: dist.sh PROGRAM. Both times it is the same,
-# byte for byte; the archive, unpacked into an empty folder, and the package, unpacked likewise, run the examples that lie in them;
-# where man and lintian are installed, the manual page is read and the package has no error. The last line is 'N passed, M failed'.
+# byte for byte; the archive, unpacked into an empty folder, and the package, unpacked likewise, run the examples that lie in them,
+# and have the documents that the manual page and the help name where the manual page says they are; where man and lintian are
+# installed, the manual page is read and the package has no error. The last line is 'N passed, M failed'.
 root=$(cd "$(dirname "$0")/.." && pwd)
 program=$(cd "$(dirname "$1")" && pwd)/$(basename "$1")
 CC=${CC:-cc}
@@ -47,6 +48,17 @@ try_tree() { # WHAT PREFIX LIBDIR
     "$CC" -o "$work/check" examples/c/check.c $flags || bad "$1: the C example with the flags $flags"
     LD_LIBRARY_PATH=$2/$3 "$work/check" examples/signon.toml "$work/flawed" > "$work/printed"
     same "$1: the C example prints something else"
+  fi
+  mkdir -p "$work/pair" && cp examples/signon.* "$work/pair"
+  if TERM3270=$2/bin/term3270 examples/ci/check_screens "$work/pair" > "$work/printed" 2>&1; then good; else
+    bad "$1: examples/ci/check_screens: $(cat "$work/printed")"
+  fi
+  page=$(ls "$2"/share/man/man1/term3270.1*)
+  named=$({ zcat -f "$page"; for command in '' $("$program" --help | sed -n '/^  help/d; s/^  \([a-z]*\)  .*/\1/p'); do "$program" $command --help; done; } |
+    grep -o 'docs/[A-Z]*\.md' | sort -u)
+  missing=$(for name in $named; do [ -f "$name" ] || echo "$name"; done)
+  if [ -n "$named" ] && [ -z "$missing" ] && zcat -f "$page" | grep -q share/doc/takvorn; then good; else
+    bad "$1: documents that the manual page or the help names aren't there: $missing"
   fi
   if has man "the manual page of $1"; then
     if man -l "$2"/share/man/man1/term3270.1* 2> /dev/null | grep -q TERM3270; then good; else bad "$1: the manual page isn't read"; fi

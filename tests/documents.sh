@@ -1,5 +1,6 @@
 #!/bin/sh
-# Compares what the documents show with what is there: documents.sh PROGRAM. The last line is 'N passed, M failed'.
+# Compares what the documents show with what is there: documents.sh PROGRAM. Where python3 is installed, each block of commands is run
+# (documents.py). The last line is 'N passed, M failed', after which ', N skipped' tells the blocks whose tools aren't there.
 program=$(cd "$(dirname "$1")" && pwd)/$(basename "$1")
 cd "$(dirname "$0")/.." || exit 1
 work=$(mktemp -d) || exit 1
@@ -18,5 +19,18 @@ cat examples/order.toml examples/items.toml > "$work/examples"
 same "an example in docs/LAYOUTS.md differs from examples/order.toml or examples/items.toml" "$work/guide" "$work/examples"
 "$program" show --format svg < examples/signon.hex > "$work/drawn"
 same "docs/signon.svg differs from what the program draws of examples/signon.hex" "$work/drawn" docs/signon.svg
-echo "$passed passed, $failed failed"
+if command -v python3 > /dev/null; then
+  PYTHONDONTWRITEBYTECODE=1 python3 tests/documents.py "$program" > "$work/told"
+  sed '$d' "$work/told"
+  # shellcheck disable=SC2046
+  set -- $(tail -n 1 "$work/told")
+  passed=$((passed + ${1:-0}))
+  failed=$((failed + ${3:-1}))
+  skipped=${5:-0}
+else
+  skipped=1
+  echo "python3 is not installed: the commands of the documents are left out"
+fi
+[ "$skipped" -gt 0 ] && left=", $skipped skipped" || left=
+echo "$passed passed, $failed failed$left"
 [ "$failed" -eq 0 ]

@@ -107,11 +107,12 @@ origins=$(call origins signon.toml | sed -n '30p;31p;260p;$=' | tr '\n' ',')
 # ---- as a system has it
 if [ ! -x "$program" ]; then echo "the program isn't built: what is installed left out"
 elif DESTDIR=$work/system PREFIX=/usr sh "$root/scripts/install" "$program"; then
-  (cd "$work/system/usr" && find . ! -type d | sort) > "$work/installed"
+  (cd "$work/system/usr" && find . -path ./share/doc -prune -o ! -type d -print | sort) > "$work/installed"
   if cmp -s "$root/tests/library/installed" "$work/installed"; then good; else
     bad "other files are installed:"
     diff "$root/tests/library/installed" "$work/installed"
   fi
+  if diff -r -x term3270.1 "$root/docs" "$work/system/usr/share/doc/takvorn/docs"; then good; else bad "other documents are installed"; fi
   if has pkg-config "what takvorn.pc says"; then
     flags=$(PKG_CONFIG_PATH=$work/system/usr/lib/pkgconfig PKG_CONFIG_SYSROOT_DIR=$work/system PKG_CONFIG_ALLOW_SYSTEM_CFLAGS=1 \
       PKG_CONFIG_ALLOW_SYSTEM_LIBS=1 pkg-config --cflags --libs takvorn)

@@ -1,7 +1,7 @@
 #!/bin/sh
 # Compares the commands and long options that --help prints with those of the manual page and the completions, and
-# tries what a stream that fails prints. Where python3 is installed, the golden logs of SARIF are looked at too, and findings of
-# records drawn at random.
+# tries what a stream that fails prints. Where python3 is installed, the completions are tried in bash and zsh at a terminal, the
+# golden logs of SARIF are looked at, and findings of records drawn at random.
 # The last line is 'N passed, M failed'.
 program=$(cd "$(dirname "$1")" && pwd)/$(basename "$1")
 root=$(cd "$(dirname "$0")/.." && pwd)
@@ -76,7 +76,9 @@ compare 'a long text that is not written' 'term3270: standard output: No space l
   "$(records | { "$program" convert 2>&1 > /dev/full; echo " $?"; })"
 # The golden logs of SARIF have what services ask for, and the version that the program prints. Findings come from where
 # a reading of their records by another program says. The golden cases of a form have in common what each of the form has.
+# What bash and zsh offer for an option's value is what --help says.
 if command -v python3 > /dev/null; then
+  compare 'the completions at a terminal' '0 failed' "$(PYTHONDONTWRITEBYTECODE=1 python3 "$root/tests/completions.py" "$program" | tail -n 1 | sed 's/.*, //')"
   compare 'the logs of SARIF' '0 failed' "$(PYTHONDONTWRITEBYTECODE=1 python3 "$root/tests/sarif.py" "$program" | tail -n 1 | sed 's/.*, //')"
   compare 'maps drawn at random' '1020 passed, 0 failed' "$(PYTHONDONTWRITEBYTECODE=1 python3 "$root/tests/maps.py" "$program" | tail -n 1)"
   compare 'what a help says of a map ends its finding' '0 failed' "$(PYTHONDONTWRITEBYTECODE=1 python3 "$root/tests/mends.py" "$program" | tail -n 1 | sed 's/.*, //')"
