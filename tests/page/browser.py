@@ -143,6 +143,38 @@ def try_map(trial):
     trial.compare("the layout is the map's", True, trial.browser.run("return takvornPage.state.layouts[0].includes('[[field]]')"))
 
 
+def try_inputs(trial):
+    """A trace, a captured stream, order lines and keys are known for what they are, and their records or keys taken."""
+    trial.open()
+    for name, path, words, count in [
+        ("session.trc", "examples/session.trc", "a trace", None),
+        ("host.hex", "tests/cases/records/stream/stdin", "a captured stream", 1),
+        ("screen.lines", None, "order lines", 1),
+    ]:
+        trial.drop(name, "EW C2\nSBA 0\nSF 20\nTEXT C8C9\n" if path is None else both(ROOT / path))
+        trial.holds(f"{name} was taken for {words}", "return document.querySelector('#note').textContent.includes(arguments[0])", f"{name} was taken for {words}")
+        found = trial.browser.run("return takvornPage.parsed.records.length")
+        trial.compare(f"{name} has records", True, found > 0 if count is None else found == count)
+    trial.drop("typed.keys", "tab\nenter\n")
+    trial.holds("keys were pressed", "return takvornPage.state.keys.join() === 'tab,enter'")
+
+
+def try_sizes(trial):
+    """The largest model of 3270 terminals, and a screen of 16-bit addresses with a field at its end."""
+    for sizes, record, facts, place in [
+        ("24x80 62x160", "7EC2 1140C2 1D60 C1", "62x160", 9919),
+        ("64x255 64x255 16", "F5C2 110010 1D60 C1 113FBE 1D40 13", "64x255", 16319),
+    ]:
+        trial.open()
+        trial.drop("large.hex", f"size {sizes}\n{record}\n")
+        trial.holds(f"{facts} is shown", "return document.querySelector('#facts').textContent.startsWith(arguments[0])", facts)
+        trial.browser.run("takvornPage.place(arguments[0])", place)
+        trial.compare(f"the last place of {facts}", True, trial.text("#place").startswith(f"place {place}, row {facts.split('x')[0]}, column {facts.split('x')[1]}"))
+        wide = trial.browser.run("return document.documentElement.scrollWidth - innerWidth")
+        trial.compare(f"{facts} fits", True, wide <= 0)
+        trial.picture(facts)
+
+
 def try_refusals(trial):
     """A garbage file, a file of 16 MB, a module that stops: each is said, and what was put in is kept."""
     trial.open()
@@ -218,7 +250,7 @@ def try_requests(trial):
     trial.compare("but for the page", True, all(address.split("#")[0] == pathlib.Path(trial.page).as_uri() for address in asked))
 
 
-TRIALS = [try_speed, try_sign_on, try_flaw, try_orders, try_dialogue, try_map, try_refusals, try_link, try_widths, try_keyboard]
+TRIALS = [try_speed, try_sign_on, try_flaw, try_orders, try_dialogue, try_map, try_inputs, try_sizes, try_refusals, try_link, try_widths, try_keyboard]
 
 
 def run(browser, page, pictures):
