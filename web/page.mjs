@@ -111,13 +111,38 @@ class Page {
     const meaning = this.meanings[`F${finding.number}`];
     if (meaning) item.append(made("p", {}, `It means: ${meaning}.`));
     if (finding.help) item.append(made("p", {}, `Mend: ${finding.help}.`));
-    if (finding.keys) {
-      const show = made("button", { type: "button" }, "Show me");
-      show.addEventListener("click", () => this.play(index));
-      item.append(show);
-    }
+    item.append(made("div", { class: "tools" }, ...this.findingButtons(finding, index)));
     if (finding.sends) item.append(made("p", { class: "quiet" }, "It sends ", made("code", {}, finding.sends)));
     return item;
+  }
+
+  /**
+   * What can be done with a finding: its keys pressed, its byte and its entry looked at.
+   * @param {import("./work.mjs").Finding} finding @param {number} index
+   */
+  findingButtons(finding, index) {
+    const { line, entry } = finding;
+    /** @type {[string, boolean, () => void][]} */
+    const all = [
+      ["Show me", finding.keys !== undefined, () => this.play(index)],
+      ["The record's byte", line !== undefined, () => this.look("records", () => this.selectByte((line ?? 1) - 1, finding.byte ?? 0))],
+      ["The layout's entry", entry !== undefined, () => this.look("layout", () => this.selectEntry(entry ?? ""))],
+    ];
+    return all.filter(([, is]) => is).map(([words, , does]) => {
+      const button = made("button", { type: "button" }, words);
+      button.addEventListener("click", does);
+      return button;
+    });
+  }
+
+  /**
+   * Opens a text of the page where something in it is selected.
+   * @param {"records" | "layout"} id @param {() => void} select
+   */
+  look(id, select) {
+    this.openTab(`tab-${id}`);
+    select();
+    area(id).focus();
   }
 
   renderScreen() {

@@ -102,6 +102,8 @@ def try_flaw(trial):
     trial.holds("the keys of the finding are pressed", "return document.querySelector('#sent li') !== null")
     told = trial.browser.run("return [document.querySelector('#sent code').textContent, takvornPage.findings[0].sends]")
     trial.compare("they send what the finding says", told[1], told[0])
+    look = "[...document.querySelectorAll('#findings button')].find((it) => it.textContent === arguments[0]).click(); const it = document.activeElement; return [it.id, it.value.slice(it.selectionStart, it.selectionEnd)]"
+    trial.compare("the layout's entry is looked at", ["layout", "[[field]]"], trial.browser.run(look, "The layout's entry"))
 
 
 def try_orders(trial):
@@ -179,7 +181,7 @@ def try_refusals(trial):
     """A garbage file, a file of 16 MB, a module that stops: each is said, and what was put in is kept."""
     trial.open()
     trial.drop("garbage.bin", "\u0000\ufffd garbage")
-    trial.compare("garbage is said", True, "can't be taken" in trial.text("#note"))
+    trial.holds("garbage is said", "return document.querySelector('#note').textContent.includes(\"can't be taken\")")
     trial.browser.run(
         "const line = 'F5C2' + '40'.repeat(8000) + '\\n'; const data = new DataTransfer();"
         "data.items.add(new File([line.repeat(Math.floor(16777216 / line.length))], 'large.hex'));"
