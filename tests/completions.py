@@ -144,6 +144,7 @@ LINES = {
     "term3270 talk plain.toml my": r"term3270 talk plain.toml my\ layout.toml ",
     "term3270 bind d": r"term3270 bind deep\ er/",
     "term3270 serve --port 3270 --count 1 p": "term3270 serve --port 3270 --count 1 plain.toml ",
+    "term3270 bind ans": r"term3270 bind answers\ to\ bind.txt ",
     "term3270 press k": "term3270 press keys ",
     "term3270 press ans": r"term3270 press answers\ to\ bind.txt ",
     "term3270 attach localhost k": "term3270 attach localhost keys ",
