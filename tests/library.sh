@@ -163,6 +163,10 @@ session.trc records
 session.trc records --answers
 $work/answers bind signon.toml
 $work/answers bind signon.toml --text
+$work/keys map signon.bms --map signon --freekb
+$work/keys map signon.bms --layout
+$work/keys check --map signon.bms
+$work/keys check --map $work/flawed.bms --frset
 END
 }
 each refused "$work/refusing"
