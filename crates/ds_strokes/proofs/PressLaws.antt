@@ -13,7 +13,7 @@ use Rattle.ds_keys.specs.KeyStep.{Step, step, ignored, inhibited, if_open, typed
 use Rattle.ds_keys.specs.KeyStep as keys
 use Rattle.ds_strokes.specs.declared.stroke.Stroke.{Stroke}
 use Rattle.ds_strokes.specs.declared.stroke.Stroke.TheVariants as stroke
-use Rattle.ds_strokes.specs.StrokeStep.{goes_on, stored, stored_in, put_step, step_under, stroke_step, operating, IsKey}
+use Rattle.ds_strokes.specs.StrokeStep.{Operating, goes_on, stored, stored_in, put_step, step_under, stroke_step, operating, after_stroke, StrokeStep, IsKey}
 
 put_without : (v : Picture) (code : ℕ) → put_step false v code goes_on ≡ if_open v (stored v code goes_on)
 unfolding put_step
@@ -67,6 +67,12 @@ without v after inserts (stroke.Key key) pressed off same = same ∙ ap (λ b. s
 without v after inserts stroke.Insert pressed off same = tt
 without v after inserts stroke.Dup pressed off same = tt
 without v after inserts stroke.FieldMark pressed off same = tt
+
+pub struck_without : (o after : Operating) (s : Stroke) (pressed : Pressed) → o.inserts ≡ false → StrokeStep o s after pressed
+    → IsKey s (λ key. step after.screen pressed ≡ step_of o.screen key)
+struck_without o after s pressed off is =
+    without o.screen after.screen o.inserts s pressed off
+    (ap (λ (x : Operating). step x.screen pressed) is.after_it ∙ ap (step (after_stroke o s).screen) is.answered)
 
 -- ---- by the lock
 pub on_free : (v : Picture) (inserts : Bool) (s : Stroke) → v.lock ≡ Free → step_under Free inserts v s ≡ stroke_step (operating v inserts) s

@@ -1,1 +1,2 @@
 pub mod SentKeys
+pub mod StrokeLaws

@@ -3,3 +3,4 @@ pub mod Taking
 pub mod Terminal
 pub mod Runs
 pub mod Seen
+pub mod Strokes

@@ -4,6 +4,7 @@
 mod keys;
 mod refused;
 mod reply;
+mod strokes;
 mod target;
 mod terminal;
 

@@ -3,11 +3,13 @@
 use crate::keys::press_key;
 use crate::refused::Refused;
 use crate::reply::{KeyReply, RecordReply};
+use crate::strokes::strike_stroke;
 use crate::target::{apply_record, read_record, take_record};
 use ds_codec::{Command, Geometry};
 use ds_inbound::{write_buffer, write_inbound};
 use ds_keys::Key;
 use ds_screen::{Cells, Effect, Screen};
+use ds_strokes::Stroke;
 use std::alloc::{AllocError, Global};
 use std::marker::Model;
 
@@ -32,6 +34,8 @@ impl<C: Cells> Terminal<C> {
     ghost use Rattle.ds_terminal.specs.Taking.{Takes};
     ghost use Rattle.ds_terminal.specs.Terminal.{turn, received, IsAnswered, key_turn, pressed, IsSent};
     ghost use Rattle.ds_terminal.specs.Seen.{reply_seen, key_reply_seen};
+    ghost use Rattle.ds_terminal.specs.Strokes.{stroke_turn};
+    ghost use Rattle.ds_strokes.specs.StrokeStep.{operating, after_stroke};
 
     /// A new terminal of this geometry: nulls of the default size, the cursor at 0, the keyboard waiting
     /// for a record, no attention key. Reserves two buffers of the larger size.
@@ -86,6 +90,27 @@ impl<C: Cells> Terminal<C> {
         ensures asks { OnErr result (IsSent (pressed self.old key).reply) }
     {
         press_key(alloc, &mut self.screen, key)
+    }
+
+    /// Strikes, with insert mode on or off, and gives the bytes that this sends: as [`ds_strokes::strike`], and where it is an
+    /// attention key as `press`. Only a stroke that sends takes memory; where this was refused, nothing is struck and nothing
+    /// is changed.
+    pub fn strike(
+        &mut self,
+        alloc: Global,
+        inserts: &mut bool,
+        stroke: Stroke,
+    ) -> Result<KeyReply, AllocError>
+        ensures turned { IfOk result (λ reply. key_turn self.new (key_reply_seen reply)
+            ≡ stroke_turn (operating self.old inserts.old) stroke) }
+        ensures inserts { IfOk result (λ reply. inserts.new
+            ≡ (after_stroke (operating self.old inserts.old) stroke).inserts) }
+        ensures unchanged { OnErr result
+            (operating self.new inserts.new ≡ operating self.old inserts.old) }
+        ensures asks { OnErr result
+            (IsSent (stroke_turn (operating self.old inserts.old) stroke).reply) }
+    {
+        strike_stroke(alloc, &mut self.screen, inserts, stroke)
     }
 }
 

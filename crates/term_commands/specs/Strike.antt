@@ -1,9 +1,9 @@
 -- What `press --strokes` prints, as a function of its two inputs, and its status.
 use Rattle.std.specs.Prelude.{ℕ, false, List, [], ◌∷◌, ◌++◌, Result, Ok}
 use Rattle.ds_codec.specs.Reading.{◌>>=◌}
-use Rattle.ds_terminal.specs.Terminal.{KeyTurn, key_turn, key_reply}
+use Rattle.ds_terminal.specs.Strokes.{stroke_turn}
 use Rattle.ds_strokes.specs.declared.stroke.Stroke.{Stroke}
-use Rattle.ds_strokes.specs.StrokeStep.{Operating, operating, after_stroke, stroke_answer}
+use Rattle.ds_strokes.specs.StrokeStep.{Operating, operating, after_stroke}
 use Rattle.term_commands.specs.declared.fault.Fault.{Fault}
 use Rattle.term_commands.specs.declared.input.sizes.SizeLine.TheVariants.{Allowed}
 use Rattle.term_commands.specs.declared.status.Status.TheVariants.{Done}
@@ -12,10 +12,6 @@ use Rattle.term_commands.specs.Printed.{Printed, printed, printed_or_fault}
 use Rattle.term_commands.specs.Records.{Records, records_in}
 use Rattle.term_commands.specs.Shown.{shown_on}
 use Rattle.term_commands.specs.Strokes.{strokes_in}
-
--- what becomes of a stroke, as of a key: where it sends, the answer to Read Modified
-abbrev pub stroke_turn : Operating → Stroke → KeyTurn
-stroke_turn o stroke = key_turn (after_stroke o stroke).screen (key_reply (stroke_answer o stroke) (after_stroke o stroke).screen)
 
 -- the lines of the strokes in turn
 abbrev pub struck_text : Operating → List Stroke → List ℕ

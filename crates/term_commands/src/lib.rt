@@ -24,6 +24,7 @@ pub use input::layout::{layout_in, read_layout};
 pub use input::next::{next_line, without_end};
 pub use input::records::{Records, read_records, records_in};
 pub use input::sizes::SizeLine;
+pub use input::strokes::{Strokes, read_strokes, strokes_in};
 pub use law::{convert_law, lines_law, own_strokes_law};
 pub use output::answer::{Answer, finish, printed};
 pub use output::demo::{Demos, demo_sends, demo_terminal};

@@ -1,7 +1,6 @@
 -- A terminal that somebody works hears an event as a run without keys does, and is never over.
 use Rattle.std.proofs.Common.{◌≡◌, ℕ, List, [], ◌∷◌, Ok, Err, refl, sym, ap, subst}
 use Rattle.std.specs.Prelude.{Result, IfOk}
-use Rattle.ds_keys.specs.declared.key.Key.{Key}
 use Rattle.tn_wire.specs.Stream.{Told}
 use Rattle.tn_session.specs.declared.fault.RunFault.{RunFault}
 use Rattle.tn_session.specs.declared.fault.RunFault.TheVariants.{Wire, Header, Session, Inbound, Bind, OutOfMemory}
@@ -15,13 +14,14 @@ use Rattle.tn_session.specs.OneLog.{waits, is_over, has_failed, is_at_fault}
 use Rattle.tn_session.specs.Ran.{Cause, of_stream, of_memory, of_line, of_reads, of_end, of_events, MayAsk, FailsAs, Does}
 use Rattle.tn_session.specs.Runs.{Course, goes, finishes, fails, Log, going, log_on, log_of}
 use Rattle.tn_session.specs.Talk.{Talk, stands, starved, failed_talk, Hears, Takes}
+use Rattle.tn_session.specs.Strikes.{Strike}
 use Rattle.tn_session.specs.TerminalLog.{TerminalRunning, terminal_act}
 use Rattle.tn_session.specs.TerminalTalk.{without_keys, unkeyed, heard_act, PressesKey, Presses, IsNotOver}
 
 abbrev bare : TerminalState → Told → Log TerminalRunning
 bare state event = terminal_act (record { state = state; keys = [] }) event
 
-pub heard_goes : (state new : TerminalState) (keys : List Key) (event : Told) (due : List ℕ) (turn : Turn)
+pub heard_goes : (state new : TerminalState) (keys : List Strike) (event : Told) (due : List ℕ) (turn : Turn)
     → Does (bare state event) (Ok turn) (record { state = new; keys = keys }) due → heard_act state event ≡ going due new
 heard_goes state new keys event due turns.Goes does = ap unkeyed does
 heard_goes state new keys event due turns.Finishes does = ap unkeyed does
@@ -89,12 +89,12 @@ takes_on starved piece result given new not_over takes = (subst IsNotOver (sym t
 
 -- ---- a key
 
-waits_on : (state : TerminalState) (left : List ℕ) (key : Key) (result : Result Pressed RunFault) (given : List ℕ) (new : Talk TerminalState)
+waits_on : (state : TerminalState) (left : List ℕ) (key : Strike) (result : Result Pressed RunFault) (given : List ℕ) (new : Talk TerminalState)
     → PressesKey state left key result given new → IsNotOver new
 waits_on state left key (Ok answer) given new (answer_is, due, is) = subst IsNotOver (sym is) tt
 waits_on state left key (Err why) given new (why_is, none, sends, is) = subst IsNotOver (sym is) tt
 
-pub presses_on : (old : Talk TerminalState) (key : Key) (result : Result Pressed RunFault) (given : List ℕ) (new : Talk TerminalState)
+pub presses_on : (old : Talk TerminalState) (key : Strike) (result : Result Pressed RunFault) (given : List ℕ) (new : Talk TerminalState)
     → IsNotOver old → Presses old key result given new → IsNotOver new
 presses_on (stands (waits state left)) key result given new not_over presses = waits_on state left key result given new presses
 presses_on (stands (is_over end)) key result given new not_over presses = absurd not_over

@@ -14,6 +14,7 @@ pub mod TerminalRunning
 pub mod OneLog
 pub mod Pieces
 pub mod Worked
+mod KeyStrokes
 pub mod WorkLaws
 pub mod Heard
 pub mod TouchedPairs

@@ -1,7 +1,6 @@
 -- How a line stands after a terminal's run.
 use Rattle.std.proofs.Common.{◌≡◌, ◌+◌, Bool, List, [], None, Some, Ok, Err, ap, subst}
 use Rattle.std.specs.Prelude.{Result, ◌↔◌, IfOk}
-use Rattle.ds_keys.specs.declared.key.Key.{Key}
 use Rattle.tn_cores.specs.declared.device.Device.{Device}
 use Rattle.tn_cores.specs.declared.session.SessionFault.TheVariants as session
 use Rattle.tn_session.specs.declared.stop.Stop.TheVariants.{Ended}
@@ -12,11 +11,12 @@ use Rattle.tn_session.specs.declared.report.RunEnd.{RunEnd}
 use Rattle.tn_session.specs.declared.report.RunEnd.TheVariants as ends
 use Rattle.tn_session.specs.Wire.{WireState}
 use Rattle.tn_session.specs.Ran.{Ran, ReadsInPieces, cause_of}
+use Rattle.tn_session.specs.Strikes.{Strike}
 use Rattle.tn_session.specs.TerminalLog.{TerminalRunning, terminal_start, terminal_act}
 use Rattle.tn_session.specs.TerminalRuns.{TerminalRan, HasFailed, finish_of}
 use Rattle.tn_session.proofs.RunEnds.{line_cause, failed_line, line_failed, not_by_finish, in_pieces}
 
-module _ (device : Device) (enhanced responses : Bool) (keys : List Key) (old new : WireState) where
+module _ (device : Device) (enhanced responses : Bool) (keys : List Strike) (old new : WireState) where
   line_back : (result : Result Report RunFault) → old.stop ≡ None → TerminalRan device enhanced responses keys old result new → HasFailed new.stop
       → result ≡ Err (faults.Session session.LineFault)
   line_back (Ok report) goes (end, is, ran) failed =

@@ -4,7 +4,6 @@ use Rattle.std.specs.Prelude.{Result}
 use Rattle.ds_codec.specs.Geometry.{Sizes}
 use Rattle.ds_screen.specs.Picture.{Picture}
 use Rattle.ds_screen.specs.Records.{new_picture}
-use Rattle.ds_keys.specs.declared.key.Key.{Key}
 use Rattle.tn_cores.specs.declared.device.Device.{Device}
 use Rattle.tn_cores.specs.declared.terminal.TermCore.{TermCore}
 use Rattle.tn_cores.specs.Devices.{sizes_of}
@@ -19,6 +18,7 @@ use Rattle.tn_session.specs.Wire.{WireState}
 use Rattle.tn_session.specs.Ran.{Ran, RunFails, cause_of}
 use Rattle.tn_session.specs.OneLog.{waits}
 use Rattle.tn_session.specs.RanSession.{EndsAs, RanSession}
+use Rattle.tn_session.specs.Strikes.{Strike}
 use Rattle.tn_session.specs.Talk.{Talk, stands, IsMachineOf}
 use Rattle.tn_session.specs.TerminalLog.{TerminalRunning, new_terminal_state, terminal_start, terminal_act}
 use Rattle.tn_session.specs.TerminalRuns.{TerminalRan, finish_of, end_of, report_of}
@@ -27,6 +27,7 @@ abbrev state_with : TermCore → Picture → TerminalState
 state_with core picture = record {
   core = core;
   terminal = picture;
+  inserts = false;
   sequence = 0;
   was_free = false;
   answers = 0;
@@ -46,7 +47,7 @@ finish_again : (how : Finish) → finish_of (end_of how) ≡ how
 finish_again finish.Finished = refl
 finish_again finish.Closed = refl
 
-module _ (device : Device) (enhanced responses : Bool) (keys : List Key) (old new : WireState) (state_of : TerminalState)
+module _ (device : Device) (enhanced responses : Bool) (keys : List Strike) (old new : WireState) (state_of : TerminalState)
     (made_so : state_of ≡ new_terminal_state device enhanced responses) where
   abbrev begun_of : TerminalRunning
   begun_of = record { state = state_of; keys = keys }
@@ -82,6 +83,6 @@ module _ (device : Device) (enhanced responses : Bool) (keys : List Key) (old ne
       subst (λ z. RunFails terminal_act [] z old why new (cause_of why)) (started talk state made begins) ran in
       subst (λ z. TerminalRan device enhanced responses keys old z new) (sym is) whole
 
-pub no_screen : (device : Device) (enhanced responses : Bool) (keys : List Key) (old : WireState) (result : Result Report RunFault)
+pub no_screen : (device : Device) (enhanced responses : Bool) (keys : List Strike) (old : WireState) (result : Result Report RunFault)
     → result ≡ Err faults.OutOfMemory → TerminalRan device enhanced responses keys old result old
 no_screen device enhanced responses keys old result is = subst (λ z. TerminalRan device enhanced responses keys old z old) (sym is) (inl refl)

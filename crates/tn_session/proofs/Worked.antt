@@ -2,8 +2,7 @@
 use Rattle.std.proofs.Common.{◌≡◌, ℕ, nat_eq, ◌&&◌, Bool, true, false, cond, List, [], ◌∷◌, ◌++◌, length, None, Some, Ok, Err, refl, sym, ◌∙◌, ap, append_assoc}
 use Rattle.std.specs.Prelude.{Option, Result}
 use Rattle.std.proofs.lemmas.List.{append-nil}
-use Rattle.ds_keys.specs.declared.key.Key.{Key}
-use Rattle.ds_terminal.specs.Terminal.{Reply, shown, answered, nothing, refused, KeyReply, done, inhibited, ignored, sent, received, pressed as turned_by}
+use Rattle.ds_terminal.specs.Terminal.{Reply, shown, answered, nothing, refused, KeyReply, done, inhibited, ignored, sent, received}
 use Rattle.tn_wire.specs.declared.header.DataType.{DataType}
 use Rattle.tn_wire.specs.declared.header.DataType.TheVariants.{Data3270, ScsData, Response, BindImage, Unbind, NvtData, Request, SscpLuData, PrintEoj}
 use Rattle.tn_wire.specs.declared.header.Header.{Header}
@@ -20,12 +19,13 @@ use Rattle.tn_session.specs.declared.fault.RunFault.TheVariants as faults
 use Rattle.tn_session.specs.declared.terminal_state.TerminalState.{TerminalState}
 use Rattle.tn_session.specs.Acts.{Deed, came, pressed, worked_log, events_in, keys_in, AreLeft, IsWorked, RunsAreWorked}
 use Rattle.tn_session.specs.Runs.{Course, goes, finishes, fails, Log, going, finished, failed, log_on, log_of}
+use Rattle.tn_session.specs.Strikes.{Strike, strike_aid, Struck, struck_by}
 use Rattle.tn_session.specs.TerminalLog as log
 use Rattle.tn_session.specs.TerminalLog.{TerminalRunning, Doing, Typing, is_waiting, typing, before, then_typed, standing, typed_key, received_data, taken_data, taken_typed, taken_headed, taken_record, passed_over, with_core, stepped, by_core, terminal_act}
 use Rattle.tn_session.specs.Sent.{data_header}
 use Rattle.tn_session.specs.TerminalTalk.{unkeyed, heard_act, worked_under, worked}
 
-abbrev run_of : TerminalState → List Key → TerminalRunning
+abbrev run_of : TerminalState → List Strike → TerminalRunning
 run_of state keys = record { state = state; keys = keys }
 
 -- ---- keys leave the session's core
@@ -36,8 +36,10 @@ core_replied agreed state done = refl
 core_replied agreed state inhibited = refl
 core_replied agreed state ignored = refl
 
-typed_core : (agreed : Agreed) (state : TerminalState) (key : Key) → (typed_key agreed state key).state.core ≡ state.core
-typed_core agreed state key = core_replied agreed (log.after_key state key (turned_by state.terminal key)) (turned_by state.terminal key).reply
+typed_core : (agreed : Agreed) (state : TerminalState) (key : Strike) → (typed_key agreed state key).state.core ≡ state.core
+typed_core agreed state key =
+    let did : Struck = struck_by key (log.operator_at state) in
+    core_replied agreed (log.after_key state (strike_aid key) did) did.turn.reply
 
 record_replied : (agreed : Agreed) (header : Header) (state : TerminalState) (reply : Reply) → (log.replied agreed header state reply).state.core ≡ state.core
 record_replied agreed header state (shown effect) = refl
@@ -50,33 +52,33 @@ received_core agreed header state bytes = record_replied agreed header (log.afte
 
 -- ---- the keys that a run presses after a record
 
-abbrev deeds_of : List Key → List Deed
+abbrev deeds_of : List Strike → List Deed
 deeds_of [] = []
 deeds_of (key ∷ keys) = pressed key ∷ deeds_of keys
 
-no_events : (keys : List Key) → events_in (deeds_of keys) ≡ []
+no_events : (keys : List Strike) → events_in (deeds_of keys) ≡ []
 no_events [] = refl
 no_events (key ∷ keys) = no_events keys
 
-same_keys : (keys : List Key) → keys_in (deeds_of keys) ≡ keys
+same_keys : (keys : List Strike) → keys_in (deeds_of keys) ≡ keys
 same_keys [] = refl
 same_keys (key ∷ keys) = ap (λ z. key ∷ z) (same_keys keys)
 
-record IsTyped (agreed : Agreed) (state : TerminalState) (keys : List Key) (typed : Typing) : Type 0 where
-  used : List Key
+record IsTyped (agreed : Agreed) (state : TerminalState) (keys : List Strike) (typed : Typing) : Type 0 where
+  used : List Strike
   keys_are : keys ≡ used ++ typed.running.keys
   log_is : worked_log state (deeds_of used) ≡ going typed.due typed.running.state
 
-none_typed : (agreed : Agreed) (state : TerminalState) (keys : List Key) → IsTyped agreed state keys (record { due = []; running = run_of state keys })
+none_typed : (agreed : Agreed) (state : TerminalState) (keys : List Strike) → IsTyped agreed state keys (record { due = []; running = run_of state keys })
 none_typed agreed state keys = record { used = []; keys_are = refl; log_is = refl }
 
 -- a key of a session that is ready is typed
-worked_typed : (agreed : Agreed) (state : TerminalState) (key : Key) (deeds : List Deed) → terminal_agreed state.core ≡ Some agreed
+worked_typed : (agreed : Agreed) (state : TerminalState) (key : Strike) (deeds : List Deed) → terminal_agreed state.core ≡ Some agreed
     → worked_log state (pressed key ∷ deeds) ≡ log_on (typed_key agreed state key).due (goes (typed_key agreed state key).state) (λ next. worked_log next deeds)
 worked_typed agreed state key deeds ready =
     ap (λ (o : Option Agreed). log_on (worked_under o state key).due (goes (worked_under o state key).state) (λ next. worked_log next deeds)) ready
 
-typing_typed : (agreed : Agreed) (state : TerminalState) (keys : List Key) → terminal_agreed state.core ≡ Some agreed → IsTyped agreed state keys (typing agreed state keys)
+typing_typed : (agreed : Agreed) (state : TerminalState) (keys : List Strike) → terminal_agreed state.core ≡ Some agreed → IsTyped agreed state keys (typing agreed state keys)
 typing_typed agreed state [] ready = none_typed agreed state []
 typing_typed agreed state (key ∷ keys) ready =
     by_lock (is_waiting state.terminal.lock) (typing_typed agreed (typed_key agreed state key).state keys (ap terminal_agreed (typed_core agreed state key) ∙ ready))
@@ -94,21 +96,21 @@ typing_typed agreed state (key ∷ keys) ready =
 -- ---- one event, with the keys after it
 
 -- a run with keys did this where one without did that
-record Follows (keys : List Key) (bare full : Log TerminalRunning) : Type 0 where
-  used : List Key
-  left : List Key
+record Follows (keys : List Strike) (bare full : Log TerminalRunning) : Type 0 where
+  used : List Strike
+  left : List Strike
   keys_are : keys ≡ used ++ left
   are_left : AreLeft left full.course
   log_is : log_on (unkeyed bare).due (unkeyed bare).course (λ next. worked_log next (deeds_of used)) ≡ unkeyed full
 
-fail_follows : (keys : List Key) (why : RunFault) → Follows keys (failed why) (failed why)
+fail_follows : (keys : List Strike) (why : RunFault) → Follows keys (failed why) (failed why)
 fail_follows keys why = record { used = []; left = keys; keys_are = refl; are_left = tt; log_is = refl }
 
-going_follows : (keys : List Key) (due : List ℕ) (state : TerminalState) → Follows keys (going due (run_of state [])) (going due (run_of state keys))
+going_follows : (keys : List Strike) (due : List ℕ) (state : TerminalState) → Follows keys (going due (run_of state [])) (going due (run_of state keys))
 going_follows keys due state =
     record { used = []; left = keys; keys_are = refl; are_left = refl; log_is = ap (λ (z : List ℕ). going z state) (append-nil due) }
 
-test_follows : (keys : List Key) (t : Bool) (a b c d : Log TerminalRunning) → Follows keys a c → Follows keys b d → Follows keys (cond t a b) (cond t c d)
+test_follows : (keys : List Strike) (t : Bool) (a b c d : Log TerminalRunning) → Follows keys a c → Follows keys b d → Follows keys (cond t a b) (cond t c d)
 test_follows keys true a b c d p q = p
 test_follows keys false a b c d p q = q
 
@@ -120,7 +122,7 @@ stands_left : (t : Bool) (typed : Typing) → AreLeft typed.running.keys (cond t
 stands_left true typed = refl
 stands_left false typed = refl
 
-typed_follows : (agreed : Agreed) (keys : List Key) (did : Doing) → terminal_agreed did.state.core ≡ Some agreed
+typed_follows : (agreed : Agreed) (keys : List Strike) (did : Doing) → terminal_agreed did.state.core ≡ Some agreed
     → Follows keys (standing (then_typed agreed [] did)) (standing (then_typed agreed keys did))
 typed_follows agreed keys did ready =
     let typed : Typing = then_typed agreed keys did in
@@ -138,15 +140,15 @@ typed_follows agreed keys did ready =
           ∙ sym (stands_unkeyed (typed.running.state.was_free && nat_eq (length typed.running.keys) 0) typed);
     }
 
-data_follows : (agreed : Agreed) (header : Header) (keys : List Key) (state : TerminalState) (bytes : List ℕ) → terminal_agreed state.core ≡ Some agreed
+data_follows : (agreed : Agreed) (header : Header) (keys : List Strike) (state : TerminalState) (bytes : List ℕ) → terminal_agreed state.core ≡ Some agreed
     → Follows keys (taken_data agreed header (run_of state []) bytes) (taken_data agreed header (run_of state keys) bytes)
 data_follows agreed header keys state bytes ready =
     typed_follows agreed keys (received_data agreed header state bytes) (ap terminal_agreed (received_core agreed header state bytes) ∙ ready)
 
-passed_follows : (keys : List Key) (state : TerminalState) → Follows keys (passed_over (run_of state [])) (passed_over (run_of state keys))
+passed_follows : (keys : List Strike) (state : TerminalState) → Follows keys (passed_over (run_of state [])) (passed_over (run_of state keys))
 passed_follows keys state = going_follows keys [] (record state { passed = log.one_more state.passed })
 
-typed_data_follows : (agreed : Agreed) (header : Header) (keys : List Key) (state : TerminalState) (bytes : List ℕ) (data_type : DataType) → terminal_agreed state.core ≡ Some agreed
+typed_data_follows : (agreed : Agreed) (header : Header) (keys : List Strike) (state : TerminalState) (bytes : List ℕ) (data_type : DataType) → terminal_agreed state.core ≡ Some agreed
     → Follows keys (taken_typed agreed header (run_of state []) bytes data_type) (taken_typed agreed header (run_of state keys) bytes data_type)
 typed_data_follows agreed header keys state bytes Data3270 ready = data_follows agreed header keys state bytes ready
 typed_data_follows agreed header keys state bytes Response ready = passed_follows keys state
@@ -158,12 +160,12 @@ typed_data_follows agreed header keys state bytes Request ready = passed_follows
 typed_data_follows agreed header keys state bytes SscpLuData ready = passed_follows keys state
 typed_data_follows agreed header keys state bytes PrintEoj ready = passed_follows keys state
 
-headed_follows : (agreed : Agreed) (keys : List Key) (state : TerminalState) (headed : Result Headed HeaderFault) → terminal_agreed state.core ≡ Some agreed
+headed_follows : (agreed : Agreed) (keys : List Strike) (state : TerminalState) (headed : Result Headed HeaderFault) → terminal_agreed state.core ≡ Some agreed
     → Follows keys (taken_headed agreed (run_of state []) headed) (taken_headed agreed (run_of state keys) headed)
 headed_follows agreed keys state (Ok headed) ready = typed_data_follows agreed headed.header keys state headed.rest headed.header.data_type ready
 headed_follows agreed keys state (Err why) ready = fail_follows keys (faults.Header why)
 
-record_follows : (keys : List Key) (state : TerminalState) (agreed : Option Agreed) (bytes : List ℕ) → terminal_agreed state.core ≡ agreed
+record_follows : (keys : List Strike) (state : TerminalState) (agreed : Option Agreed) (bytes : List ℕ) → terminal_agreed state.core ≡ agreed
     → Follows keys (taken_record (run_of state []) agreed bytes) (taken_record (run_of state keys) agreed bytes)
 record_follows keys state None bytes ready = going_follows keys [] state
 record_follows keys state (Some agreed) bytes ready =
@@ -171,7 +173,7 @@ record_follows keys state (Some agreed) bytes ready =
     (taken_headed agreed (run_of state keys) (header_of bytes)) (taken_data agreed (data_header 0 0) (run_of state keys) bytes)
     (headed_follows agreed keys state (header_of bytes) ready) (data_follows agreed (data_header 0 0) keys state bytes ready)
 
-stepped_follows : (keys : List Key) (state : TerminalState) (event : Told) (step : Stepped TermCore)
+stepped_follows : (keys : List Strike) (state : TerminalState) (event : Told) (step : Stepped TermCore)
     → Follows keys (stepped (run_of state []) event step) (stepped (run_of state keys) event step)
 stepped_follows keys state (told_record bytes) step =
     record_follows keys (record state { core = step.core }) (terminal_agreed step.core) bytes refl
@@ -179,7 +181,7 @@ stepped_follows keys state (told_verb verb option) step = going_follows keys _ (
 stepped_follows keys state (told_sub option parameters) step = going_follows keys _ (record state { core = step.core })
 stepped_follows keys state (told_passed byte) step = going_follows keys _ (record state { core = step.core })
 
-core_follows : (keys : List Key) (state : TerminalState) (event : Told) (step : Result (Stepped TermCore) SessionFault)
+core_follows : (keys : List Strike) (state : TerminalState) (event : Told) (step : Result (Stepped TermCore) SessionFault)
     → Follows keys (by_core (run_of state []) event step) (by_core (run_of state keys) event step)
 core_follows keys state event (Ok step) = stepped_follows keys state event step
 core_follows keys state event (Err why) = fail_follows keys (faults.Session why)
@@ -189,11 +191,11 @@ event_follows running event = core_follows running.keys running.state event (ter
 
 -- ---- all events
 
-events_keyed : (keys : List Key) (deeds : List Deed) → events_in (deeds_of keys ++ deeds) ≡ events_in deeds
+events_keyed : (keys : List Strike) (deeds : List Deed) → events_in (deeds_of keys ++ deeds) ≡ events_in deeds
 events_keyed [] deeds = refl
 events_keyed (key ∷ keys) deeds = events_keyed keys deeds
 
-keys_keyed : (keys : List Key) (deeds : List Deed) → keys_in (deeds_of keys ++ deeds) ≡ keys ++ keys_in deeds
+keys_keyed : (keys : List Strike) (deeds : List Deed) → keys_in (deeds_of keys ++ deeds) ≡ keys ++ keys_in deeds
 keys_keyed [] deeds = refl
 keys_keyed (key ∷ keys) deeds = ap (λ z. key ∷ z) (keys_keyed keys deeds)
 

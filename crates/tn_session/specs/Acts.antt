@@ -1,6 +1,5 @@
 -- A terminal that somebody works: what is heard, and the keys that are pressed, in turn.
 use Rattle.std.specs.Prelude.{ℕ, ◌≡◌, List, [], ◌∷◌, ◌++◌, Result}
-use Rattle.ds_keys.specs.declared.key.Key.{Key}
 use Rattle.tn_wire.specs.Stream.{Told}
 use Rattle.tn_session.specs.declared.fault.RunFault.{RunFault}
 use Rattle.tn_session.specs.declared.pressed.Pressed.{Pressed}
@@ -9,6 +8,7 @@ use Rattle.tn_session.specs.declared.terminal_state.TerminalState.{TerminalState
 use Rattle.tn_session.specs.OneLog.{Standing, waits}
 use Rattle.tn_session.specs.Runs.{Course, goes, finishes, fails, Log, going, log_on, log_of}
 use Rattle.tn_session.specs.Talk.{Talk, stands, Takes}
+use Rattle.tn_session.specs.Strikes.{Strike}
 use Rattle.tn_session.specs.TerminalLog.{TerminalRunning, terminal_act}
 use Rattle.tn_session.specs.TerminalTalk.{heard_act, unkeyed, worked, Presses}
 
@@ -16,7 +16,7 @@ use Rattle.tn_session.specs.TerminalTalk.{heard_act, unkeyed, worked, Presses}
 
 pub data Act : Type 0 where
   heard : List ℕ → Act
-  keyed : Key → Act
+  keyed : Strike → Act
 
 -- a session is told these acts by calls, and gives these bytes in all
 abbrev pub Works : Talk TerminalState → List Act → List ℕ → Talk TerminalState → Type 0
@@ -35,7 +35,7 @@ heard_first (heard bytes ∷ acts) = bytes ++ heard_first acts
 heard_first (keyed key ∷ acts) = []
 
 -- each key, and what is heard after it before the next
-abbrev pub keyed_then : List Act → List (Key × List ℕ)
+abbrev pub keyed_then : List Act → List (Strike × List ℕ)
 keyed_then [] = []
 keyed_then (heard bytes ∷ acts) = keyed_then acts
 keyed_then (keyed key ∷ acts) = (key, heard_first acts) ∷ keyed_then acts
@@ -56,7 +56,7 @@ WorkAgrees =
 
 pub data Deed : Type 0 where
   came : Told → Deed
-  pressed : Key → Deed
+  pressed : Strike → Deed
 
 -- the log of a terminal that is worked
 abbrev pub worked_log : TerminalState → List Deed → Log TerminalState
@@ -71,13 +71,13 @@ events_in [] = []
 events_in (came event ∷ deeds) = event ∷ events_in deeds
 events_in (pressed key ∷ deeds) = events_in deeds
 
-abbrev pub keys_in : List Deed → List Key
+abbrev pub keys_in : List Deed → List Strike
 keys_in [] = []
 keys_in (came event ∷ deeds) = keys_in deeds
 keys_in (pressed key ∷ deeds) = key ∷ keys_in deeds
 
 -- the keys that a run has left, where it didn't fail
-abbrev pub AreLeft : List Key → Course TerminalRunning → Type 0
+abbrev pub AreLeft : List Strike → Course TerminalRunning → Type 0
 AreLeft left (goes running) = left ≡ running.keys
 AreLeft left (finishes running) = left ≡ running.keys
 AreLeft left (fails why) = Unit {0}
@@ -87,7 +87,7 @@ AreLeft left (fails why) = Unit {0}
 pub record IsWorked (running : TerminalRunning) (events : List Told) (log : Log TerminalRunning) : Type 0 where
   pub deeds : List Deed
   pub more : List Told
-  pub left : List Key
+  pub left : List Strike
   pub hears : events ≡ events_in deeds ++ more
   pub keys : running.keys ≡ keys_in deeds ++ left
   pub are_left : AreLeft left log.course

@@ -1,7 +1,5 @@
 -- The records that made the screen which is shown, from the last erase on, parted where the operator sent.
 use Rattle.std.specs.Prelude.{ℕ, ◌+◌, ◌-◌, ◌==◌, Bool, true, false, ◌||◌, nat_le, nat_lt, List, [], ◌∷◌, ◌++◌, length, Option, Some, None, if◌then◌else◌}
-use Rattle.ds_keys.specs.declared.key.Key.{Key}
-use Rattle.ds_keys.specs.declared.key.Key.TheVariants.{Attention}
 use Rattle.ds_terminal.specs.Terminal.{Reply, shown, answered, nothing, refused, KeyReply, sent}
 
 -- a record's bytes, and whether the operator sent since the one before it, so that a turn begins with it
@@ -67,11 +65,6 @@ abbrev pub kept_attention : Keeping → Option ℕ → Keeping
 kept_attention keeping (Some aid) =
     if aid == 0x6D then with_record nothing_kept (0xF5 ∷ 0x40 ∷ []) else record keeping { sent_since = true }
 kept_attention keeping None = keeping
-
--- a key's attention identifier
-abbrev pub aid_of : Key → Option ℕ
-aid_of (Attention aid) = Some aid
-aid_of key = None
 
 abbrev pub kept_key : Keeping → Option ℕ → KeyReply → Keeping
 kept_key keeping aid (sent bytes) = kept_attention keeping aid

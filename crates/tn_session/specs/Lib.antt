@@ -2,6 +2,7 @@ pub mod Sent
 pub mod Runs
 pub mod Kept
 pub mod KeptView
+pub mod Strikes
 pub mod TerminalLog
 pub mod HostLog
 pub mod HostView
@@ -16,5 +17,6 @@ pub mod RanSession
 pub mod Pieces
 pub mod TerminalTalk
 pub mod Acts
+pub mod KeyStrokes
 pub mod Outcomes
 pub mod HostTalk

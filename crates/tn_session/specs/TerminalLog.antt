@@ -5,10 +5,10 @@ use Rattle.ds_codec.specs.declared.refused.Why.TheVariants as reading_why
 use Rattle.ds_screen.specs.declared.lock.Lock.{Lock}
 use Rattle.ds_screen.specs.declared.lock.Lock.TheVariants.{Free, Waiting, Error}
 use Rattle.ds_screen.specs.Records.{new_picture}
-use Rattle.ds_keys.specs.declared.key.Key.{Key}
+use Rattle.ds_strokes.specs.StrokeStep.{Operating, operating}
 use Rattle.ds_terminal.specs.declared.refused.Refused.{Refused}
 use Rattle.ds_terminal.specs.declared.refused.Refused.TheVariants.{Read, Apply}
-use Rattle.ds_terminal.specs.Terminal.{Reply, shown, answered, nothing, refused, KeyReply, done, inhibited, ignored, sent, KeyTurn, Turn, received, pressed}
+use Rattle.ds_terminal.specs.Terminal.{Reply, shown, answered, nothing, refused, KeyReply, done, inhibited, ignored, sent, Turn, received}
 use Rattle.tn_wire.specs.declared.header.Header.{Header}
 use Rattle.tn_wire.specs.declared.header.HeaderFault.{HeaderFault}
 use Rattle.tn_wire.specs.declared.header.DataType.{DataType}
@@ -25,19 +25,21 @@ use Rattle.tn_cores.specs.Steps.{Stepped, terminal_step}
 use Rattle.tn_cores.specs.Terminal.{new_terminal, terminal_agreed}
 use Rattle.tn_session.specs.declared.fault.RunFault.TheVariants as faults
 use Rattle.tn_session.specs.declared.terminal_state.TerminalState.{TerminalState}
-use Rattle.tn_session.specs.Kept.{nothing_kept, keep_record, keep_key, aid_of}
+use Rattle.tn_session.specs.Kept.{nothing_kept, keep_record, keep_key}
 use Rattle.tn_session.specs.Runs.{Log, going, finished, failed}
 use Rattle.tn_session.specs.Sent.{framed, next_sequence, sent_data, data_header}
+use Rattle.tn_session.specs.Strikes.{Strike, strike_aid, Struck, struck_by}
 
 -- a terminal's run: what it keeps, and the keys that are left
 pub record TerminalRunning : Type 0 where
   pub state : TerminalState
-  pub keys : List Key
+  pub keys : List Strike
 
 abbrev pub new_terminal_state : Device → Bool → Bool → TerminalState
 new_terminal_state device enhanced responses = record {
   core = new_terminal device enhanced responses;
   terminal = new_picture (sizes_of device.model);
+  inserts = false;
   sequence = 0;
   was_free = false;
   answers = 0;
@@ -55,7 +57,7 @@ keeping_terminal device enhanced responses = record (new_terminal_state device e
 abbrev pub one_more : ℕ → ℕ
 one_more count = if nat_lt count 18446744073709551615 then count + 1 else count
 
-abbrev pub terminal_start : Device → Bool → Bool → List Key → TerminalRunning
+abbrev pub terminal_start : Device → Bool → Bool → List Strike → TerminalRunning
 terminal_start device enhanced responses keys = record { state = new_terminal_state device enhanced responses; keys = keys }
 
 -- what is sent, and what the terminal then keeps
@@ -151,22 +153,30 @@ key_replied agreed state done = doing [] state
 key_replied agreed state inhibited = doing [] state
 key_replied agreed state ignored = doing [] state
 
--- what a key makes of the screen, and of the records that are kept
-abbrev pub after_key : TerminalState → Key → KeyTurn → TerminalState
-after_key state key turn = record state { terminal = turn.after; kept = keep_key state.kept (aid_of key) turn.reply }
+-- the operator at this terminal
+abbrev pub operator_at : TerminalState → Operating
+operator_at state = operating state.terminal state.inserts
 
-abbrev pub key_turned : Agreed → TerminalState → Key → KeyTurn → Doing
-key_turned agreed state key turn = key_replied agreed (after_key state key turn) turn.reply
+-- what a key makes of the screen, of insert mode, and of the records that are kept
+abbrev pub after_key : TerminalState → Option ℕ → Struck → TerminalState
+after_key state aid struck = record state {
+  terminal = struck.turn.after;
+  inserts = struck.inserts;
+  kept = keep_key state.kept aid struck.turn.reply;
+}
 
-abbrev pub typed_key : Agreed → TerminalState → Key → Doing
-typed_key agreed state key = key_turned agreed state key (pressed state.terminal key)
+abbrev pub key_turned : Agreed → TerminalState → Option ℕ → Struck → Doing
+key_turned agreed state aid struck = key_replied agreed (after_key state aid struck) struck.turn.reply
+
+abbrev pub typed_key : Agreed → TerminalState → Strike → Doing
+typed_key agreed state key = key_turned agreed state (strike_aid key) (struck_by key (operator_at state))
 
 -- these bytes first
 abbrev pub before : List ℕ → Typing → Typing
 before due later = record { due = due ++ later.due; running = later.running }
 
 -- keys are pressed one after the other, until the keyboard waits for a record
-abbrev pub typing : Agreed → TerminalState → List Key → Typing
+abbrev pub typing : Agreed → TerminalState → List Strike → Typing
 typing agreed state [] = record { due = []; running = record { state = state; keys = [] } }
 typing agreed state (key ∷ keys) =
     if is_waiting state.terminal.lock then record { due = []; running = record { state = state; keys = key ∷ keys } }
@@ -175,7 +185,7 @@ typing agreed state (key ∷ keys) =
 -- ---- events
 
 -- keys after a record
-abbrev pub then_typed : Agreed → List Key → Doing → Typing
+abbrev pub then_typed : Agreed → List Strike → Doing → Typing
 then_typed agreed keys did = before did.due (typing agreed did.state keys)
 
 -- the run is over once the keyboard has been free and no key is left

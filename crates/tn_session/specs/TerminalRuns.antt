@@ -1,6 +1,5 @@
 -- What a terminal's run over a line did.
 use Rattle.std.specs.Prelude.{◌≡◌, ◌⊎◌, Bool, List, [], Option, Some, Result, Ok, Err}
-use Rattle.ds_keys.specs.declared.key.Key.{Key}
 use Rattle.tn_cores.specs.declared.device.Device.{Device}
 use Rattle.tn_session.specs.declared.stop.Stop.{Stop}
 use Rattle.tn_session.specs.declared.stop.Stop.TheVariants.{ReadFailed, WriteFailed}
@@ -12,6 +11,7 @@ use Rattle.tn_session.specs.declared.report.RunEnd.{RunEnd}
 use Rattle.tn_session.specs.declared.report.RunEnd.TheVariants as ends
 use Rattle.tn_session.specs.Wire.{WireState}
 use Rattle.tn_session.specs.Ran.{Ran, RunFails, cause_of}
+use Rattle.tn_session.specs.Strikes.{Strike}
 use Rattle.tn_session.specs.TerminalLog.{TerminalRunning, terminal_start, terminal_act}
 
 -- the line stopped by a read or a write that failed
@@ -37,7 +37,7 @@ report_of running end = record {
 
 -- The report is that of the state in which the log of what was read ends, or in which the line closed; a fault is the log's,
 -- the line's, or the number of reads. What was sent is what is due by the log.
-abbrev pub TerminalRan : Device → Bool → Bool → List Key → WireState → Result Report RunFault → WireState → Type 0
+abbrev pub TerminalRan : Device → Bool → Bool → List Strike → WireState → Result Report RunFault → WireState → Type 0
 TerminalRan device enhanced responses keys old (Ok report) new =
     (end : TerminalRunning) × (report ≡ report_of end report.end)
     × Ran terminal_act [] (terminal_start device enhanced responses keys) old (Ok (finish_of report.end)) end new

@@ -1,7 +1,6 @@
 -- A terminal that somebody works, without a line.
 use Rattle.std.specs.Prelude.{ℕ, ◌≡◌, ◌-◌, Bool, List, [], Option, Some, None, Result, Ok, Err, if◌then◌else◌}
-use Rattle.ds_keys.specs.declared.key.Key.{Key}
-use Rattle.ds_terminal.specs.Terminal.{KeyReply, done, inhibited, ignored, sent, pressed}
+use Rattle.ds_terminal.specs.Terminal.{KeyReply, done, inhibited, ignored, sent}
 use Rattle.tn_wire.specs.Stream.{Told}
 use Rattle.tn_cores.specs.declared.device.Device.{Device}
 use Rattle.tn_cores.specs.declared.session.Agreed.{Agreed}
@@ -15,8 +14,9 @@ use Rattle.tn_session.specs.declared.terminal_state.TerminalState.{TerminalState
 use Rattle.tn_session.specs.Kept.{Kept, Keeping}
 use Rattle.tn_session.specs.OneLog.{waits, is_over, has_failed, is_at_fault}
 use Rattle.tn_session.specs.Runs.{Course, goes, finishes, fails, Log}
+use Rattle.tn_session.specs.Strikes.{Strike, struck_by}
 use Rattle.tn_session.specs.Talk.{Talk, stands, starved}
-use Rattle.tn_session.specs.TerminalLog.{TerminalRunning, terminal_act, typed_key, keeping_terminal}
+use Rattle.tn_session.specs.TerminalLog.{TerminalRunning, operator_at, terminal_act, typed_key, keeping_terminal}
 
 -- ---- one event: what a run does that has no keys, and goes on where it is over
 
@@ -46,24 +46,24 @@ key_answer ignored = keyed.Ignored
 key_answer (sent bytes) = keyed.Sent
 
 -- a key before the session is ready is ignored
-abbrev pub worked_under : Option Agreed → TerminalState → Key → Work
+abbrev pub worked_under : Option Agreed → TerminalState → Strike → Work
 worked_under None state key = record { due = []; state = state; answer = keyed.Ignored }
 worked_under (Some agreed) state key = record {
   due = (typed_key agreed state key).due;
   state = (typed_key agreed state key).state;
-  answer = key_answer (pressed state.terminal key).reply;
+  answer = key_answer (struck_by key (operator_at state)).turn.reply;
 }
 
-abbrev pub worked : TerminalState → Key → Work
+abbrev pub worked : TerminalState → Strike → Work
 worked state key = worked_under (terminal_agreed state.core) state key
 
-abbrev pub GivesKey : TerminalState → Key → Result Pressed RunFault → List ℕ → TerminalState → Type 0
+abbrev pub GivesKey : TerminalState → Strike → Result Pressed RunFault → List ℕ → TerminalState → Type 0
 GivesKey state key (Ok answer) given new =
     (answer ≡ (worked state key).answer) × (given ≡ (worked state key).due) × (new ≡ (worked state key).state)
 GivesKey state key (Err why) given new = (why ≡ faults.OutOfMemory) × (given ≡ []) × ((worked state key).answer ≡ keyed.Sent)
 
 -- Where memory was refused, which only a key that sends takes, the session is over with that.
-abbrev pub PressesKey : TerminalState → List ℕ → Key → Result Pressed RunFault → List ℕ → Talk TerminalState → Type 0
+abbrev pub PressesKey : TerminalState → List ℕ → Strike → Result Pressed RunFault → List ℕ → Talk TerminalState → Type 0
 PressesKey state left key (Ok answer) given new =
     (answer ≡ (worked state key).answer) × (given ≡ (worked state key).due) × (new ≡ stands (waits (worked state key).state left))
 PressesKey state left key (Err why) given new =
@@ -73,7 +73,7 @@ abbrev pub Unchanged : Talk TerminalState → Result Pressed RunFault → Result
 Unchanged old word result given new = (result ≡ word) × (given ≡ []) × (new ≡ old)
 
 -- a session that failed answers its fault to a key too
-abbrev pub Presses : Talk TerminalState → Key → Result Pressed RunFault → List ℕ → Talk TerminalState → Type 0
+abbrev pub Presses : Talk TerminalState → Strike → Result Pressed RunFault → List ℕ → Talk TerminalState → Type 0
 Presses (stands (waits state left)) key result given new = PressesKey state left key result given new
 Presses (stands (is_over end)) key result given new = Unchanged (stands (is_over end)) (Ok keyed.Ignored) result given new
 Presses (stands (has_failed why)) key result given new = Unchanged (stands (has_failed why)) (Err why) result given new

@@ -1,13 +1,12 @@
 //! The records that made the screen which is shown.
 
 ghost use Rattle.std.specs.Prelude.{◌≡◌, true, map, None, Some, OnOk, OnErr, option_map, if◌then◌else◌};
-ghost use Rattle.tn_session.specs.Kept.{nothing_kept, has_room, one_kept, with_record, is_erase_code, is_read_code, begins_with, kept_record, kept_attention, aid_of, kept_key};
+ghost use Rattle.tn_session.specs.Kept.{nothing_kept, has_room, one_kept, with_record, is_erase_code, is_read_code, begins_with, kept_record, kept_attention, kept_key};
 ghost use Rattle.tn_session.specs.KeptView.{kept_view};
 ghost use Rattle.ds_terminal.specs.Seen.{reply_seen, key_reply_seen};
 ghost use Rattle.ds_terminal.specs.Terminal.{IsSent};
 
 use crate::outcome::owned;
-use ds_keys::Key;
 use ds_terminal::{KeyReply, RecordReply};
 use std::alloc::{AllocError, Global};
 use std::marker::Model;
@@ -64,16 +63,6 @@ fn is_read_code(code: u8) -> bool
 {
     (code == 0x02 || code == 0xf2)
         || ((code == 0x06 || code == 0xf6) || (code == 0x0e || code == 0x6e))
-}
-
-/// A key's attention identifier.
-pub(crate) fn aid_of(key: &Key) -> Option<u8>
-    ensures { result ≡ aid_of key.now }
-{
-    match key {
-        Key::Attention(aid) => Some(aid.byte()),
-        _ => None,
-    }
 }
 
 /// Whether a record begins with a command that erases first.

@@ -5,6 +5,7 @@ ghost use Rattle.tn_session.specs.HostLog.{HostRunning};
 ghost use Rattle.tn_session.specs.OneLog.{HaveOneLog, LogsGoOn};
 ghost use Rattle.tn_session.specs.Pieces.{PiecesHaveLog, CutsAgree};
 ghost use Rattle.tn_session.specs.Acts.{WorkAgrees, RunsAreWorked};
+ghost use Rattle.tn_session.specs.KeyStrokes.{StrokesAreKeys, RunsOfKeysAgree};
 ghost use Rattle.tn_session.specs.declared.terminal_state.TerminalState.{TerminalState};
 ghost use Rattle.tn_session.specs.Outcomes.{AnswersFinish, AnswersEndLogs, OutcomesAreTouched};
 
@@ -29,13 +30,20 @@ pub fn pieces_law<S>()
     ensures terminal { CutsAgree TerminalState }
 {}
 
-/// A terminal that somebody works. Two terminals that are told the same from the beginning of a session, keys and between two
-/// of them the same bytes, cut in any two ways, give the same bytes and stand alike: they show the same picture. And what a
-/// run over a line does with its list of keys is what a terminal does that is worked so: it hears the run's events, and is
-/// pressed the run's keys in turn.
+/// A terminal that somebody works. Two terminals that are told the same from the beginning of a session, keys or strokes and
+/// between two of them the same bytes, cut in any two ways, give the same bytes and stand alike: they show the same picture,
+/// and are both in insert mode or neither is. And what a run over a line does with its list of keys or strokes is what a
+/// terminal does that is worked so: it hears the run's events, and is pressed the run's keys, or struck its strokes, in turn.
 pub fn work_law()
     ensures agrees { WorkAgrees }
     ensures runs { RunsAreWorked }
+{}
+
+/// Without insert mode a stroke that is a key does what the key does, in a terminal that somebody works; and a run over a line
+/// whose strokes are keys goes as the run that presses them: the same bytes are due, and it stands and ends alike.
+pub fn key_law()
+    ensures worked { StrokesAreKeys }
+    ensures runs { RunsOfKeysAgree }
 {}
 
 /// What comes of a host's run at a checked screen. Where `check` says yes, and the operator's keys, of which none sends, are

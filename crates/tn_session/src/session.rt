@@ -9,12 +9,12 @@ ghost use Rattle.tn_session.specs.OneLog.{waits};
 ghost use Rattle.tn_session.specs.TerminalTalk.{GivesKey, Presses};
 
 use crate::fault::RunFault;
+use crate::keystroke::Keystroke;
 use crate::machine::Machine;
 use crate::pressed::Pressed;
 use crate::progress::Progress;
 use crate::terminal_state::TerminalState;
 use crate::turn::Turn;
-use ds_keys::Key;
 use std::alloc::{AllocError, Global};
 use std::marker::Model;
 use tn_wire::{Deframer, Event, Step};
@@ -180,15 +180,15 @@ impl<M: Machine> Session<M> {
 }
 
 impl Session<TerminalState> {
-    /// Presses a key, and adds the bytes that it sends.
-    pub(crate) fn press(
+    /// Presses a key, or strikes, and adds the bytes that this sends.
+    pub(crate) fn press<K: Keystroke>(
         &mut self,
         alloc: Global,
-        key: Key,
+        key: &K,
         due: &mut Vec<u8>,
     ) -> Result<Pressed, RunFault>
         ensures { Adds due.old.items due.new.items (λ given.
-            Presses self.old key result given self.new) }
+            Presses self.old (K.strike key.now) result given self.new) }
     {
         match self.end {
             Some(End::Over) => return Ok(Pressed::Ignored),
@@ -203,16 +203,16 @@ impl Session<TerminalState> {
     }
 }
 
-/// Presses a key, and adds what it sends.
-fn press_key(
+/// Presses a key, or strikes, and adds what this sends.
+fn press_key<K: Keystroke>(
     alloc: Global,
     state: &mut TerminalState,
     made: &mut Vec<u8>,
     due: &mut Vec<u8>,
-    key: Key,
+    key: &K,
 ) -> Result<Pressed, RunFault>
     ensures { Adds due.old.items due.new.items (λ given.
-        GivesKey state.old key result given state.new) }
+        GivesKey state.old (K.strike key.now) result given state.new) }
 {
     made.clear();
     let answer = state.work(alloc, made, key)?;

@@ -1,6 +1,6 @@
 //! What an event does to a terminal's run.
 
-ghost use Rattle.std.specs.Prelude.{◌≡◌, []};
+ghost use Rattle.std.specs.Prelude.{◌≡◌, [], map};
 ghost use Rattle.tn_wire.specs.Calls.{told_of};
 ghost use Rattle.tn_wire.specs.Header.{header_of};
 ghost use Rattle.tn_cores.specs.Terminal.{terminal_agreed};
@@ -8,28 +8,28 @@ ghost use Rattle.tn_session.specs.Ran.{Does};
 ghost use Rattle.tn_session.specs.TerminalLog.{taken_data, taken_headed, taken_record, terminal_act};
 
 use crate::fault::RunFault;
+use crate::keystroke::Keystroke;
 use crate::terminal_state::TerminalState;
 use crate::terminal_turns::one_more;
 use crate::turn::Turn;
-use ds_keys::Key;
 use std::alloc::Global;
 use tn_cores::{Agreed, Out};
 use tn_wire::{DataType, Event, Header};
 
 /// Takes a record of 3270 data, and presses keys.
-fn take_data(
+fn take_data<K: Keystroke>(
     alloc: Global,
     due: &mut Vec<u8>,
     state: &mut TerminalState,
-    keys: &mut &[Key],
+    keys: &mut &[K],
     agreed: Agreed,
     header: Header,
     bytes: &[u8],
 ) -> Result<Turn, RunFault>
     requires empty { due.old.items ≡ [] }
     ensures { Does (taken_data agreed header
-        (record { state = state.old; keys = keys.old.now }) bytes.now) result
-        (record { state = state.new; keys = keys.new.now }) due.new.items }
+        (record { state = state.old; keys = map K.strike keys.old.now }) bytes.now) result
+        (record { state = state.new; keys = map K.strike keys.new.now }) due.new.items }
 {
     state.receive(alloc, due, agreed, header, bytes)?;
     state.press_all(alloc, due, agreed, keys)?;
@@ -41,18 +41,18 @@ fn take_data(
 }
 
 /// Takes a record of a TN3270E session: its header says what becomes of it.
-fn take_headed(
+fn take_headed<K: Keystroke>(
     alloc: Global,
     due: &mut Vec<u8>,
     state: &mut TerminalState,
-    keys: &mut &[Key],
+    keys: &mut &[K],
     agreed: Agreed,
     bytes: &[u8],
 ) -> Result<Turn, RunFault>
     requires empty { due.old.items ≡ [] }
     ensures { Does (taken_headed agreed
-        (record { state = state.old; keys = keys.old.now }) (header_of bytes.now)) result
-        (record { state = state.new; keys = keys.new.now }) due.new.items }
+        (record { state = state.old; keys = map K.strike keys.old.now }) (header_of bytes.now)) result
+        (record { state = state.new; keys = map K.strike keys.new.now }) due.new.items }
 {
     let (header, data) = match Header::read(bytes) {
         Ok(read) => read,
@@ -68,17 +68,17 @@ fn take_headed(
 }
 
 /// Takes a record, once the session is ready.
-fn take_record(
+fn take_record<K: Keystroke>(
     alloc: Global,
     due: &mut Vec<u8>,
     state: &mut TerminalState,
-    keys: &mut &[Key],
+    keys: &mut &[K],
     bytes: &[u8],
 ) -> Result<Turn, RunFault>
     requires empty { due.old.items ≡ [] }
-    ensures { Does (taken_record (record { state = state.old; keys = keys.old.now })
+    ensures { Does (taken_record (record { state = state.old; keys = map K.strike keys.old.now })
         (terminal_agreed state.old.core) bytes.now) result
-        (record { state = state.new; keys = keys.new.now }) due.new.items }
+        (record { state = state.new; keys = map K.strike keys.new.now }) due.new.items }
 {
     let Some(agreed) = state.core.agreed() else {
         return Ok(Turn::Goes);
@@ -96,17 +96,17 @@ fn take_record(
 }
 
 /// Takes an event.
-pub(crate) fn take_event_of(
+pub(crate) fn take_event_of<K: Keystroke>(
     alloc: Global,
     due: &mut Vec<u8>,
     state: &mut TerminalState,
-    keys: &mut &[Key],
+    keys: &mut &[K],
     event: &Event<'_>,
 ) -> Result<Turn, RunFault>
     requires empty { due.old.items ≡ [] }
-    ensures { Does (terminal_act (record { state = state.old; keys = keys.old.now })
+    ensures { Does (terminal_act (record { state = state.old; keys = map K.strike keys.old.now })
         (told_of event.now)) result
-        (record { state = state.new; keys = keys.new.now }) due.new.items }
+        (record { state = state.new; keys = map K.strike keys.new.now }) due.new.items }
 {
     let mut reply = Out::new();
     if let Err(why) = state.core.step(event, &mut reply) {

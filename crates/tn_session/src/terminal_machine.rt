@@ -1,6 +1,7 @@
 //! A terminal as a machine that a line runs.
 
 use crate::fault::RunFault;
+use crate::keystroke::Keystroke;
 use crate::machine::Machine;
 use crate::report::{Report, RunEnd};
 use crate::terminal_events::take_event_of;
@@ -13,17 +14,18 @@ use tn_wire::Event;
 
 /// A terminal's run: what it keeps, and the keys that are left.
 #[derive(Drop)]
-pub(crate) struct TerminalRun<'a> {
+pub(crate) struct TerminalRun<'a, K: Keystroke> {
     pub(crate) state: TerminalState,
-    pub(crate) keys: &'a [Key],
+    pub(crate) keys: &'a [K],
 }
 
-impl<'a> Model for TerminalRun<'a> {
+impl<'a, K: Keystroke> Model for TerminalRun<'a, K> {
+    ghost use Rattle.std.specs.Prelude.{map};
     ghost use Rattle.tn_session.specs.TerminalLog.{TerminalRunning};
 
     ghost Value = { TerminalRunning };
 
-    ghost view = { λ r. record { state = r.state; keys = r.keys.now } };
+    ghost view = { λ r. record { state = r.state; keys = map K.strike r.keys.now } };
 }
 
 impl Machine for TerminalState {
@@ -43,7 +45,7 @@ impl Machine for TerminalState {
     }
 }
 
-impl<'a> Machine for TerminalRun<'a> {
+impl<'a, K: Keystroke> Machine for TerminalRun<'a, K> {
     ghost use Rattle.tn_session.specs.TerminalLog.{terminal_act};
 
     ghost act = { terminal_act };
@@ -58,7 +60,7 @@ impl<'a> Machine for TerminalRun<'a> {
     }
 }
 
-impl<'a> TerminalRun<'a> {
+impl<'a, K: Keystroke> TerminalRun<'a, K> {
     ghost use Rattle.std.specs.Prelude.{◌≡◌};
     ghost use Rattle.tn_session.specs.TerminalRuns.{report_of, end_of};
 

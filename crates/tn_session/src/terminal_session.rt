@@ -3,6 +3,7 @@
 ghost use Rattle.std.specs.Prelude.{◌≡◌, ◌≤◌, ◌-◌, map, is_some, IfOk, option_map, vec_len};
 ghost use Rattle.tn_session.specs.declared.progress.Progress.TheVariants.{More};
 ghost use Rattle.tn_session.specs.KeptView.{kept_view};
+ghost use Rattle.tn_session.specs.Strikes.{by_key, by_stroke};
 ghost use Rattle.tn_session.specs.Talk.{Adds, Takes};
 ghost use Rattle.tn_session.specs.TerminalTalk.{heard_act, Presses, new_worked, counts_of, since, OfWaiting, agreed_in, records_kept};
 
@@ -15,6 +16,7 @@ use crate::session::Session;
 use crate::terminal_state::TerminalState;
 use ds_keys::Key;
 use ds_screen::{PlaneCells, Screen};
+use ds_strokes::Stroke;
 use std::alloc::{AllocError, Global};
 use std::marker::Model;
 use tn_cores::{Agreed, Device};
@@ -99,7 +101,8 @@ impl TerminalSession {
         self.session.take(alloc, bytes, due)
     }
 
-    /// Presses a key, and adds the bytes that it sends. While the keyboard waits for a record every key is ignored.
+    /// Presses a key, and adds the bytes that it sends. While the keyboard waits for a record every key is ignored. It does what
+    /// it does without insert mode, and leaves insert mode as it is: an operator who uses that strikes, keys too.
     ///
     /// # Errors
     ///
@@ -107,11 +110,39 @@ impl TerminalSession {
     /// makes; it is then the session's last word.
     pub fn press(&mut self, alloc: Global, key: Key, due: &mut Vec<u8>) -> Result<Pressed, RunFault>
         ensures pressed { Adds due.old.items due.new.items (λ given.
-            Presses self.old.talk key result given self.new.talk) }
+            Presses self.old.talk (by_key key) result given self.new.talk) }
         ensures told { self.new.told ≡ self.old.told }
         ensures grows { vec_len due.old ≤ vec_len due.new }
     {
-        self.session.press(alloc, key, due)
+        self.session.press(alloc, &key, due)
+    }
+
+    /// Strikes: a key in insert mode or without, or what begins this, or a character duplicate or field mark; and adds the bytes
+    /// that it sends. Insert mode is off at first, and after Reset and each stroke that sends. Without it a stroke that is a key
+    /// does what `press` does. While the keyboard waits for a record every stroke is ignored.
+    ///
+    /// # Errors
+    ///
+    /// As `press`.
+    pub fn strike(
+        &mut self,
+        alloc: Global,
+        stroke: Stroke,
+        due: &mut Vec<u8>,
+    ) -> Result<Pressed, RunFault>
+        ensures struck { Adds due.old.items due.new.items (λ given.
+            Presses self.old.talk (by_stroke stroke) result given self.new.talk) }
+        ensures told { self.new.told ≡ self.old.told }
+        ensures grows { vec_len due.old ≤ vec_len due.new }
+    {
+        self.session.press(alloc, &stroke, due)
+    }
+
+    /// Whether insert mode is on. After a fault it is as that left it.
+    pub fn inserts(&self) -> bool
+        ensures { OfWaiting (λ state. state.inserts) self.now.talk result }
+    {
+        self.session.machine().inserts
     }
 
     /// What the terminal shows and keeps. After a fault it is as that left it.

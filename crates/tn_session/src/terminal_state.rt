@@ -19,6 +19,8 @@ pub(crate) struct TerminalState {
     pub(crate) core: TermCore,
     /// The screen and keyboard.
     pub(crate) terminal: Terminal<PlaneCells>,
+    /// Insert mode is on.
+    pub(crate) inserts: bool,
     /// The sequence number of the next answer.
     pub(crate) sequence: u16,
     /// The keyboard has been free.
@@ -49,6 +51,7 @@ impl TerminalState {
         Ok(TerminalState {
             core: TermCore::new(device, enhanced, responses),
             terminal,
+            inserts: false,
             sequence: 0,
             was_free: false,
             answers: 0,

@@ -1,19 +1,20 @@
 //! What a record and a key do to a terminal's run.
 
-ghost use Rattle.std.specs.Prelude.{◌≡◌, ◌++◌, IfOk, OnOk, OnErr};
+ghost use Rattle.std.specs.Prelude.{◌≡◌, ◌++◌, map, IfOk, OnOk, OnErr};
 ghost use Rattle.tn_session.specs.declared.pressed.Pressed.TheVariants.{Sent};
-ghost use Rattle.tn_session.specs.TerminalLog.{one_more, is_free, is_waiting, answer_due, after_answer, replied, received_data, key_replied, typed_key, typing};
+ghost use Rattle.tn_session.specs.TerminalLog.{one_more, is_free, is_waiting, answer_due, after_answer, replied, received_data, operator_at, key_replied, typed_key, typing};
 ghost use Rattle.tn_session.specs.Kept.{keep_record, keep_key};
+ghost use Rattle.tn_session.specs.Strikes.{struck_by};
 ghost use Rattle.tn_session.specs.TerminalTalk.{key_answer, worked};
 ghost use Rattle.ds_terminal.specs.Seen.{reply_seen, key_reply_seen};
-ghost use Rattle.ds_terminal.specs.Terminal.{pressed, IsSent};
+ghost use Rattle.ds_terminal.specs.Terminal.{IsSent};
 
-use crate::kept::{KeptRecords, aid_of};
+use crate::kept::KeptRecords;
+use crate::keystroke::Keystroke;
 use crate::pressed::Pressed;
 use crate::responses::{push_negative, push_positive};
 use crate::sent::{next_sequence, push_data};
 use crate::terminal_state::TerminalState;
-use ds_keys::Key;
 use ds_screen::Lock;
 use ds_terminal::{KeyReply, RecordReply};
 use std::alloc::{AllocError, Global};
@@ -136,24 +137,25 @@ impl TerminalState {
         }
     }
 
-    /// Presses a key.
-    fn press(
+    /// Presses a key, or strikes.
+    fn press<K: Keystroke>(
         &mut self,
         alloc: Global,
         due: &mut Vec<u8>,
         agreed: Agreed,
-        key: Key,
+        key: &K,
     ) -> Result<Pressed, AllocError>
-        ensures due { OnOk result
-            (due.new.items ≡ due.old.items ++ (typed_key agreed self.old key).due) }
-        ensures after { OnOk result (self.new ≡ (typed_key agreed self.old key).state) }
-        ensures answer { IfOk result (λ answer.
-            answer ≡ key_answer (pressed self.old.terminal key).reply) }
-        ensures asks { OnErr result (IsSent (pressed self.old.terminal key).reply) }
+        ensures due { OnOk result (due.new.items
+            ≡ due.old.items ++ (typed_key agreed self.old (K.strike key.now)).due) }
+        ensures after { OnOk result
+            (self.new ≡ (typed_key agreed self.old (K.strike key.now)).state) }
+        ensures answer { IfOk result (λ answer. answer
+            ≡ key_answer (struck_by (K.strike key.now) (operator_at self.old)).turn.reply) }
+        ensures asks { OnErr result
+            (IsSent (struck_by (K.strike key.now) (operator_at self.old)).turn.reply) }
     {
-        let aid = aid_of(&key);
-        let reply = self.terminal.press(alloc, key)?;
-        keep_key(alloc, &mut self.kept, aid, &reply)?;
+        let reply = key.strike_at(alloc, &mut self.terminal, &mut self.inserts)?;
+        keep_key(alloc, &mut self.kept, key.aid(), &reply)?;
         self.key_reply(due, agreed, reply)
     }
 
@@ -182,18 +184,19 @@ impl TerminalState {
         }
     }
 
-    /// Presses a key, which is ignored before the session is ready.
-    pub(crate) fn work(
+    /// Presses a key, or strikes, which is ignored before the session is ready.
+    pub(crate) fn work<K: Keystroke>(
         &mut self,
         alloc: Global,
         due: &mut Vec<u8>,
-        key: Key,
+        key: &K,
     ) -> Result<Pressed, AllocError>
         ensures due { OnOk result
-            (due.new.items ≡ due.old.items ++ (worked self.old key).due) }
-        ensures after { OnOk result (self.new ≡ (worked self.old key).state) }
-        ensures answer { IfOk result (λ answer. answer ≡ (worked self.old key).answer) }
-        ensures asks { OnErr result ((worked self.old key).answer ≡ Sent) }
+            (due.new.items ≡ due.old.items ++ (worked self.old (K.strike key.now)).due) }
+        ensures after { OnOk result (self.new ≡ (worked self.old (K.strike key.now)).state) }
+        ensures answer { IfOk result
+            (λ answer. answer ≡ (worked self.old (K.strike key.now)).answer) }
+        ensures asks { OnErr result ((worked self.old (K.strike key.now)).answer ≡ Sent) }
     {
         let Some(agreed) = self.core.agreed() else {
             return Ok(Pressed::Ignored);
@@ -202,23 +205,23 @@ impl TerminalState {
     }
 
     /// Presses keys one after the other, until the keyboard waits for a record.
-    pub(crate) fn press_all(
+    pub(crate) fn press_all<K: Keystroke>(
         &mut self,
         alloc: Global,
         due: &mut Vec<u8>,
         agreed: Agreed,
-        keys: &mut &[Key],
+        keys: &mut &[K],
     ) -> Result<(), AllocError>
-        ensures due { OnOk result
-            (due.new.items ≡ due.old.items ++ (typing agreed self.old keys.old.now).due) }
-        ensures after { OnOk result (record { state = self.new; keys = keys.new.now }
-            ≡ (typing agreed self.old keys.old.now).running) }
+        ensures due { OnOk result (due.new.items
+            ≡ due.old.items ++ (typing agreed self.old (map K.strike keys.old.now)).due) }
+        ensures after { OnOk result (record { state = self.new; keys = map K.strike keys.new.now }
+            ≡ (typing agreed self.old (map K.strike keys.old.now)).running) }
     {
         'keys: while let Some((key, rest)) = keys.split_first() {
             if is_waiting(self.terminal.screen().lock()) {
                 return Ok(());
             }
-            let _answer = self.press(alloc, due, agreed, *key)?;
+            let _answer = self.press(alloc, due, agreed, key)?;
             *keys = rest;
         }
         Ok(())

@@ -4,6 +4,7 @@ ghost use Rattle.std.specs.Prelude.{◌≡◌, ◌+◌, ◌++◌, IfErr, IfOk, I
 ghost use Rattle.std.specs.String.{string_bytes};
 ghost use Rattle.ds_strokes.specs.StrokeStep.{after_stroke};
 ghost use Rattle.ds_terminal.specs.Seen.{key_reply_seen};
+ghost use Rattle.ds_terminal.specs.Strokes.{stroke_turn};
 ghost use Rattle.ds_terminal.specs.Terminal.{key_turn};
 ghost use Rattle.term_commands.specs.declared.input.sizes.SizeLine.TheVariants.{Allowed};
 ghost use Rattle.term_commands.specs.declared.status.Status.TheVariants.{Done};
@@ -14,7 +15,7 @@ ghost use Rattle.term_commands.specs.Press.{turn_line};
 ghost use Rattle.term_commands.specs.Printed.{printed};
 ghost use Rattle.term_commands.specs.Records.{records_in};
 ghost use Rattle.term_commands.specs.Streams.{Prints};
-ghost use Rattle.term_commands.specs.Strike.{stroke_turn, struck_text, strike_told, strike_lines, strike, printed_strike};
+ghost use Rattle.term_commands.specs.Strike.{struck_text, strike_told, strike_lines, strike, printed_strike};
 
 use crate::commands::press::push_reply;
 use crate::fault::CommandError;

@@ -1,6 +1,6 @@
 use Rattle.std.proofs.Common.{sym, ◌∙◌}
 use Rattle.ds_strokes.proofs.PressLaws.{on_free, on_waiting, on_error}
-use Rattle.ds_strokes.proofs.operator.strike_screen.Goals as goal
+use Rattle.ds_strokes.proofs.step.strike_screen.Goals as goal
 
 pub returns-in-Free : goal.returns-in-Free
 returns-in-Free g c = c.strike_free.ensures ∙ on_free c.args.screen.now c.args.inserts c.args.stroke.now (sym c.lock.ensures ∙ c.in-Free.is)

@@ -1,0 +1,260 @@
+-- Without insert mode strokes that are keys do what keys do, one by one and in a run.
+use Rattle.std.proofs.Common.{◌≡◌, ℕ, nat_eq, ◌&&◌, Bool, true, false, cond, List, [], ◌∷◌, length, map, None, Some, Ok, Err, refl, sym, ◌∙◌, ap}
+use Rattle.std.specs.Prelude.{Option, Result}
+use Rattle.std.proofs.lemmas.List.{length-map}
+use Rattle.ds_screen.specs.Picture.{Picture}
+use Rattle.ds_keys.specs.declared.key.Key.{Key}
+use Rattle.ds_keys.specs.declared.pressed.Pressed as keyed
+use Rattle.ds_keys.specs.declared.pressed.Pressed.TheVariants.{Done, Inhibited, Ignored, Sent}
+use Rattle.ds_keys.specs.KeyStep.{Step, step, step_of}
+use Rattle.ds_strokes.specs.declared.stroke.Stroke.TheVariants as stroke
+use Rattle.ds_strokes.specs.StrokeStep.{operating, after_stroke, stroke_answer, inserts_after}
+use Rattle.ds_strokes.proofs.PressLaws.{struck_without}
+use Rattle.ds_terminal.specs.Terminal.{Reply, shown, answered, nothing, refused, KeyReply, done, inhibited, ignored, sent, KeyTurn, key_turn, key_reply, received, pressed}
+use Rattle.ds_terminal.specs.Strokes.{key_aid}
+use Rattle.tn_wire.specs.declared.header.DataType.{DataType}
+use Rattle.tn_wire.specs.declared.header.DataType.TheVariants.{Data3270, ScsData, Response, BindImage, Unbind, NvtData, Request, SscpLuData, PrintEoj}
+use Rattle.tn_wire.specs.declared.header.Header.{Header}
+use Rattle.tn_wire.specs.declared.header.HeaderFault.{HeaderFault}
+use Rattle.tn_wire.specs.Header.{Headed, header_of}
+use Rattle.tn_wire.specs.Stream.{Told, told_record, told_verb, told_sub, told_passed}
+use Rattle.tn_cores.specs.declared.session.Agreed.{Agreed}
+use Rattle.tn_cores.specs.declared.session.SessionFault.{SessionFault}
+use Rattle.tn_cores.specs.declared.terminal.TermCore.{TermCore}
+use Rattle.tn_cores.specs.Steps.{Stepped, terminal_step}
+use Rattle.tn_cores.specs.Terminal.{terminal_agreed}
+use Rattle.tn_session.specs.declared.fault.RunFault.{RunFault}
+use Rattle.tn_session.specs.declared.fault.RunFault.TheVariants as faults
+use Rattle.tn_session.specs.declared.terminal_state.TerminalState.{TerminalState}
+use Rattle.tn_session.specs.KeyStrokes.{as_stroke, StrokesAreKeys, striking, striking_log, striking_course, RunsOfKeysAgree}
+use Rattle.tn_session.specs.Runs.{Course, goes, finishes, fails, Log, going, finished, failed, log_on, log_of}
+use Rattle.tn_session.specs.Sent.{data_header}
+use Rattle.tn_session.specs.Strikes.{Strike, by_key, by_stroke, Struck, struck, struck_by}
+use Rattle.tn_session.specs.TerminalLog as log
+use Rattle.tn_session.specs.TerminalLog.{TerminalRunning, Doing, Typing, is_waiting, operator_at, typing, before, then_typed, standing, key_turned, typed_key, received_data, taken_data, taken_typed, taken_headed, taken_record, passed_over, with_core, stepped, by_core, terminal_start, terminal_act}
+use Rattle.tn_session.specs.TerminalTalk.{key_answer, worked_under}
+
+-- ---- one
+
+off_still : (key : Key) (told : keyed.Pressed) → inserts_after false (stroke.Key key) told ≡ false
+off_still key Done = refl
+off_still key (Sent aid) = refl
+off_still key Inhibited = refl
+off_still key Ignored = refl
+
+same_step : (v : Picture) (key : Key)
+    → step (after_stroke (operating v false) (stroke.Key key)).screen (stroke_answer (operating v false) (stroke.Key key)) ≡ step_of v key
+same_step v key =
+    struck_without (operating v false) (after_stroke (operating v false) (stroke.Key key)) (stroke.Key key) (stroke_answer (operating v false) (stroke.Key key)) refl
+    (record { after_it = refl; answered = refl })
+
+off_same : (v : Picture) (key : Key) → struck_by (by_stroke (stroke.Key key)) (operating v false) ≡ struck_by (by_key key) (operating v false)
+off_same v key =
+    ap (λ (t : KeyTurn). struck t (after_stroke (operating v false) (stroke.Key key)).inserts)
+    (ap (λ (s : Step). key_turn s.after (key_reply s.pressed s.after)) (same_step v key))
+    ∙ ap (struck (pressed v key)) (off_still key (stroke_answer (operating v false) (stroke.Key key)))
+
+same : (state : TerminalState) (key : Key) → state.inserts ≡ false
+    → struck_by (by_stroke (stroke.Key key)) (operator_at state) ≡ struck_by (by_key key) (operator_at state)
+same state key off =
+    ap (λ (b : Bool). struck_by (by_stroke (stroke.Key key)) (operating state.terminal b)) off ∙ off_same state.terminal key
+    ∙ sym (ap (λ (b : Bool). struck_by (by_key key) (operating state.terminal b)) off)
+
+typed_same : (agreed : Agreed) (state : TerminalState) (key : Key) → state.inserts ≡ false
+    → typed_key agreed state (by_stroke (stroke.Key key)) ≡ typed_key agreed state (by_key key)
+typed_same agreed state key off = ap (key_turned agreed state (key_aid key)) (same state key off)
+
+under_same : (agreed : Option Agreed) (state : TerminalState) (key : Key) → state.inserts ≡ false
+    → worked_under agreed state (by_stroke (stroke.Key key)) ≡ worked_under agreed state (by_key key)
+under_same None state key off = refl
+under_same (Some agreed) state key off =
+    ap (λ (did : Struck). record {
+      due = (key_turned agreed state (key_aid key) did).due;
+      state = (key_turned agreed state (key_aid key) did).state;
+      answer = key_answer did.turn.reply;
+    }) (same state key off)
+
+pub strokes_are_keys : StrokesAreKeys
+strokes_are_keys state key off = under_same (terminal_agreed state.core) state key off
+
+-- ---- keys and records leave insert mode
+
+key_replied_off : (agreed : Agreed) (state : TerminalState) (reply : KeyReply) → (log.key_replied agreed state reply).state.inserts ≡ state.inserts
+key_replied_off agreed state (sent bytes) = refl
+key_replied_off agreed state done = refl
+key_replied_off agreed state inhibited = refl
+key_replied_off agreed state ignored = refl
+
+typed_off : (agreed : Agreed) (state : TerminalState) (key : Key) → (typed_key agreed state (by_key key)).state.inserts ≡ state.inserts
+typed_off agreed state key =
+    let did : Struck = struck_by (by_key key) (operator_at state) in
+    key_replied_off agreed (log.after_key state (key_aid key) did) did.turn.reply
+
+replied_off : (agreed : Agreed) (header : Header) (state : TerminalState) (reply : Reply) → (log.replied agreed header state reply).state.inserts ≡ state.inserts
+replied_off agreed header state (shown effect) = refl
+replied_off agreed header state (answered bytes) = refl
+replied_off agreed header state nothing = refl
+replied_off agreed header state (refused why) = refl
+
+received_off : (agreed : Agreed) (header : Header) (state : TerminalState) (bytes : List ℕ) → (received_data agreed header state bytes).state.inserts ≡ state.inserts
+received_off agreed header state bytes = replied_off agreed header (log.after_record state bytes (received state.terminal bytes)) (received state.terminal bytes).reply
+
+-- ---- the keys that a run has
+
+abbrev AreKeys : List Strike → Type 0
+AreKeys [] = Unit {0}
+AreKeys (by_key key ∷ keys) = AreKeys keys
+AreKeys (by_stroke stroke ∷ keys) = ⊥
+
+record IsPressing (running : TerminalRunning) : Type 0 where
+  keys : AreKeys running.keys
+  off : running.state.inserts ≡ false
+
+abbrev IsPressingCourse : Course TerminalRunning → Type 0
+IsPressingCourse (goes running) = IsPressing running
+IsPressingCourse (finishes running) = IsPressing running
+IsPressingCourse (fails why) = Unit {0}
+
+abbrev striking_typing : Typing → Typing
+striking_typing typed = record { due = typed.due; running = striking typed.running }
+
+-- keys in a run that strikes, and in one that presses
+record SameTyping (x y : Typing) : Type 0 where
+  is : x ≡ striking_typing y
+  goes_on : IsPressing y.running
+
+typing_same : (agreed : Agreed) (state : TerminalState) (keys : List Strike) → AreKeys keys → state.inserts ≡ false
+    → SameTyping (typing agreed state (map as_stroke keys)) (typing agreed state keys)
+typing_same agreed state [] are off = record { is = refl; goes_on = record { keys = tt; off = off } }
+typing_same agreed state (by_stroke stroke ∷ keys) are off = absurd are
+typing_same agreed state (by_key key ∷ keys) are off =
+    by_lock (is_waiting state.terminal.lock)
+    (typing_same agreed (typed_key agreed state (by_key key)).state keys are (typed_off agreed state key ∙ off))
+  where
+    by_lock : (t : Bool) → SameTyping (typing agreed (typed_key agreed state (by_key key)).state (map as_stroke keys)) (typing agreed (typed_key agreed state (by_key key)).state keys)
+        → SameTyping
+        (cond t (record { due = []; running = record { state = state; keys = map as_stroke (by_key key ∷ keys) } })
+        (before (typed_key agreed state (by_stroke (stroke.Key key))).due (typing agreed (typed_key agreed state (by_stroke (stroke.Key key))).state (map as_stroke keys))))
+        (cond t (record { due = []; running = record { state = state; keys = by_key key ∷ keys } })
+        (before (typed_key agreed state (by_key key)).due (typing agreed (typed_key agreed state (by_key key)).state keys)))
+    by_lock true later = record { is = refl; goes_on = record { keys = are; off = off } }
+    by_lock false later = record {
+      is = ap (λ (did : Doing). before did.due (typing agreed did.state (map as_stroke keys))) (typed_same agreed state key off)
+          ∙ ap (before (typed_key agreed state (by_key key)).due) later.is;
+      goes_on = later.goes_on;
+    }
+
+-- ---- one event
+
+record SameLog (x y : Log TerminalRunning) : Type 0 where
+  is : x ≡ striking_log y
+  goes_on : IsPressingCourse y.course
+
+failed_same : (why : RunFault) → SameLog (failed why) (failed why)
+failed_same why = record { is = refl; goes_on = tt }
+
+going_same : (due : List ℕ) (running : TerminalRunning) → IsPressing running → SameLog (going due (striking running)) (going due running)
+going_same due running pressing = record { is = refl; goes_on = pressing }
+
+test_same : (t : Bool) (a b c d : Log TerminalRunning) → SameLog a c → SameLog b d → SameLog (cond t a b) (cond t c d)
+test_same true a b c d p q = p
+test_same false a b c d p q = q
+
+stands_same : (t : Bool) (due : List ℕ) (running : TerminalRunning) → IsPressing running
+    → SameLog (cond t (finished due (striking running)) (going due (striking running))) (cond t (finished due running) (going due running))
+stands_same true due running pressing = record { is = refl; goes_on = pressing }
+stands_same false due running pressing = record { is = refl; goes_on = pressing }
+
+standing_same : (typed : Typing) → IsPressing typed.running → SameLog (standing (striking_typing typed)) (standing typed)
+standing_same typed pressing =
+    let so = stands_same (typed.running.state.was_free && nat_eq (length typed.running.keys) 0) typed.due typed.running pressing in
+    record {
+      is = ap (λ (n : ℕ). cond (typed.running.state.was_free && nat_eq n 0) (finished typed.due (striking typed.running)) (going typed.due (striking typed.running)))
+          (length-map typed.running.keys as_stroke) ∙ so.is;
+      goes_on = so.goes_on;
+    }
+
+data_same : (agreed : Agreed) (header : Header) (running : TerminalRunning) (bytes : List ℕ) → IsPressing running
+    → SameLog (taken_data agreed header (striking running) bytes) (taken_data agreed header running bytes)
+data_same agreed header running bytes pressing =
+    let did : Doing = received_data agreed header running.state bytes in
+    let typed = typing_same agreed did.state running.keys pressing.keys (received_off agreed header running.state bytes ∙ pressing.off) in
+    let stood = standing_same (then_typed agreed running.keys did) typed.goes_on in
+    record { is = ap (λ (t : Typing). standing (before did.due t)) typed.is ∙ stood.is; goes_on = stood.goes_on }
+
+passed_same : (running : TerminalRunning) → IsPressing running → SameLog (passed_over (striking running)) (passed_over running)
+passed_same running pressing = record { is = refl; goes_on = record { keys = pressing.keys; off = pressing.off } }
+
+data_type_same : (agreed : Agreed) (header : Header) (running : TerminalRunning) (bytes : List ℕ) (data_type : DataType) → IsPressing running
+    → SameLog (taken_typed agreed header (striking running) bytes data_type) (taken_typed agreed header running bytes data_type)
+data_type_same agreed header running bytes Data3270 pressing = data_same agreed header running bytes pressing
+data_type_same agreed header running bytes Response pressing = passed_same running pressing
+data_type_same agreed header running bytes ScsData pressing = passed_same running pressing
+data_type_same agreed header running bytes BindImage pressing = passed_same running pressing
+data_type_same agreed header running bytes Unbind pressing = passed_same running pressing
+data_type_same agreed header running bytes NvtData pressing = passed_same running pressing
+data_type_same agreed header running bytes Request pressing = passed_same running pressing
+data_type_same agreed header running bytes SscpLuData pressing = passed_same running pressing
+data_type_same agreed header running bytes PrintEoj pressing = passed_same running pressing
+
+headed_same : (agreed : Agreed) (running : TerminalRunning) (headed : Result Headed HeaderFault) → IsPressing running
+    → SameLog (taken_headed agreed (striking running) headed) (taken_headed agreed running headed)
+headed_same agreed running (Ok headed) pressing = data_type_same agreed headed.header running headed.rest headed.header.data_type pressing
+headed_same agreed running (Err why) pressing = failed_same (faults.Header why)
+
+record_same : (running : TerminalRunning) (agreed : Option Agreed) (bytes : List ℕ) → IsPressing running
+    → SameLog (taken_record (striking running) agreed bytes) (taken_record running agreed bytes)
+record_same running None bytes pressing = going_same [] running pressing
+record_same running (Some agreed) bytes pressing =
+    test_same agreed.enhanced (taken_headed agreed (striking running) (header_of bytes)) (taken_data agreed (data_header 0 0) (striking running) bytes)
+    (taken_headed agreed running (header_of bytes)) (taken_data agreed (data_header 0 0) running bytes)
+    (headed_same agreed running (header_of bytes) pressing) (data_same agreed (data_header 0 0) running bytes pressing)
+
+cored : (running : TerminalRunning) (core : TermCore) → IsPressing running → IsPressing (with_core running core)
+cored running core pressing = record { keys = pressing.keys; off = pressing.off }
+
+stepped_same : (running : TerminalRunning) (event : Told) (step : Stepped TermCore) → IsPressing running
+    → SameLog (stepped (striking running) event step) (stepped running event step)
+stepped_same running (told_record bytes) step pressing = record_same (with_core running step.core) (terminal_agreed step.core) bytes (cored running step.core pressing)
+stepped_same running (told_verb verb option) step pressing = going_same _ (with_core running step.core) (cored running step.core pressing)
+stepped_same running (told_sub option parameters) step pressing = going_same _ (with_core running step.core) (cored running step.core pressing)
+stepped_same running (told_passed byte) step pressing = going_same _ (with_core running step.core) (cored running step.core pressing)
+
+core_same : (running : TerminalRunning) (event : Told) (step : Result (Stepped TermCore) SessionFault) → IsPressing running
+    → SameLog (by_core (striking running) event step) (by_core running event step)
+core_same running event (Ok step) pressing = stepped_same running event step pressing
+core_same running event (Err why) pressing = failed_same (faults.Session why)
+
+act_same : (running : TerminalRunning) (event : Told) → IsPressing running → SameLog (terminal_act (striking running) event) (terminal_act running event)
+act_same running event pressing = core_same running event (terminal_step running.state.core event) pressing
+
+-- ---- all events
+
+on_same : (course : Course TerminalRunning) (due : List ℕ) (events : List Told) → IsPressingCourse course
+    → ((next : TerminalRunning) → IsPressing next → log_of terminal_act (striking next) events ≡ striking_log (log_of terminal_act next events))
+    → log_on due (striking_course course) (λ next. log_of terminal_act next events) ≡ striking_log (log_on due course (λ next. log_of terminal_act next events))
+on_same (goes next) due events pressing later =
+    ap (λ (l : Log TerminalRunning). log_on due (goes (striking next)) (λ _. l)) (later next pressing)
+on_same (finishes end) due events pressing later = refl
+on_same (fails why) due events pressing later = refl
+
+log_same : (running : TerminalRunning) (events : List Told) → IsPressing running
+    → log_of terminal_act (striking running) events ≡ striking_log (log_of terminal_act running events)
+log_same running [] pressing = refl
+log_same running (event ∷ events) pressing =
+    let here = act_same running event pressing in
+    ap (λ (l : Log TerminalRunning). log_on l.due l.course (λ next. log_of terminal_act next events)) here.is
+    ∙ on_same (terminal_act running event).course (terminal_act running event).due events here.goes_on (λ next on. log_same next events on)
+
+are_keys : (keys : List Key) → AreKeys (map by_key keys)
+are_keys [] = tt
+are_keys (key ∷ keys) = are_keys keys
+
+struck_keys : (keys : List Key) → map (λ key. by_stroke (stroke.Key key)) keys ≡ map as_stroke (map by_key keys)
+struck_keys [] = refl
+struck_keys (key ∷ keys) = ap (λ z. by_stroke (stroke.Key key) ∷ z) (struck_keys keys)
+
+pub runs_of_keys_agree : RunsOfKeysAgree
+runs_of_keys_agree device enhanced responses keys events =
+    ap (λ z. log_of terminal_act (terminal_start device enhanced responses z) events) (struck_keys keys)
+    ∙ log_same (terminal_start device enhanced responses (map by_key keys)) events (record { keys = are_keys keys; off = refl })
