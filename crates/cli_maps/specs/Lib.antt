@@ -9,3 +9,5 @@ pub mod Json
 pub mod Sarif
 pub mod Told
 pub mod Printed
+pub mod Screen
+pub mod Layouts
