@@ -1,5 +1,5 @@
 -- The maps of a source that are asked for.
-use Rattle.std.proofs.Common.{◌≡◌, ℕ, List, Result, Ok, Err, refl}
+use Rattle.std.proofs.Common.{◌≡◌, ℕ, List, Result, Ok, refl}
 use Rattle.std.specs.Prelude.{Option}
 use Rattle.bms_source.specs.declared.refusal.SourceError.{SourceError}
 use Rattle.bms_source.specs.declared.refusal.SourceError.TheVariants.{OutOfMemory, Refused}

@@ -1,31 +1,30 @@
 -- What a map's layout declares is a layout: its names are lawful and apart, and so are its places.
-use Rattle.std.proofs.Common.{◌≡◌, ℕ, zero, suc, ◌+◌, ◌-◌, ◌*◌, ◌/◌, ◌%◌, ◌^◌, ◌<◌, ◌≤◌, ◌⊎◌, inl, inr, Bool, true, false, not, ◌&&◌, ◌||◌, ◌==◌, nat_eq, nat_lt, nat_le, cond, bytes_eq, IsTrue, List, [], ◌∷◌, ◌++◌, codes, decimal, length, length-append, append_assoc, map, All, refl, sym, ◌∙◌, ap, subst, arith}
-use Rattle.std.specs.Prelude.{min, encode_utf8}
-use Rattle.std.specs.List.{list_all, list_any, filter, flat_map, AllByRecursion, IsDistinct}
-use Rattle.std.proofs.lemmas.Bool.{cond-true, cond-false, cases_Bool, cases_lt, and_parts, eqb-true, eq-eqb, ne_eqb, lt-ltb, le-leb, false≢true}
-use Rattle.std.proofs.lemmas.Fmt.{decimal_injective, decimal_step, decimal_digit}
+use Rattle.std.proofs.Common.{◌≡◌, ℕ, suc, ◌+◌, ◌-◌, ◌*◌, ◌%◌, ◌^◌, ◌<◌, ◌≤◌, ◌⊎◌, inl, inr, Bool, true, false, not, ◌&&◌, ◌||◌, ◌==◌, nat_eq, nat_le, cond, bytes_eq, IsTrue, List, [], ◌∷◌, ◌++◌, codes, decimal, length, length-append, map, All, refl, sym, ◌∙◌, ap, subst, arith}
+use Rattle.std.specs.Prelude.{min}
+use Rattle.std.specs.List.{list_all, list_any, filter, AllByRecursion, IsDistinct}
+use Rattle.std.proofs.lemmas.Bool.{cond-true, cond-false, cases_Bool, cases_lt, and_parts, eqb-true, eq-eqb, le-leb, false≢true}
+use Rattle.std.proofs.lemmas.Fmt.{decimal_injective}
 use Rattle.std.proofs.lemmas.List.Elements.{All-nil, All-cons}
 use Rattle.std.proofs.lemmas.List.Folds.{list_all-append}
-use Rattle.std.proofs.lemmas.Nat.{div_below, mod_below}
+use Rattle.std.proofs.lemmas.Nat.{mod_below}
 use Rattle.std.proofs.lemmas.Slice.Eq.{bytes_eq-Decides}
 use Rattle.std.proofs.lemmas.Str.{encode_ascii}
 use Rattle.std.proofs.Math.Nat.{mod-eq_of_lt, mod_self}
 use Rattle.ds_codec.specs.declared.size.Size.{Size}
 use Rattle.ds_codec.specs.declared.size.Mode.TheVariants.{Bits14}
-use Rattle.ds_codec.specs.Geometry.{cells_of, IsGood}
+use Rattle.ds_codec.specs.Geometry.{IsGood}
 use Rattle.ds_codec.proofs.Below.{each_below}
 use Rattle.bms_source.specs.Printed.{printed_codes}
 use Rattle.bms_source.specs.Words.{is_of_symbol, begins_symbol}
 use Rattle.bms_map.specs.Entries.{same}
-use Rattle.bms_map.specs.Fit.{Each, IsScreen, cells_on, LiesOn, IsFieldOn, IsNamedOn, IsNamedIf, Apart, AreApart, IsFit}
+use Rattle.bms_map.specs.Fit.{Each, IsScreen, cells_on, IsFieldOn, IsNamedOn, IsNamedIf, Apart, AreApart, IsFit}
 use Rattle.bms_map.specs.LayoutText.{lower, numbered, place_of}
-use Rattle.bms_map.specs.Maps.{Ground, Shown, Sheet}
-use Rattle.bms_map.specs.Overlaps.{is_declared, is_input}
+use Rattle.bms_map.specs.Maps.{Shown, Sheet}
+use Rattle.bms_map.specs.Overlaps.{is_declared}
 use Rattle.scr_layout.specs.Entry.{Declared, is_name_byte, is_name}
 use Rattle.scr_layout.specs.Layout.{IsLayout}
 use Rattle.scr_draft.proofs.NameLaws.{decimal_bytes, either_way, not_false}
-use Rattle.cli_maps.specs.Screen.{sizes_of}
-use Rattle.cli_maps.specs.Layouts.{kind_if, name_of, entry_of, declared_fields, declaration_of}
+use Rattle.cli_maps.specs.Layouts.{name_of, entry_of, declared_fields, declaration_of}
 
 -- ---- names
 small_symbol : (c : ℕ) → is_of_symbol c ≡ true → c < 128

@@ -1,8 +1,8 @@
 -- The text of a map's layout is read as the layout that it declares.
-use Rattle.std.proofs.Common.{◌≡◌, ℕ, zero, suc, ◌+◌, ◌-◌, ◌*◌, ◌/◌, ◌%◌, ◌^◌, ◌<◌, ◌≤◌, inl, inr, Bool, true, false, ◌&&◌, ◌||◌, not, ◌==◌, nat_lt, nat_le, cond, IsTrue, List, [], ◌∷◌, ◌++◌, codes, decimal, length, map, append_assoc, Option, Some, None, is_some, pos, Ok, refl, sym, ◌∙◌, ap, subst, arith}
-use Rattle.std.specs.List.{list_all, list_any, flat_map, filter}
+use Rattle.std.proofs.Common.{◌≡◌, ℕ, zero, suc, ◌+◌, ◌*◌, ◌/◌, ◌%◌, ◌^◌, ◌<◌, ◌≤◌, inl, inr, Bool, true, false, ◌&&◌, ◌||◌, not, ◌==◌, nat_le, cond, IsTrue, List, [], ◌∷◌, ◌++◌, codes, decimal, length, map, append_assoc, Option, Some, None, is_some, pos, refl, sym, ◌∙◌, ap, subst, arith}
+use Rattle.std.specs.List.{list_all, flat_map, filter}
 use Rattle.std.specs.Fmt.{digits, digits_onto, digit_glyph}
-use Rattle.std.proofs.lemmas.Bool.{false≢true, and_parts, cases_Bool, cond-true, cond-false, eqb-true}
+use Rattle.std.proofs.lemmas.Bool.{false≢true, and_parts, cond-false}
 use Rattle.std.proofs.lemmas.List.Folds.{list_all-append}
 use Rattle.std.proofs.lemmas.Fmt.{decimal_digit, decimal_step}
 use Rattle.std.proofs.lemmas.Nat.{div-add-mod', div_below, mod_below}
@@ -17,21 +17,17 @@ use Rattle.toml.proofs.Turns.{document_some}
 use Rattle.toml.proofs.ReadLines.{run, AllPrinted}
 use Rattle.toml.proofs.ReadValues.{item_join, item_join-none, item_join-push}
 use Rattle.ds_codec.specs.declared.size.Size.{Size}
-use Rattle.ds_codec.specs.declared.size.Mode.TheVariants.{Bits14}
 use Rattle.ds_codec.specs.Geometry.{Sizes}
 use Rattle.ds_codec.proofs.Below.{each_below}
 use Rattle.bms_source.specs.Printed.{printed_codes}
 use Rattle.bms_source.specs.Words.{is_of_symbol, begins_symbol}
 use Rattle.bms_map.specs.Fit.{Each, IsScreen, cells_on, IsFit}
-use Rattle.bms_map.specs.LayoutText.{lower, numbered, place_of, kind_word, label_text, comment, entry_text, entry_if, size_lines, screen_word, screen_line, top_lines, layout_text}
+use Rattle.bms_map.specs.LayoutText.{lower, numbered, place_of, kind_word, label_text, comment, entry_text, entry_if, screen_word, top_lines, layout_text}
 use Rattle.bms_map.specs.Maps.{Shown, Sheet, default_rows}
 use Rattle.bms_map.specs.Overlaps.{is_declared, is_input}
 use Rattle.bms_map.proofs.MapsetLaws.{maps_are_fit}
-use Rattle.scr_layout.specs.declared.entry.Kind.{Kind}
-use Rattle.scr_layout.specs.declared.entry.Kind.TheVariants.{Input, Fixed}
 use Rattle.scr_layout.specs.declared.fault.LayoutKey.TheVariants as layout_key
 use Rattle.scr_layout.specs.Entry.{Declared, is_name_byte, is_name}
-use Rattle.scr_layout.specs.Layout.{layout_of}
 use Rattle.scr_layout.specs.Top.{top_keys, numbered_version}
 use Rattle.scr_layout.specs.Values.{has_only}
 use Rattle.scr_layout.specs.Says.{IsAbsent, HasText, SaysKind, SaysBlock, SayEntries, SaysFields, SaysScreen, TextSays}

@@ -6,3 +6,4 @@ mod AskedLaws
 mod ScreenLaws
 mod DeclaredLaws
 mod LayoutLaws
+mod KeptLaws

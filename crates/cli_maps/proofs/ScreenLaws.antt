@@ -1,7 +1,7 @@
 -- The record of a map leaves the picture that the map says.
-use Rattle.std.proofs.Common.{◌≡◌, ◌≤◌, ◌<◌, ◌+◌, ◌*◌, ◌%◌, ◌==◌, ℕ, zero, suc, Bool, true, false, cond, ◌||◌, List, [], ◌∷◌, ◌++◌, append_assoc, length, map, replicate, Option, Some, None, Result, Ok, Err, refl, sym, ◌∙◌, ap, subst, arith, inl, inr}
+use Rattle.std.proofs.Common.{◌≡◌, ◌<◌, ◌+◌, ◌%◌, ◌==◌, ℕ, zero, suc, Bool, true, false, cond, ◌||◌, List, [], ◌∷◌, ◌++◌, append_assoc, length, map, replicate, Option, Some, None, Ok, refl, sym, ◌∙◌, ap, subst, arith, inl, inr}
 use Rattle.std.specs.Prelude.{◌⊎◌, nat_lt, unwrap_or, slice_index}
-use Rattle.std.specs.List.{flat_map, list_any, list_all, range_with_len}
+use Rattle.std.specs.List.{flat_map, list_any, range_with_len}
 use Rattle.std.proofs.Math.Nat.{mod-eq_of_lt}
 use Rattle.std.proofs.lemmas.Bool.{cond-true, cond-false, lt-ltb, cases_Bool, eqb-true, eq-eqb, false≢true}
 use Rattle.std.proofs.lemmas.List.{get_or-replicate, length-replicate}
@@ -11,29 +11,25 @@ use Rattle.ds_codec.specs.declared.cell.Cell.TheVariants.{Field, Char}
 use Rattle.ds_codec.specs.declared.command.Command.{Command}
 use Rattle.ds_codec.specs.declared.command.Command.TheVariants.{EraseWrite, EraseWriteAlternate}
 use Rattle.ds_codec.specs.declared.size.Size.{Size}
-use Rattle.ds_codec.specs.declared.size.Mode.TheVariants.{Bits14}
 use Rattle.ds_codec.specs.Address.{six_bit_code}
 use Rattle.ds_codec.specs.Character.{glyph}
 use Rattle.ds_codec.specs.Geometry.{cells_of}
-use Rattle.ds_codec.specs.Order.{Item, Site, text, start_field, start_field_extended, set_buffer_address, insert_cursor, last_attribute}
-use Rattle.ds_codec.specs.Record.{Message}
-use Rattle.ds_codec.specs.Writing.{are_good_pairs, orders_in}
-use Rattle.ds_screen.specs.declared.refused.Why.{Why}
-use Rattle.ds_screen.specs.declared.refused.Refused.{Refused}
+use Rattle.ds_codec.specs.Order.{Item, Site, set_buffer_address, insert_cursor, last_attribute}
+use Rattle.ds_codec.specs.Writing.{are_good_pairs}
 use Rattle.ds_screen.specs.Picture.{Picture, blank, cell_at, ruled}
-use Rattle.ds_screen.specs.Orders.{Writing, byte_cell, text_cell, single_cell, after_storing, outside_of, effect_of, fault_of}
-use Rattle.ds_screen.specs.Records.{begun, erased, finished, finishes, written, acts, unless, unmodified, resets, shown_of, RecordShows}
+use Rattle.ds_screen.specs.Orders.{Writing, byte_cell, text_cell, single_cell, effect_of, fault_of}
+use Rattle.ds_screen.specs.Records.{begun, erased, finished, finishes, written, acts, unmodified, resets, shown_of}
 use Rattle.ds_screen.specs.Ring.{ring_on, greatest}
 use Rattle.ds_screen.proofs.ActLaws.{acts_on, acts_end}
 use Rattle.ds_screen.proofs.RuledLaws.{length-ruled, cell_at-ruled, as_ruled, ruled_same}
 use Rattle.ds_screen.proofs.RunLaws.{greatest_hit, greatest_miss}
 use Rattle.bms_map.specs.declared.record.Control.{Control}
-use Rattle.bms_map.specs.Maps.{Ground, LaterText, Shown, Sheet, default_rows}
-use Rattle.bms_map.specs.Record.{text_orders, attribute_order, cursor_orders, later_orders, field_orders, map_orders, control_bits, command_of}
-use Rattle.bms_map.specs.Fit.{Each, IsScreen, cells_on, LiesOn, IsLaterOn, IsFieldOn, HasCursor, IsFit}
+use Rattle.bms_map.specs.Maps.{LaterText, Shown, Sheet, default_rows}
+use Rattle.bms_map.specs.Record.{text_orders, attribute_order, cursor_orders, later_orders, field_orders, map_orders, control_bits}
+use Rattle.bms_map.specs.Fit.{Each, IsScreen, cells_on, IsLaterOn, IsFieldOn, HasCursor, IsFit}
 use Rattle.bms_map.proofs.MapsetLaws.{maps_are_fit}
 use Rattle.bms_map.proofs.WrittenLaws.{records_are_written}
-use Rattle.cli_maps.specs.Screen.{Put, character_put, text_puts, later_puts, field_puts, fields_puts, left_at, cell_of, cursor_place, frees, sizes_of, picture_of, IsShown, MapsAreShown}
+use Rattle.cli_maps.specs.Screen.{Put, character_put, text_puts, later_puts, field_puts, fields_puts, left_at, PutsAreLeft, cell_of, cursor_place, sizes_of, IsShown, MapsAreShown}
 
 -- ---- orders in turn, of which none is at fault
 abbrev done : List Item → Writing → Writing
@@ -63,6 +59,24 @@ left puts p = left_at puts p blank
 left_append : (xs ys : List Put) (p : ℕ) (cell : Cell) → left_at (xs ++ ys) p cell ≡ left_at ys p (left_at xs p cell)
 left_append [] ys p cell = refl
 left_append (x ∷ xs) ys p cell = left_append xs ys p (cond (x.at == p) x.cell cell)
+
+none_left : (puts : List Put) (p : ℕ) (cell : Cell) → list_any (λ (put : Put). put.at == p) puts ≡ false → left_at puts p cell ≡ cell
+none_left [] p cell none = refl
+none_left (put ∷ puts) p cell none =
+    let parts = neither (put.at == p) (list_any (λ (other : Put). other.at == p) puts) none in
+    ap (left_at puts p) (cond-false (put.at == p) put.cell cell parts.0) ∙ none_left puts p cell parts.1
+  where
+    neither : (a b : Bool) → (a || b) ≡ false → (a ≡ false) × (b ≡ false)
+    neither true b e = absurd cc
+    neither false b e = (refl, e)
+
+last_left : (early late : List Put) (put : Put) (cell : Cell) → list_any (λ (other : Put). other.at == put.at) late ≡ false → left_at (early ++ put ∷ late) put.at cell ≡ put.cell
+last_left early late put cell none =
+    left_append early (put ∷ late) put.at cell
+    ∙ ap (left_at late put.at) (cond-true (put.at == put.at) put.cell (left_at early put.at cell) (eq-eqb put.at put.at refl)) ∙ none_left late put.at put.cell none
+
+pub puts_are_left : PutsAreLeft
+puts_are_left = (none_left, last_left)
 
 -- the cells are what these puts left, and the cursor stands here
 record Holds (n : ℕ) (puts : List Put) (cursor : ℕ) (w : Writing) : Type 0 where
@@ -366,7 +380,7 @@ shown_by false wcc sites it before fit geometry rows orders =
     let size : before.geometry.alternate ≡ it.area.screen = ap (λ g. g.alternate) geometry in
     erased_written wcc sites before.geometry.alternate it before fit (ap cells_of size) orders ∙ ap (λ v. Ok v) (same_size wcc before.geometry.alternate it.area.screen it before size)
 
-fit_shown : (control : Control) (it : Sheet) → IsFit it → IsShown control it
+pub fit_shown : (control : Control) (it : Sheet) → IsFit it → IsShown control it
 fit_shown control it fit =
     let (bytes, written_so, again) = records_are_written it control fit in
     let (message, reads, spelled, command, orders) = again in

@@ -11,3 +11,4 @@ pub mod Told
 pub mod Printed
 pub mod Screen
 pub mod Layouts
+pub mod Kept

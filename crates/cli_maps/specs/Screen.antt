@@ -1,6 +1,6 @@
 -- What the record of a map leaves on a screen, in the screen's own words.
-use Rattle.std.specs.Prelude.{◌≡◌, ℕ, ◌+◌, ◌%◌, Bool, true, ◌==◌, List, [], ◌∷◌, ◌++◌, map, length, slice_index, Option, Some, None, Ok, if◌then◌else◌}
-use Rattle.std.specs.List.{flat_map, range_with_len}
+use Rattle.std.specs.Prelude.{◌≡◌, ℕ, ◌+◌, ◌%◌, Bool, ◌==◌, List, [], ◌∷◌, ◌++◌, map, length, slice_index, Option, Some, None, Ok, if◌then◌else◌}
+use Rattle.std.specs.List.{flat_map, list_any, range_with_len}
 use Rattle.ds_codec.specs.declared.cell.Cell.{Cell}
 use Rattle.ds_codec.specs.declared.cell.Cell.TheVariants.{Field, Char}
 use Rattle.ds_codec.specs.declared.size.Mode.TheVariants.{Bits14}
@@ -50,6 +50,13 @@ fields_puts n fields = flat_map (field_puts n) fields
 abbrev pub left_at : List Put → ℕ → Cell → Cell
 left_at [] p cell = cell
 left_at (put ∷ puts) p cell = left_at puts p (if put.at == p then put.cell else cell)
+
+-- where nothing is put a position holds what it held, and where something is, the last of it
+abbrev pub PutsAreLeft : Type 0
+PutsAreLeft =
+    ((puts : List Put) (p : ℕ) (cell : Cell) → list_any (λ (put : Put). put.at == p) puts ≡ Bool.false → left_at puts p cell ≡ cell)
+    × ((early late : List Put) (put : Put) (cell : Cell) → list_any (λ (other : Put). other.at == put.at) late ≡ Bool.false
+    → left_at (early ++ put ∷ late) put.at cell ≡ put.cell)
 
 -- a null where no field puts anything
 abbrev pub cell_of : Sheet → ℕ → Cell
