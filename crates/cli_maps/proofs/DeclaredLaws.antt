@@ -237,7 +237,7 @@ apart_kept (field ∷ fields) apart = elim (is_declared field) as (λ b. AreApar
   | false ↦ apart_kept fields apart.1
 ]
 
-few_kept : (fields : List Shown) → length (filter is_declared fields) ≤ length fields
+pub few_kept : (fields : List Shown) → length (filter is_declared fields) ≤ length fields
 few_kept [] = omega arith
 few_kept (field ∷ fields) = elim (is_declared field) as (λ b. length (cond b (field ∷ filter is_declared fields) (filter is_declared fields)) ≤ suc (length fields)) [
   | true ↦ let few = few_kept fields in omega (arith, few)

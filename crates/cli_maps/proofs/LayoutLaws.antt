@@ -230,7 +230,7 @@ all_lines it fit [] each = skip_from-nil true false
 all_lines it fit (d ∷ ds) each = block_lines it d (flat_map (block it) ds) (flat_map (entry_text it) ds) fit each.0 (all_lines it fit ds each.1)
 
 -- the text has those that are declared alone
-only_declared : (it : Sheet) (fields : List Shown) → flat_map (entry_if it) fields ≡ flat_map (entry_text it) (filter is_declared fields)
+pub only_declared : (it : Sheet) (fields : List Shown) → flat_map (entry_if it) fields ≡ flat_map (entry_text it) (filter is_declared fields)
 only_declared it [] = refl
 only_declared it (field ∷ fields) =
     elim (is_declared field) as (λ b. cond b (entry_text it field) [] ++ flat_map (entry_if it) fields ≡ flat_map (entry_text it) (cond b (field ∷ filter is_declared fields) (filter is_declared fields))) [

@@ -7,3 +7,4 @@ mod ScreenLaws
 mod DeclaredLaws
 mod LayoutLaws
 mod KeptLaws
+mod VerdictLaws

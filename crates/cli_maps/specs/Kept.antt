@@ -1,5 +1,5 @@
 -- What a yes of `check --map` promises, in the words of the map.
-use Rattle.std.specs.Prelude.{◌≡◌, ℕ, ◌≤◌, true, false, List, [], length, slice_get, Some, Ok}
+use Rattle.std.specs.Prelude.{◌≡◌, ℕ, ◌≤◌, true, false, List, [], ◌∷◌, length, slice_get, Some, Ok}
 use Rattle.ds_codec.specs.declared.cell.Cell.{Cell}
 use Rattle.ds_codec.specs.declared.size.Mode.TheVariants.{Bits14}
 use Rattle.ds_codec.specs.Aid.{is_long_aid}
@@ -19,7 +19,8 @@ use Rattle.bms_map.specs.LayoutText.{place_of}
 use Rattle.bms_map.specs.Maps.{Shown, Sheet}
 use Rattle.bms_map.specs.Mapset.{maps_of}
 use Rattle.bms_map.specs.Overlaps.{is_declared, is_input}
-use Rattle.cli_maps.specs.Judged.{Judged, judge}
+use Rattle.cli_maps.specs.Judged.{Judged, judge, judged}
+use Rattle.cli_maps.specs.Layouts.{declaration_of}
 use Rattle.cli_maps.specs.Screen.{sizes_of, picture_of}
 
 -- nothing stands against the map: `check --map` prints `yes` for it
@@ -67,3 +68,10 @@ pub record IsKept (control : Control) (it : Sheet) : Type 0 where
 -- so it is of each map of whatever source for which the answer is yes
 abbrev pub YesIsKept : Type 0
 YesIsKept = (source : List ℕ) (maps : List Sheet) → maps_of source ≡ Ok maps → (control : Control) → Each (λ it. IsYes control it → IsKept control it) maps
+
+-- the map is judged, by its own layout and its own record: nothing stops `check --map`
+abbrev pub IsJudged : Control → Sheet → Type 0
+IsJudged control it = (bytes : List ℕ) × (judge control it ≡ Ok (judged it (declaration_of it) (bytes ∷ [])))
+
+abbrev pub MapsAreJudged : Type 0
+MapsAreJudged = (source : List ℕ) (maps : List Sheet) → maps_of source ≡ Ok maps → (control : Control) → Each (IsJudged control) maps

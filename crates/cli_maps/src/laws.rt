@@ -1,7 +1,7 @@
 //! Laws on maps. These functions do nothing: their contracts are the laws.
 
 ghost use Rattle.cli_maps.specs.Screen.{MapsAreShown, PutsAreLeft};
-ghost use Rattle.cli_maps.specs.Kept.{YesIsKept};
+ghost use Rattle.cli_maps.specs.Kept.{MapsAreJudged, YesIsKept};
 ghost use Rattle.cli_maps.specs.Layouts.{LayoutsAreRead};
 
 /// The record of each map of whatever source is written, and refused on no screen of the map's size. It leaves an attribute of
@@ -27,4 +27,9 @@ pub fn layouts_are_read()
 /// place with no more characters than its length.
 pub fn yes_is_kept()
     ensures { YesIsKept }
+{}
+
+/// Each map of whatever source is judged, by its own layout and its own record: where a source is read, `check --map` has no fault.
+pub fn maps_are_judged()
+    ensures { MapsAreJudged }
 {}
