@@ -350,7 +350,7 @@ fn check(map: &Map, out: &mut String) -> bool {
                 continue;
             }
             if *length == 0 && bits & 1 == 1 {
-                tell(field, format!("F13 empty modified at {place}"))
+                tell(field, format!("F13 empty modified field at {place}"))
             } else if *length > 0 && bits & 0x20 == 0 {
                 tell(field, format!("F8 undeclared input at {place}, keys: right {}, type 1", rights(*place)))
             } else if *length > 0 && bits & 1 == 1 {

@@ -1,12 +1,11 @@
 -- Each map of a source is fit to be shown.
-use Rattle.std.proofs.Common.{◌≡◌, ◌≤◌, ◌<◌, ◌+◌, ◌-◌, ◌*◌, ◌/◌, ◌%◌, ◌^◌, ◌==◌, ℕ, zero, suc, Bool, true, false, cond, not, ◌&&◌, ◌||◌, List, [], ◌∷◌, ◌++◌, length, map, replicate, Option, Some, None, Result, Ok, Err, refl, sym, ◌∙◌, ap, subst, arith, inl, inr, decimal, codes}
+use Rattle.std.proofs.Common.{◌≡◌, ◌≤◌, ◌<◌, ◌+◌, ◌-◌, ◌*◌, ◌/◌, ◌%◌, ◌^◌, ◌==◌, ℕ, zero, suc, Bool, true, false, cond, not, ◌&&◌, ◌||◌, List, [], ◌∷◌, ◌++◌, length, map, replicate, Option, Some, None, Result, Ok, Err, refl, sym, ◌∙◌, ap, subst, arith, inl, inr, codes}
 use Rattle.std.specs.Prelude.{◌⊎◌, nat_le, nat_lt, min}
 use Rattle.std.specs.List.{list_all, list_any, flat_map, range_with_len}
 use Rattle.std.proofs.Math.Nat.{mod-lt, mul-le-mul_right}
 use Rattle.std.proofs.lemmas.Nat.{div_below}
 use Rattle.std.proofs.lemmas.List.{length-append, length-replicate, append-nil}
 use Rattle.std.proofs.lemmas.Bool.{ltb-true, ltb-false, leb-true, eqb-true, and_parts, cases_Bool, cond-true, cond-false}
-use Rattle.ds_codec.specs.declared.size.Size.{Size}
 use Rattle.ds_codec.specs.Address.{six_bit_code}
 use Rattle.ds_codec.specs.Character.{is_text}
 use Rattle.ds_codec.specs.Order.{last_attribute, or_else as or_else_number}
@@ -16,28 +15,16 @@ use Rattle.bms_source.specs.declared.letter.Letter.{Letter}
 use Rattle.bms_source.specs.Statement.{Said}
 use Rattle.bms_source.specs.Told.{Told, ◌>>=◌}
 use Rattle.bms_map.specs.declared.macros.TheConstants.{MOST_BYTES}
-use Rattle.bms_source.specs.declared.letter.Place.{Place}
-use Rattle.bms_source.specs.declared.refusal.Why.TheVariants.{NoFinal, NameTwice, NoScreen}
-use Rattle.bms_source.specs.declared.statement.Operation.{Operation}
-use Rattle.bms_source.specs.declared.statement.Operation.TheVariants.{Mapset, Map, Field, Passed, End}
-use Rattle.bms_source.specs.Told.{told_at, told_with, place_at}
-use Rattle.bms_map.specs.declared.values.Pos.{Pos}
-use Rattle.bms_map.specs.declared.values.Kind.{Kind}
-use Rattle.bms_map.specs.declared.values.Kind.TheVariants.{Begin, Final}
-use Rattle.bms_map.specs.declared.mapset.Stage.TheVariants.{Inside, After}
-use Rattle.bms_map.specs.Mapset.{Progress, nothing, is_inside, is_before, out_of_order, sheets_in, closed, or_number, begun, finished, with_kind, with_mapset, has_map, screen_for, ground_on, ground_of, section_of, with_map, with_told, as_last, with_length, with_field, with_operands, with_macro, progress_of, is_after, whole, told_by, maps_of}
-use Rattle.bms_map.specs.Source.{Source, source_of}
-use Rattle.bms_map.specs.Pictures.{positions_in, length_from, picture_in, length_of}
-use Rattle.bms_map.specs.Values.{between, if_within, number_of, number_within, ◌>>?◌}
+use Rattle.bms_map.specs.Values.{if_within, number_of, number_within, ◌>>?◌}
 use Rattle.bms_map.specs.Lists.{value_if, words_of, attribute_bits}
-use Rattle.bms_map.specs.Operands.{Given, operands_of}
-use Rattle.bms_map.specs.Lookup.{value_at, occurs_in, bits_of, attribute_in, initial_in, pos_in, or_else, length_in, kind_in, size_in, top_in, left_in, control_in, looks_in, told_at_operand}
-use Rattle.bms_map.specs.Maps.{Ground, LaterText, Shown, Sheet}
+use Rattle.bms_map.specs.Operands.{Given}
+use Rattle.bms_map.specs.Lookup.{value_at, occurs_in, bits_of, initial_in, pos_in, or_else}
+use Rattle.bms_map.specs.Maps.{Ground, Shown}
 use Rattle.bms_map.specs.Overlaps.{cell_in, last_of}
 use Rattle.bms_map.specs.declared.field.Looks.{Looks}
-use Rattle.bms_map.specs.Entries.{Entry, Section, padded, text_of, index_at, effects, pair_if, pairs_of, size_of as size_in_all, later_size, later_if, later_in, laters, total, shown_at, shown_from, shown_if, shown_of, placed, placed_all, in_order, its_cursor, cursor_of, sheet_of}
-use Rattle.bms_map.specs.Fields.{needed, missing, needed_label, length_by, field_length, unless, if_inside, with_room, place_of, index_of, judged_place, judge_text, end_in, judge_end, judge_later, judge_group, judge_first, judge_entry, judged_entry, judge_each, judge_all, judge_occurrence, follows, last_entry, bad_group, too_much, field_label, judge_conflicts, judge_name, entry_of, field_of, occurs_or}
-use Rattle.bms_map.specs.Fit.{Each, IsScreen, cells_on, LiesOn, IsLaterOn, IsFieldOn, HasCursor, IsFit, MapsAreFit}
+use Rattle.bms_map.specs.Entries.{Entry, Section, padded, text_of, index_at, effects, pair_if, pairs_of, size_of as size_in_all, later_size, later_if, later_in, laters, total, shown_at, shown_from, shown_if, shown_of, placed, placed_all, its_cursor, cursor_of}
+use Rattle.bms_map.specs.Fields.{needed, unless, if_inside, with_room, place_of, index_of, judged_place, judge_text, end_in, judge_end, judge_later, judge_first, judge_entry, judged_entry, follows, last_entry, bad_group, too_much, field_label, judge_conflicts, judge_name, entry_of, field_of, occurs_or}
+use Rattle.bms_map.specs.Fit.{Each, cells_on, LiesOn, IsLaterOn, IsFieldOn, HasCursor}
 use Rattle.bms_map.proofs.PairLaws.{pairs_are_good}
 use Rattle.bms_map.proofs.TextsLaws.{texts_are_text}
 
@@ -51,7 +38,7 @@ pub gave : {A B : Type 0} (first : Result A Told) (next : A → Result B Told) (
 gave (Ok x) next end e = record { value = x; first = refl; next = e }
 gave (Err told) next end e = absurd cc
 
-same_ok : {A : Type 0} (x y : A) → ◌≡◌ {A = Result A Told} (Ok x) (Ok y) → x ≡ y
+pub same_ok : {A : Type 0} (x y : A) → ◌≡◌ {A = Result A Told} (Ok x) (Ok y) → x ≡ y
 same_ok x y e = cc
 
 pub is_good : (bad : Bool) (told : Told) (u : Unit {0}) → unless bad told ≡ Ok u → bad ≡ false
@@ -62,7 +49,7 @@ pub is_needed : {A : Type 0} (told : Told) (o : Option A) (x : A) → needed tol
 is_needed told None x e = absurd cc
 is_needed told (Some y) x e = ap (λ z. Some z) (same_ok y x e)
 
-same_some : {A : Type 0} (x y : A) → Some x ≡ Some y → x ≡ y
+pub same_some : {A : Type 0} (x y : A) → Some x ≡ Some y → x ≡ y
 same_some x y e = cc
 
 pub record Held {A B : Type 0} (one : Option A) (then : A → Option B) (end : B) : Type 0 where
@@ -75,15 +62,15 @@ held None next end e = absurd cc
 held (Some x) next end e = record { value = x; first = refl; next = e }
 
 -- ---- a place of a map lies on its screen
-row_inside : (top lines rows q : ℕ) → top + lines ≤ rows → q < lines → top + q + 1 ≤ rows
+pub row_inside : (top lines rows q : ℕ) → top + lines ≤ rows → q < lines → top + q + 1 ≤ rows
 row_inside top lines rows q fits less = omega arith
 
-cell_below : (row rows cols left r columns : ℕ) → row + 1 ≤ rows → r < columns → left + columns ≤ cols → row * cols + left + r < rows * cols
+pub cell_below : (row rows cols left r columns : ℕ) → row + 1 ≤ rows → r < columns → left + columns ≤ cols → row * cols + left + r < rows * cols
 cell_below row rows cols left r columns inside less fits =
     let whole : (row + 1) * cols ≤ rows * cols = mul-le-mul_right cols inside in
     omega (arith, whole, less, fits)
 
-columns_some : (index lines columns : ℕ) → index < lines * columns → 0 < columns
+pub columns_some : (index lines columns : ℕ) → index < lines * columns → 0 < columns
 columns_some index lines zero less = absurd (omega (arith, less))
 columns_some index lines (suc columns) less = omega arith
 
@@ -107,7 +94,7 @@ pub record IsEntryOn (area : Ground) (entry : Entry) : Type 0 where
   pub short : length (text_of entry) ≤ entry.length
   pub later : entry.is_later ≡ true → cell_in area entry.index + entry.length ≤ last_of area
 
-value_small : (b : Bool) (n : ℕ) → value_if b n ≤ n
+pub value_small : (b : Bool) (n : ℕ) → value_if b n ≤ n
 value_small true n = omega arith
 value_small false n = omega arith
 
@@ -118,11 +105,11 @@ bits_small words = sums _ _ _ _ _ (value_small _ 0x20) (value_small _ 0x10) (val
     sums : (a b c d e : ℕ) → a ≤ 0x20 → b ≤ 0x10 → c ≤ 0x08 → d ≤ 0x04 → e ≤ 0x01 → a + b + c + d + e < 64
     sums a b c d e one two three four five = omega (arith, one, two, three, four, five)
 
-six_bits : (value : Option (List Letter)) → bits_of value < 64
+pub six_bits : (value : Option (List Letter)) → bits_of value < 64
 six_bits None = omega arith
 six_bits (Some value) = bits_small (words_of value)
 
-within_least : (least most number n : ℕ) → if_within least most number ≡ Some n → least ≤ n
+pub within_least : (least most number n : ℕ) → if_within least most number ≡ Some n → least ≤ n
 within_least least most number n e = elim (cases_Bool (nat_le least number && nat_le number most)) [
   | inl is ↦
       let parts = and_parts (nat_le least number) (nat_le number most) is in
@@ -131,7 +118,16 @@ within_least least most number n e = elim (cases_Bool (nat_le least number && na
   | inr is ↦ absurd (let no : None ≡ Some n = sym (cond-false (nat_le least number && nat_le number most) (Some number) None is) ∙ e in cc)
 ]
 
-occurs_some : (o : Option ℕ) → ((n : ℕ) → o ≡ Some n → 1 ≤ n) → 1 ≤ occurs_or o
+pub within_most : (least most number n : ℕ) → if_within least most number ≡ Some n → n ≤ most
+within_most least most number n e = elim (cases_Bool (nat_le least number && nat_le number most)) [
+  | inl is ↦
+      let parts = and_parts (nat_le least number) (nat_le number most) is in
+      let same : number ≡ n = same_some number n (sym (cond-true (nat_le least number && nat_le number most) (Some number) None is) ∙ e) in
+      subst (λ m. m ≤ most) same (leb-true number most parts.1)
+  | inr is ↦ absurd (let none : None ≡ Some n = sym (cond-false (nat_le least number && nat_le number most) (Some number) None is) ∙ e in cc)
+]
+
+pub occurs_some : (o : Option ℕ) → ((n : ℕ) → o ≡ Some n → 1 ≤ n) → 1 ≤ occurs_or o
 occurs_some None each = omega arith
 occurs_some (Some n) each = each n refl
 
@@ -141,24 +137,24 @@ occurs_good operands = occurs_some (occurs_in operands) (λ n e.
     let number = held (number_of value.value) (if_within 1 1000) n value.next in
     within_least 1 1000 number.value n number.next)
 
-padded_short : (text : Option (List ℕ)) (n : ℕ) → ((t : List ℕ) → text ≡ Some t → length t ≤ n) → length (padded text n) ≤ n
+pub padded_short : (text : Option (List ℕ)) (n : ℕ) → ((t : List ℕ) → text ≡ Some t → length t ≤ n) → length (padded text n) ≤ n
 padded_short None n each = omega arith
 padded_short (Some t) n each = joined t n (each t refl)
   where
     joined : (t : List ℕ) (n : ℕ) → length t ≤ n → length (t ++ replicate (n - length t) 0x40) ≤ n
     joined t n le = let whole = length-append t (replicate (n - length t) 0x40) in let blanks = length-replicate {A = ℕ} (n - length t) 0x40 in omega (arith, le, whole, blanks)
 
-text_short : (operands : List Given) (text : Option (List ℕ)) (n : ℕ) (u : Unit {0}) → judge_text operands text n ≡ Ok u → (t : List ℕ) → text ≡ Some t → length t ≤ n
+pub text_short : (operands : List Given) (text : Option (List ℕ)) (n : ℕ) (u : Unit {0}) → judge_text operands text n ≡ Ok u → (t : List ℕ) → text ≡ Some t → length t ≤ n
 text_short operands None n u e t is = absurd cc
 text_short operands (Some s) n u e t is = subst (λ (l : List ℕ). length l ≤ n) (same_some s t is) (ltb-false n (length s) (is_good (nat_lt n (length s)) _ u e))
 
-inside_below : (places index n : ℕ) → if_inside places index ≡ Some n → index < places
+pub inside_below : (places index n : ℕ) → if_inside places index ≡ Some n → index < places
 inside_below places index n e = elim (cases_Bool (nat_lt index places)) [
   | inl is ↦ ltb-true index places is
   | inr is ↦ absurd (let no : None ≡ Some n = sym (cond-false (nat_lt index places) (Some index) None is) ∙ e in cc)
 ]
 
-room : (area : Ground) (n occurs index place : ℕ) → with_room area n occurs index ≡ Some place → place + (occurs - 1) * (n + 1) < area.lines * area.columns
+pub room : (area : Ground) (n occurs index place : ℕ) → with_room area n occurs index ≡ Some place → place + (occurs - 1) * (n + 1) < area.lines * area.columns
 room area n occurs index place e =
     let last = held (if_inside (area.lines * area.columns) (index + (occurs - 1) * (n + 1))) (λ last. Some index) place e in
     subst (λ (m : ℕ). m + (occurs - 1) * (n + 1) < area.lines * area.columns) (same_some index place last.next)
@@ -171,22 +167,22 @@ place_good area operands n index e =
     let placed = held (pos_in operands >>? index_of area) (with_room area n (occurs_or (occurs_in operands))) index there in
     room area n (occurs_or (occurs_in operands)) placed.value index placed.next
 
-end_good : (area : Ground) (operands : List Given) (entry : Entry) (u : Unit {0}) → judge_end area operands entry ≡ Ok u → end_in area entry ≤ last_of area
+pub end_good : (area : Ground) (operands : List Given) (entry : Entry) (u : Unit {0}) → judge_end area operands entry ≡ Ok u → end_in area entry ≤ last_of area
 end_good area operands entry u e = ltb-false (last_of area) (end_in area entry) (is_good (nat_lt (last_of area) (end_in area entry)) _ u e)
 
-second_good : (a b c : Result (Unit {0}) Told) (u : Unit {0}) → (a >>= λ x. b >>= λ y. c) ≡ Ok u → b ≡ Ok tt
+pub second_good : (a b c : Result (Unit {0}) Told) (u : Unit {0}) → (a >>= λ x. b >>= λ y. c) ≡ Ok u → b ≡ Ok tt
 second_good (Ok x) (Ok y) c u e = refl
 second_good (Ok x) (Err told) c u e = absurd cc
 second_good (Err told) b c u e = absurd cc
 
-later_good : (section : Section) (said : Said) (operands : List Given) (entry : Entry) (u : Unit {0}) → judge_later section said operands entry ≡ Ok u → end_in section.area entry ≤ last_of section.area
+pub later_good : (section : Section) (said : Said) (operands : List Given) (entry : Entry) (u : Unit {0}) → judge_later section said operands entry ≡ Ok u → end_in section.area entry ≤ last_of section.area
 unfolding judge_later
 later_good section said operands entry u e =
     end_good section.area operands entry tt
     (second_good (unless (not (follows section.area (last_entry section.entries) entry)) (bad_group operands)) (judge_end section.area operands entry)
     (unless (nat_lt MOST_BYTES (size_in_all section.entries + later_size (length (text_of entry)))) (too_much said)) u e)
 
-judged_later : (section : Section) (said : Said) (operands : List Given) (entry : Entry) (u : Unit {0}) → judge_entry section said operands entry ≡ Ok u
+pub judged_later : (section : Section) (said : Said) (operands : List Given) (entry : Entry) (u : Unit {0}) → judge_entry section said operands entry ≡ Ok u
     → entry.is_later ≡ true → end_in section.area entry ≤ last_of section.area
 judged_later section said operands entry u e is =
     later_good section said operands entry u (sym (cond-true entry.is_later (judge_later section said operands entry) (judge_first section said operands entry) is) ∙ e)
@@ -261,21 +257,21 @@ entry_good section said operands n entry few e =
 pub record IsPairsOf (attribute : ℕ) (pairs : List ℕ) : Type 0 where
   pub good : (pairs ≡ []) ⊎ ((are_good_pairs pairs ≡ true) × (last_attribute pairs ≡ Some attribute))
 
-six_back : (attribute : ℕ) → attribute < 64 → six_bit_code attribute % 64 ≡ attribute
+pub six_back : (attribute : ℕ) → attribute < 64 → six_bit_code attribute % 64 ≡ attribute
 unfolding six_bit_code
 six_back attribute small = eqb-true (six_bit_code attribute % 64) attribute (each_below (λ n. six_bit_code n % 64 == n) 64 attribute refl small)
 
 abbrev HasNone : List ℕ → Type 0
 HasNone pairs = last_attribute pairs ≡ None
 
-one_more : (kind : ℕ) (value : Option ℕ) (pairs : List ℕ) → (kind == 0xC0) ≡ false → HasNone pairs → HasNone (pair_if kind value ++ pairs)
+pub one_more : (kind : ℕ) (value : Option ℕ) (pairs : List ℕ) → (kind == 0xC0) ≡ false → HasNone pairs → HasNone (pair_if kind value ++ pairs)
 one_more kind None pairs other none = none
 one_more kind (Some v) pairs other none = elim (v == 0) as (λ b. HasNone (cond b [] (kind ∷ v ∷ []) ++ pairs)) [
   | true ↦ none
   | false ↦ ap (λ o. or_else_number o (cond (kind == 0xC0) (Some (v % 64)) None)) none ∙ cond-false (kind == 0xC0) (Some (v % 64)) None other
 ]
 
-its_attribute : (attribute : ℕ) (looks : Looks) → attribute < 64
+pub its_attribute : (attribute : ℕ) (looks : Looks) → attribute < 64
     → last_attribute ((0xC0 ∷ six_bit_code attribute ∷ []) ++ (pair_if 0x41 looks.highlight ++ (pair_if 0x42 looks.color ++ (pair_if 0xC1 looks.validation ++ pair_if 0xC2 looks.outline)))) ≡ Some attribute
 its_attribute attribute looks small =
     let last : HasNone (pair_if 0xC2 looks.outline ++ []) = one_more 0xC2 looks.outline [] refl refl in
@@ -283,7 +279,7 @@ its_attribute attribute looks small =
     let none = one_more 0x41 looks.highlight _ refl (one_more 0x42 looks.color _ refl (one_more 0xC1 looks.validation _ refl outline)) in
     ap (λ o. or_else_number o (Some (six_bit_code attribute % 64))) none ∙ ap (λ n. Some n) (six_back attribute small)
 
-pairs_good : (attribute : ℕ) (looks : Looks) → attribute < 64 → IsPairsOf attribute (pairs_of attribute looks)
+pub pairs_good : (attribute : ℕ) (looks : Looks) → attribute < 64 → IsPairsOf attribute (pairs_of attribute looks)
 pairs_good attribute looks small = elim (effects looks == 0) as (λ b. (effects looks == 0) ≡ b → IsPairsOf attribute (pairs_of attribute looks)) [
   | true ↦ λ e. record { good = inl (cond-true (effects looks == 0) _ _ e) }
   | false ↦ λ e. record {
@@ -298,7 +294,7 @@ pairs_good attribute looks small = elim (effects looks == 0) as (λ b. (effects 
 ] refl
 
 -- ---- an occurrence
-occurrence_inside : (index occurs n k most : ℕ) → 1 ≤ occurs → index + (occurs - 1) * (n + 1) < most → k < occurs → index + k * (n + 1) < most
+pub occurrence_inside : (index occurs n k most : ℕ) → 1 ≤ occurs → index + (occurs - 1) * (n + 1) < most → k < occurs → index + k * (n + 1) < most
 occurrence_inside index occurs n k most some inside less =
     let before : k * (n + 1) ≤ (occurs - 1) * (n + 1) = mul-le-mul_right (n + 1) (omega (arith, less)) in
     omega (arith, before, inside)
@@ -306,14 +302,14 @@ occurrence_inside index occurs n k most some inside less =
 pub occurrence_at : (area : Ground) (entry : Entry) → IsEntryOn area entry → (k : ℕ) → k < entry.occurs → index_at entry k < area.lines * area.columns
 occurrence_at area entry is k less = occurrence_inside entry.index entry.occurs entry.length k (area.lines * area.columns) is.some is.inside less
 
-first_inside : (area : Ground) (entry : Entry) → IsEntryOn area entry → entry.index < area.lines * area.columns
+pub first_inside : (area : Ground) (entry : Entry) → IsEntryOn area entry → entry.index < area.lines * area.columns
 first_inside area entry is = let inside = is.inside in omega (arith, inside)
 
-later_on : (cells cell : ℕ) (text : List ℕ) → list_all is_text text ≡ true → (1 ≤ length text → cell + 1 < cells) → Each (IsLaterOn cells) (later_if cell text)
+pub later_on : (cells cell : ℕ) (text : List ℕ) → list_all is_text text ≡ true → (1 ≤ length text → cell + 1 < cells) → Each (IsLaterOn cells) (later_if cell text)
 later_on cells cell [] all inside = tt
 later_on cells cell (c ∷ cs) all inside = (record { inside = inside (omega arith); text = all }, tt)
 
-later_entry : (area : Ground) → LiesOn area → (entry : Entry) → IsEntryOn area entry → entry.is_later ≡ true → Each (IsLaterOn (cells_on area)) (later_in area entry)
+pub later_entry : (area : Ground) → LiesOn area → (entry : Entry) → IsEntryOn area entry → entry.is_later ≡ true → Each (IsLaterOn (cells_on area)) (later_in area entry)
 later_entry area lies entry is later =
     let end = is.later later in
     let first = first_inside area entry is in
@@ -327,7 +323,7 @@ pub each_append : {A : Type 0} (P : A → Type 0) (xs ys : List A) → Each P xs
 each_append P [] ys first others = others
 each_append P (x ∷ xs) ys first others = (first.0, each_append P xs ys first.1 others)
 
-laters_on : (area : Ground) → LiesOn area → (entries : List Entry) → Each (IsEntryOn area) entries → Each (IsLaterOn (cells_on area)) (flat_map (later_in area) (laters entries))
+pub laters_on : (area : Ground) → LiesOn area → (entries : List Entry) → Each (IsEntryOn area) entries → Each (IsLaterOn (cells_on area)) (flat_map (later_in area) (laters entries))
 laters_on area lies [] each = tt
 laters_on area lies (entry ∷ entries) each =
     elim entry.is_later as (λ b. entry.is_later ≡ b → Each (IsLaterOn (cells_on area)) (flat_map (later_in area) (cond b (entry ∷ laters entries) []))) [
@@ -335,10 +331,10 @@ laters_on area lies (entry ∷ entries) each =
       | false ↦ λ e. tt
     ] refl
 
-short_enough : (characters n more : ℕ) → n < 2 ^ 31 → characters ≤ n → characters ≤ min (n + more) (2 ^ 32 - 1)
+pub short_enough : (characters n more : ℕ) → n < 2 ^ 31 → characters ≤ n → characters ≤ min (n + more) (2 ^ 32 - 1)
 short_enough characters n more few short = grind (arith, few, short)
 
-shown_on : (area : Ground) → LiesOn area → (entry : Entry) → IsEntryOn area entry → (entries : List Entry) → Each (IsEntryOn area) entries
+pub shown_on : (area : Ground) → LiesOn area → (entry : Entry) → IsEntryOn area entry → (entries : List Entry) → Each (IsEntryOn area) entries
     → (k : ℕ) → k < entry.occurs → IsFieldOn (cells_on area) (shown_at area entry (laters entries) k)
 shown_on area lies entry is entries each k less =
     record {
@@ -350,11 +346,11 @@ shown_on area lies entry is entries each k less =
       later = laters_on area lies entries each;
     }
 
-each_range : {A : Type 0} (P : A → Type 0) (f : ℕ → A) (from n : ℕ) → ((k : ℕ) → k < from + n → P (f k)) → Each P (map f (range_with_len from n))
+pub each_range : {A : Type 0} (P : A → Type 0) (f : ℕ → A) (from n : ℕ) → ((k : ℕ) → k < from + n → P (f k)) → Each P (map f (range_with_len from n))
 each_range P f from zero all = tt
 each_range P f from (suc n) all = (all from (omega arith), each_range P f (from + 1) n (λ k less. all k (omega (arith, less))))
 
-shown_all : (area : Ground) → LiesOn area → (entries : List Entry) → Each (IsEntryOn area) entries → Each (IsFieldOn (cells_on area)) (shown_of area entries)
+pub shown_all : (area : Ground) → LiesOn area → (entries : List Entry) → Each (IsEntryOn area) entries → Each (IsFieldOn (cells_on area)) (shown_of area entries)
 shown_all area lies [] each = tt
 shown_all area lies (entry ∷ entries) each =
     each_append (IsFieldOn (cells_on area)) (shown_if area entry entries) (shown_of area entries)
@@ -365,36 +361,36 @@ shown_all area lies (entry ∷ entries) each =
     (shown_all area lies entries each.1)
 
 -- ---- in the order of their attributes
-each_placed : (P : Shown → Type 0) (field : Shown) (fields : List Shown) → P field → Each P fields → Each P (placed field fields)
+pub each_placed : (P : Shown → Type 0) (field : Shown) (fields : List Shown) → P field → Each P fields → Each P (placed field fields)
 each_placed P field [] one all = (one, tt)
 each_placed P field (other ∷ others) one all = elim (nat_lt field.cell other.cell) as (λ b. Each P (cond b (field ∷ other ∷ others) (other ∷ placed field others))) [
   | true ↦ (one, all)
   | false ↦ (all.0, each_placed P field others one all.1)
 ]
 
-each_in_order : (P : Shown → Type 0) (done fields : List Shown) → Each P done → Each P fields → Each P (placed_all done fields)
+pub each_in_order : (P : Shown → Type 0) (done fields : List Shown) → Each P done → Each P fields → Each P (placed_all done fields)
 each_in_order P done [] each all = each
 each_in_order P done (field ∷ fields) each all = each_in_order P (placed field done) fields (each_placed P field done all.0 each) all.1
 
-either : (a b : Bool) → (a || b) ≡ true → (a ≡ true) ⊎ (b ≡ true)
+pub either : (a b : Bool) → (a || b) ≡ true → (a ≡ true) ⊎ (b ≡ true)
 either true b e = inl refl
 either false b e = inr e
 
-or_first : (a b : Bool) → a ≡ true → (a || b) ≡ true
+pub or_first : (a b : Bool) → a ≡ true → (a || b) ≡ true
 or_first true b e = refl
 or_first false b e = absurd cc
 
-or_second : (a b : Bool) → b ≡ true → (a || b) ≡ true
+pub or_second : (a b : Bool) → b ≡ true → (a || b) ≡ true
 or_second true b e = refl
 or_second false b e = e
 
-swapped : (a b c : Bool) → (a || (b || c)) ≡ true → (b || (a || c)) ≡ true
+pub swapped : (a b c : Bool) → (a || (b || c)) ≡ true → (b || (a || c)) ≡ true
 swapped true true c e = refl
 swapped true false c e = refl
 swapped false true c e = refl
 swapped false false c e = e
 
-any_placed : (test : Shown → Bool) (field : Shown) (fields : List Shown) → (test field || list_any test fields) ≡ true → list_any test (placed field fields) ≡ true
+pub any_placed : (test : Shown → Bool) (field : Shown) (fields : List Shown) → (test field || list_any test fields) ≡ true → list_any test (placed field fields) ≡ true
 any_placed test field [] e = e
 any_placed test field (other ∷ others) e = elim (nat_lt field.cell other.cell) as (λ b. list_any test (cond b (field ∷ other ∷ others) (other ∷ placed field others)) ≡ true) [
   | true ↦ e
@@ -404,7 +400,7 @@ any_placed test field (other ∷ others) e = elim (nat_lt field.cell other.cell)
   ]
 ]
 
-any_in_order : (test : Shown → Bool) (done fields : List Shown) → (list_any test done || list_any test fields) ≡ true → list_any test (placed_all done fields) ≡ true
+pub any_in_order : (test : Shown → Bool) (done fields : List Shown) → (list_any test done || list_any test fields) ≡ true → list_any test (placed_all done fields) ≡ true
 any_in_order test done [] e = elim (either (list_any test done) false e) [ inl is ↦ is | inr other ↦ absurd (let n : false ≡ true = other in cc) ]
 any_in_order test done (field ∷ fields) e =
     any_in_order test (placed field done) fields
@@ -417,14 +413,14 @@ any_in_order test done (field ∷ fields) e =
     ])
 
 -- ---- the cursor
-any_append : (test : Shown → Bool) (xs ys : List Shown) → (list_any test xs || list_any test ys) ≡ true → list_any test (xs ++ ys) ≡ true
+pub any_append : (test : Shown → Bool) (xs ys : List Shown) → (list_any test xs || list_any test ys) ≡ true → list_any test (xs ++ ys) ≡ true
 any_append test [] ys e = e
 any_append test (x ∷ xs) ys e = elim (test x) as (λ b. ((b || list_any test xs) || list_any test ys) ≡ true → (b || list_any test (xs ++ ys)) ≡ true) [
   | true ↦ λ is. refl
   | false ↦ λ is. any_append test xs ys is
 ] e
 
-any_range : (test : Shown → Bool) (f : ℕ → Shown) (from n k : ℕ) → from ≤ k → k < from + n → test (f k) ≡ true → list_any test (map f (range_with_len from n)) ≡ true
+pub any_range : {A : Type 0} (test : A → Bool) (f : ℕ → A) (from n k : ℕ) → from ≤ k → k < from + n → test (f k) ≡ true → list_any test (map f (range_with_len from n)) ≡ true
 any_range test f from zero k low high is = absurd (omega (arith, low, high))
 any_range test f from (suc n) k low high is = elim (cases_Bool (from == k)) [
   | inl here ↦ or_first (test (f from)) _ (subst (λ (j : ℕ). test (f j) ≡ true) (sym (eqb-true from k here)) is)
@@ -434,10 +430,10 @@ any_range test f from (suc n) k low high is = elim (cases_Bool (from == k)) [
     more : (from k : ℕ) → from ≤ k → (from == k) ≡ false → from + 1 ≤ k
     more from k low other = grind (arith, low, other)
 
-same_number : (n : ℕ) → (n == n) ≡ true
+pub same_number : (n : ℕ) → (n == n) ≡ true
 same_number n = grind arith
 
-cursor_at : (area : Ground) (entry : Entry) (entries : List Entry) (cell : ℕ) → 1 ≤ entry.occurs → its_cursor area entry ≡ Some cell
+pub cursor_at : (area : Ground) (entry : Entry) (entries : List Entry) (cell : ℕ) → 1 ≤ entry.occurs → its_cursor area entry ≡ Some cell
     → list_any (λ (field : Shown). cell == field.cell) (shown_if area entry entries) ≡ true
 cursor_at area entry entries cell some e = by_cases entry.has_cursor entry.is_later e
   where
@@ -449,7 +445,7 @@ cursor_at area entry entries cell some e = by_cases entry.has_cursor entry.is_la
         any_range (λ (field : Shown). cell == field.cell) (shown_at area entry (laters entries)) 0 entry.occurs (entry.occurs - 1) (omega arith) (omega (arith, some))
         (subst (λ (c : ℕ). (cell == c) ≡ true) (sym (same_some (cell_in area (index_at entry (entry.occurs - 1))) cell e)) (same_number cell))
 
-cursor_on : (area : Ground) (entries : List Entry) (cell : ℕ) → Each (IsEntryOn area) entries → cursor_of area entries ≡ Some cell
+pub cursor_on : (area : Ground) (entries : List Entry) (cell : ℕ) → Each (IsEntryOn area) entries → cursor_of area entries ≡ Some cell
     → list_any (λ (field : Shown). cell == field.cell) (shown_of area entries) ≡ true
 cursor_on area [] cell each e = absurd cc
 cursor_on area (entry ∷ entries) cell each e =
@@ -463,222 +459,6 @@ cursor_on area (entry ∷ entries) cell each e =
     which None b e = inr e
     which (Some n) b e = inl e
 
-has_cursor : (cursor : Option ℕ) (fields : List Shown) → ((cell : ℕ) → cursor ≡ Some cell → list_any (λ (field : Shown). cell == field.cell) fields ≡ true) → HasCursor cursor fields
+pub has_cursor : (cursor : Option ℕ) (fields : List Shown) → ((cell : ℕ) → cursor ≡ Some cell → list_any (λ (field : Shown). cell == field.cell) fields ≡ true) → HasCursor cursor fields
 has_cursor None fields each = tt
 has_cursor (Some cell) fields each = each cell refl
-
--- ---- a map
-pub record IsSectionFit (section : Section) : Type 0 where
-  pub ground : LiesOn section.area
-  pub entries : Each (IsEntryOn section.area) section.entries
-
-pub sheet_fit : (section : Section) → IsSectionFit section → IsFit (sheet_of section)
-sheet_fit section fit =
-    record {
-      ground = fit.ground;
-      fields = each_in_order (IsFieldOn (cells_on section.area)) [] (shown_of section.area section.entries) tt (shown_all section.area fit.ground section.entries fit.entries);
-      cursor = has_cursor (cursor_of section.area section.entries) (in_order (shown_of section.area section.entries)) (λ cell e.
-          any_in_order (λ (field : Shown). cell == field.cell) [] (shown_of section.area section.entries) (cursor_on section.area section.entries cell fit.entries e));
-    }
-
--- ---- the length of a field
-within_most : (least most number n : ℕ) → if_within least most number ≡ Some n → n ≤ most
-within_most least most number n e = elim (cases_Bool (nat_le least number && nat_le number most)) [
-  | inl is ↦
-      let parts = and_parts (nat_le least number) (nat_le number most) is in
-      let same : number ≡ n = same_some number n (sym (cond-true (nat_le least number && nat_le number most) (Some number) None is) ∙ e) in
-      subst (λ m. m ≤ most) same (leb-true number most parts.1)
-  | inr is ↦ absurd (let none : None ≡ Some n = sym (cond-false (nat_le least number && nat_le number most) (Some number) None is) ∙ e in cc)
-]
-
-length_small : (operands : List Given) (n : ℕ) → length_in operands ≡ Some n → n ≤ 256
-length_small operands n e =
-    let value = held (value_at (codes "LENGTH") operands) (λ v. number_within v 0 256) n e in
-    let number = held (number_of value.value) (if_within 0 256) n value.next in
-    within_most 0 256 number.value n number.next
-
-positions_small : (symbols so_far : ℕ) (picture : List Letter) (n : ℕ) → length_from symbols so_far picture ≡ Some n → n ≤ 256
-positions_small symbols so_far [] n e = within_most 1 256 so_far n e
-positions_small zero so_far (a ∷ others) n e = absurd cc
-positions_small (suc symbols) so_far (a ∷ others) n e =
-    let found = held (positions_in (a ∷ others)) (λ found. if_within 0 256 (so_far + found.0) >>? λ m. length_from symbols m found.1) n e in
-    let more = held (if_within 0 256 (so_far + found.value.0)) (λ m. length_from symbols m found.value.1) n found.next in
-    positions_small symbols more.value found.value.1 n more.next
-
-picture_small : (value : Option (List Letter)) (n : ℕ) → picture_in value ≡ Some n → n ≤ 256
-picture_small None n e = absurd cc
-picture_small (Some picture) n e = positions_small (length picture) 0 picture n e
-
-by_small : (said : Said) (operands : List Given) (length_ : Option ℕ) (inside outside : Option (List Letter)) (n : ℕ) → ((m : ℕ) → length_ ≡ Some m → m ≤ 256)
-    → length_by said operands length_ inside outside ≡ Ok n → n ≤ 256
-by_small said operands (Some m) inside outside n each e = subst (λ k. k ≤ 256) (same_ok m n e) (each m refl)
-by_small said operands None (Some picture) outside n each e = picture_small (between picture 39 39) n (is_needed _ (length_of picture) n e)
-by_small said operands None None (Some picture) n each e = picture_small (between picture 39 39) n (is_needed _ (length_of picture) n e)
-by_small said operands None None None n each e = absurd cc
-
-pub field_small : (said : Said) (operands : List Given) (n : ℕ) → field_length said operands ≡ Ok n → n ≤ 256
-field_small said operands n e = by_small said operands (length_in operands) (value_at (codes "PICIN") operands) (value_at (codes "PICOUT") operands) n (length_small operands) e
-
--- ---- the screen of a map
-abbrev Fits : ℕ → ℕ → Option Size → Type 0
-Fits lines columns None = Unit {0}
-Fits lines columns (Some screen) = IsScreen screen × (lines ≤ screen.rows) × (columns ≤ screen.cols)
-
-both_le : (lines columns rows cols : ℕ) → (nat_le lines rows && nat_le columns cols) ≡ true → (lines ≤ rows) × (columns ≤ cols)
-both_le lines columns rows cols e = let parts = and_parts (nat_le lines rows) (nat_le columns cols) e in (leb-true lines rows parts.0, leb-true columns cols parts.1)
-
-screen_fits : (lines columns : ℕ) → Fits lines columns (screen_for lines columns)
-unfolding screen_for
-screen_fits lines columns =
-    try (nat_le lines 24 && nat_le columns 80) (record { rows = 24; cols = 80 }) _ (λ e. let both = both_le lines columns 24 80 e in (inl refl, both.0, both.1))
-    (try (nat_le lines 32 && nat_le columns 80) (record { rows = 32; cols = 80 }) _ (λ e. let both = both_le lines columns 32 80 e in (inr (inl refl), both.0, both.1))
-    (try (nat_le lines 43 && nat_le columns 80) (record { rows = 43; cols = 80 }) _ (λ e. let both = both_le lines columns 43 80 e in (inr (inr (inl refl)), both.0, both.1))
-    (try (nat_le lines 27 && nat_le columns 132) (record { rows = 27; cols = 132 }) None (λ e. let both = both_le lines columns 27 132 e in (inr (inr (inr refl)), both.0, both.1)) tt)))
-  where
-    try : (b : Bool) (screen : Size) (others : Option Size) → (b ≡ true → Fits lines columns (Some screen)) → Fits lines columns others → Fits lines columns (cond b (Some screen) others)
-    try true screen others one more = one refl
-    try false screen others one more = more
-
-ground_lies : (top left : ℕ) (extent : ℕ × ℕ) (screen : Option Size) (area : Ground) → Fits (top + extent.0) (left + extent.1) screen → ground_on top left extent screen ≡ Some area → LiesOn area
-ground_lies top left extent None area fits e = absurd cc
-ground_lies top left extent (Some screen) area fits e =
-    subst LiesOn (same_some (record { screen = screen; top = top; left = left; lines = extent.0; columns = extent.1 }) area e)
-    (record { screen = fits.0; down = fits.1; across = fits.2 })
-
--- ---- a mapset
-abbrev IsLastFit : Option Section → Type 0
-IsLastFit None = Unit {0}
-IsLastFit (Some section) = IsSectionFit section
-
-pub record IsProgressFit (progress : Progress) : Type 0 where
-  pub done : Each IsFit progress.done
-  pub last : IsLastFit progress.last
-
-last_fit : (last : Option Section) → IsLastFit last → Each IsFit (sheets_in last)
-last_fit None fit = tt
-last_fit (Some section) fit = (sheet_fit section fit, tt)
-
-closed_fit : (progress : Progress) → IsProgressFit progress → IsProgressFit (closed progress)
-closed_fit progress fit = record { done = each_append IsFit progress.done (sheets_in progress.last) fit.done (last_fit progress.last fit.last); last = tt }
-
-begun_fit : (progress : Progress) (said : Said) (operands : List Given) (more : Progress) → IsProgressFit progress → begun progress said operands ≡ Ok more → IsProgressFit more
-unfolding begun
-begun_fit progress said operands more fit e =
-    two (unless (not (is_before progress.stage)) (out_of_order said)) (needed_label said 7) e
-  where
-    new : Progress
-    new = record progress { stage = Inside; control = or_number (control_in operands) progress.control; looks = looks_in operands }
-
-    two : (a : Result (Unit {0}) Told) (b : Result (List ℕ) Told) → (a >>= λ x. b >>= λ y. Ok new) ≡ Ok more → IsProgressFit more
-    two (Err told) b is = absurd cc
-    two (Ok x) (Err told) is = absurd cc
-    two (Ok x) (Ok y) is = subst IsProgressFit (same_ok new more is) (record { done = fit.done; last = fit.last })
-
-finished_fit : (progress : Progress) (said : Said) (more : Progress) → IsProgressFit progress → finished progress said ≡ Ok more → IsProgressFit more
-finished_fit progress said more fit e =
-    let new : Progress = record (closed progress) { stage = After } in
-    let inside = gave (unless (not (is_inside progress.stage)) (out_of_order said)) (λ inside. Ok new) more e in
-    let closes = closed_fit progress fit in
-    subst IsProgressFit (same_ok new more inside.next) (record { done = closes.done; last = tt })
-
-kind_fit : (progress : Progress) (said : Said) (operands : List Given) (kind : Kind) (more : Progress) → IsProgressFit progress → with_kind progress said operands kind ≡ Ok more → IsProgressFit more
-kind_fit progress said operands Begin more fit e = begun_fit progress said operands more fit e
-kind_fit progress said operands Final more fit e = finished_fit progress said more fit e
-
-mapset_fit : (progress : Progress) (said : Said) (operands : List Given) (more : Progress) → IsProgressFit progress → with_mapset progress said operands ≡ Ok more → IsProgressFit more
-mapset_fit progress said operands more fit e =
-    let kind = gave (needed (missing (codes "TYPE") said) (kind_in operands)) (with_kind progress said operands) more e in
-    kind_fit progress said operands kind.value more fit kind.next
-
-map_fit : (progress : Progress) (said : Said) (operands : List Given) (more : Progress) → IsProgressFit progress → with_map progress said operands ≡ Ok more → IsProgressFit more
-unfolding with_map
-map_fit progress said operands more fit e =
-    four (needed (missing (codes "SIZE") said) (size_in operands)) (unless (not (is_inside progress.stage)) (out_of_order said)) (needed_label said 7) e
-  where
-    new : List ℕ → Ground → Progress
-    new name area = record (closed progress) { last = Some (section_of progress said operands name area) }
-
-    last_of_map : (extent : ℕ × ℕ) (name : List ℕ) (area : Ground) → needed (told_at_operand NoScreen (codes "SIZE") operands) (ground_of operands extent) ≡ Ok area → new name area ≡ more → IsProgressFit more
-    last_of_map extent name area is same =
-        let lies = ground_lies (top_in operands) (left_in operands) extent (screen_for (top_in operands + extent.0) (left_in operands + extent.1)) area
-        (screen_fits (top_in operands + extent.0) (left_in operands + extent.1)) (is_needed _ (ground_of operands extent) area is) in
-        subst IsProgressFit same (record { done = (closed_fit progress fit).done; last = record { ground = lies; entries = tt } })
-
-    area_of : (extent : ℕ × ℕ) (name : List ℕ) (free : Result (Unit {0}) Told)
-        → (free >>= λ f. needed (told_at_operand NoScreen (codes "SIZE") operands) (ground_of operands extent) >>= λ area. Ok (new name area)) ≡ Ok more → IsProgressFit more
-    area_of extent name (Err told) is = absurd cc
-    area_of extent name (Ok f) is =
-        let area = gave (needed (told_at_operand NoScreen (codes "SIZE") operands) (ground_of operands extent)) (λ area. Ok (new name area)) more is in
-        last_of_map extent name area.value area.first (same_ok (new name area.value) more area.next)
-
-    four : (extent : Result (ℕ × ℕ) Told) (inside : Result (Unit {0}) Told) (name : Result (List ℕ) Told)
-        → (extent >>= λ x. inside >>= λ i. name >>= λ n. unless (has_map progress n) (told_with NameTwice n (place_at said.line 1))
-        >>= λ f. needed (told_at_operand NoScreen (codes "SIZE") operands) (ground_of operands x) >>= λ area. Ok (new n area)) ≡ Ok more → IsProgressFit more
-    four (Err told) inside name is = absurd cc
-    four (Ok x) (Err told) name is = absurd cc
-    four (Ok x) (Ok i) (Err told) is = absurd cc
-    four (Ok x) (Ok i) (Ok n) is = area_of x n (unless (has_map progress n) (told_with NameTwice n (place_at said.line 1))) is
-
-told_fit : (progress : Progress) (section : Section) (told : Result Entry Told) (more : Progress) → IsProgressFit progress → IsSectionFit section
-    → ((entry : Entry) → told ≡ Ok entry → IsEntryOn section.area entry) → as_last progress (with_told section told) ≡ Ok more → IsProgressFit more
-told_fit progress section (Err told) more fit last each e = absurd cc
-told_fit progress section (Ok entry) more fit last each e =
-    subst IsProgressFit (same_ok _ more e) (record {
-      done = fit.done;
-      last = record { ground = last.ground; entries = each_append (IsEntryOn section.area) section.entries (entry ∷ []) last.entries (each entry refl, tt) };
-    })
-
-last_is : (last : Option Section) (section : Section) → IsLastFit last → last ≡ Some section → IsSectionFit section
-last_is None section fit e = absurd cc
-last_is (Some other) section fit e = subst IsSectionFit (same_some other section e) fit
-
-length_fit : (progress : Progress) (said : Said) (operands : List Given) (n : ℕ) (more : Progress) → n ≤ 256 → IsProgressFit progress → with_length progress said operands n ≡ Ok more → IsProgressFit more
-length_fit progress said operands n more few fit e =
-    let section = gave (needed (out_of_order said) progress.last) (λ section. as_last progress (with_told section (field_of section said operands n))) more e in
-    let last = last_is progress.last section.value fit.last (is_needed (out_of_order said) progress.last section.value section.first) in
-    told_fit progress section.value (field_of section.value said operands n) more fit last (λ entry is. entry_good section.value said operands n entry few is) section.next
-
-field_fit : (progress : Progress) (said : Said) (operands : List Given) (more : Progress) → IsProgressFit progress → with_field progress said operands ≡ Ok more → IsProgressFit more
-unfolding with_field
-field_fit progress said operands more fit e = two (needed (missing (codes "POS") said) (pos_in operands)) e
-  where
-    two : (pos : Result Pos Told) → (pos >>= λ p. field_length said operands >>= λ n. with_length progress said operands n) ≡ Ok more → IsProgressFit more
-    two (Err told) is = absurd cc
-    two (Ok p) is =
-        let n = gave (field_length said operands) (λ n. with_length progress said operands n) more is in
-        length_fit progress said operands n.value more (field_small said operands n.value n.first) fit n.next
-
-operands_fit : (operation : Operation) (progress : Progress) (said : Said) (operands : List Given) (more : Progress) → IsProgressFit progress
-    → with_operands operation progress said operands ≡ Ok more → IsProgressFit more
-operands_fit Mapset progress said operands more fit e = mapset_fit progress said operands more fit e
-operands_fit Map progress said operands more fit e = map_fit progress said operands more fit e
-operands_fit Field progress said operands more fit e = field_fit progress said operands more fit e
-operands_fit Passed progress said operands more fit e = field_fit progress said operands more fit e
-operands_fit End progress said operands more fit e = field_fit progress said operands more fit e
-
-macro_fit : (progress : Progress) (said : Said) (more : Progress) → IsProgressFit progress → with_macro progress said ≡ Ok more → IsProgressFit more
-unfolding with_macro
-macro_fit progress said more fit e =
-    let operands = gave (operands_of said.operation said.operands) (with_operands said.operation progress said) more e in
-    operands_fit said.operation progress said operands.value more fit operands.next
-
-all_fit : (progress : Progress) (macros : List Said) (more : Progress) → IsProgressFit progress → progress_of progress macros ≡ Ok more → IsProgressFit more
-all_fit progress [] more fit e = subst IsProgressFit (same_ok progress more e) fit
-all_fit progress (said ∷ others) more fit e =
-    let next = gave (with_macro progress said) (λ next. progress_of next others) more e in
-    all_fit next.value others more (macro_fit progress said next.value fit next.first) next.next
-
-whole_fit : (progress : Progress) (place : Place) (maps : List Sheet) → IsProgressFit progress → whole progress place ≡ Ok maps → Each IsFit maps
-whole_fit progress place maps fit e = elim (is_after progress.stage) as (λ b. cond b (Ok progress.done) (Err (told_at NoFinal place)) ≡ Ok maps → Each IsFit maps) [
-  | true ↦ λ is. subst (Each IsFit) (same_ok progress.done maps is) fit.done
-  | false ↦ λ is. absurd cc
-] e
-
-source_fit : (source : Source) (maps : List Sheet) → told_by nothing source ≡ Ok maps → Each IsFit maps
-source_fit source maps e =
-    let more = gave (progress_of nothing source.macros) (λ more. source.end >>= whole more) maps e in
-    let place = gave source.end (whole more.value) maps more.next in
-    whole_fit more.value place.value maps (all_fit nothing source.macros more.value (record { done = tt; last = tt }) more.first) place.next
-
-pub maps_are_fit : MapsAreFit
-maps_are_fit text maps e = source_fit (source_of text) maps e

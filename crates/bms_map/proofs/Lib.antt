@@ -11,3 +11,6 @@ pub mod TextsLaws
 pub mod PairLaws
 pub mod FitLaws
 pub mod WrittenLaws
+pub mod NamedLaws
+pub mod ApartLaws
+pub mod MapsetLaws

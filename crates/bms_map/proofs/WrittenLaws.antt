@@ -1,8 +1,8 @@
 -- The record of a map that is fit is written.
-use Rattle.std.proofs.Common.{◌≡◌, ◌≤◌, ◌<◌, ◌*◌, ◌%◌, ◌==◌, ℕ, zero, suc, Bool, true, false, cond, ◌&&◌, List, [], ◌∷◌, ◌++◌, append_assoc, length, Option, Some, None, Ok, refl, sym, ◌∙◌, ap, subst, arith, inl, inr}
+use Rattle.std.proofs.Common.{◌≡◌, ◌≤◌, ◌*◌, ◌%◌, ◌==◌, ℕ, zero, suc, Bool, true, false, cond, ◌&&◌, List, [], ◌∷◌, ◌++◌, append_assoc, length, Option, Some, None, Ok, refl, sym, ◌∙◌, ap, subst, arith, inl, inr}
 use Rattle.std.specs.Prelude.{◌⊎◌, nat_lt}
 use Rattle.std.specs.List.{flat_map, list_all}
-use Rattle.std.proofs.lemmas.Bool.{cond-true, lt-ltb}
+use Rattle.std.proofs.lemmas.Bool.{lt-ltb}
 use Rattle.ds_codec.specs.declared.size.Size.{Size}
 use Rattle.ds_codec.specs.declared.size.Mode.TheVariants.{Bits14}
 use Rattle.ds_codec.specs.declared.command.Command.TheVariants.{EraseWrite, EraseWriteAlternate}
@@ -10,16 +10,15 @@ use Rattle.ds_codec.specs.declared.write.Unwritable.{Unwritable}
 use Rattle.ds_codec.specs.declared.write.Unwritable.TheVariants.{NotAllowed}
 use Rattle.ds_codec.specs.Address.{six_bit_code}
 use Rattle.ds_codec.specs.Character.{is_text}
-use Rattle.ds_codec.specs.Order.{Item, text, insert_cursor}
-use Rattle.ds_codec.specs.Order.{last_attribute}
+use Rattle.ds_codec.specs.Order.{Item, insert_cursor}
 use Rattle.ds_codec.specs.Record.{is_text_order}
-use Rattle.ds_codec.specs.Writing.{flaw_of, flaw_unless, is_good_run, are_good_pairs, item_at, follows_text, flaw_at, HaveNoFlaw, are_not_allowed, written_record}
+use Rattle.ds_codec.specs.Writing.{flaw_of, flaw_unless, is_good_run, are_good_pairs, item_at, follows_text, flaw_at, are_not_allowed, written_record}
 use Rattle.ds_codec.proofs.Written.{is_read_again}
 use Rattle.order_lines.specs.Draft.{flaw_or, first_flaw, bytes_or}
 use Rattle.bms_map.specs.declared.record.Control.{Control}
-use Rattle.bms_map.specs.Maps.{Ground, LaterText, Shown, Sheet, default_rows}
+use Rattle.bms_map.specs.Maps.{LaterText, Shown, Sheet, default_rows}
 use Rattle.bms_map.specs.Record.{text_orders, attribute_order, cursor_orders, later_orders, field_orders, map_orders, control_bits, command_of}
-use Rattle.bms_map.specs.Fit.{Each, IsScreen, cells_on, LiesOn, IsLaterOn, IsFieldOn, IsFit, RecordsAreWritten}
+use Rattle.bms_map.specs.Fit.{Each, IsScreen, cells_on, IsLaterOn, IsFieldOn, RecordsAreWritten}
 use Rattle.bms_map.proofs.AgainLaws.{valid_at, valid_fields}
 
 -- ---- no order has a flaw, where the order before the first is text or not

@@ -1,5 +1,5 @@
 -- What holds of each map of a source.
-use Rattle.std.specs.Prelude.{◌≡◌, ◌≤◌, ◌<◌, ◌⊎◌, ℕ, ◌+◌, ◌*◌, ◌==◌, true, List, [], ◌∷◌, length, Option, Some, None, Ok}
+use Rattle.std.specs.Prelude.{◌≡◌, ◌≤◌, ◌<◌, ◌⊎◌, ℕ, ◌+◌, ◌*◌, ◌==◌, true, false, List, [], ◌∷◌, codes, map, length, Option, Some, None, Ok}
 use Rattle.std.specs.List.{list_all, list_any}
 use Rattle.ds_codec.specs.declared.size.Size.{Size}
 use Rattle.ds_codec.specs.Character.{is_text}
@@ -7,6 +7,9 @@ use Rattle.ds_codec.specs.Order.{last_attribute}
 use Rattle.ds_codec.specs.declared.size.Mode.TheVariants.{Bits14}
 use Rattle.ds_codec.specs.Writing.{are_good_pairs, IsReadAgain}
 use Rattle.order_lines.specs.Draft.{written_of}
+use Rattle.bms_source.specs.Words.{is_of_symbol}
+use Rattle.bms_map.specs.Entries.{same}
+use Rattle.bms_map.specs.LayoutText.{lower, numbered}
 use Rattle.bms_map.specs.Maps.{Ground, LaterText, Shown, Sheet}
 use Rattle.bms_map.specs.Mapset.{maps_of}
 use Rattle.bms_map.specs.Record.{command_of, map_orders}
@@ -52,10 +55,37 @@ abbrev pub HasCursor : Option ℕ → List Shown → Type 0
 HasCursor None fields = Unit {0}
 HasCursor (Some cell) fields = list_any (λ (field : Shown). cell == field.cell) fields ≡ true
 
+-- a field that has a label has some characters, and fewer than the screen has positions; its name is of a symbol's characters,
+-- 32 of them at most with the number of its occurrence
+pub record IsNamedOn (cells : ℕ) (field : Shown) : Type 0 where
+  pub some : 1 ≤ field.length
+  pub few : field.length < cells
+  pub symbol : list_all is_of_symbol field.label ≡ true
+  pub short : length field.label + length (numbered (codes "-") [] field.occurrence) ≤ 32
+  pub number : field.occurrence ≤ 1000
+
+abbrev pub IsNamedIf : ℕ → Shown → Type 0
+IsNamedIf cells field = 1 ≤ length field.label → IsNamedOn cells field
+
+-- their attributes stand at two places; where both have labels these differ, or their numbers do
+abbrev pub Apart : Shown → Shown → Type 0
+Apart field other =
+    ((field.cell == other.cell) ≡ false)
+    × (1 ≤ length field.label → 1 ≤ length other.label
+    → (same (map lower field.label) (map lower other.label) ≡ false) ⊎ ((field.occurrence == other.occurrence) ≡ false))
+
+-- each of a list and each later one
+abbrev pub AreApart : List Shown → Type 0
+AreApart [] = Unit {0}
+AreApart (field ∷ fields) = Each (Apart field) fields × AreApart fields
+
 pub record IsFit (it : Sheet) : Type 0 where
   pub ground : LiesOn it.area
   pub fields : Each (IsFieldOn (cells_on it.area)) it.fields
   pub cursor : HasCursor it.cursor it.fields
+  pub named : Each (IsNamedIf (cells_on it.area)) it.fields
+  pub apart : AreApart it.fields
+  pub few : length it.fields ≤ 1000
 
 -- whatever the source
 abbrev pub MapsAreFit : Type 0

@@ -1,17 +1,15 @@
 -- An object of what is found of a map holds no float, and nests two deep at most.
-use Rattle.std.proofs.Common.{◌≡◌, ◌≤◌, ℕ, false, List, Option, Some, None, refl, arith}
+use Rattle.std.proofs.Common.{◌≡◌, ℕ, false, List, Option, Some, refl, arith}
 use Rattle.std.specs.Prelude.{codes, option_map}
 use Rattle.hex.specs.Hex.{encode_upper}
-use Rattle.serde_json.specs.Data.{Members, no_members, depth}
+use Rattle.serde_json.specs.Data.{Members, no_members}
 use Rattle.serde_json.specs.Written.{has_float}
 use Rattle.ds_screen.specs.Picture.{Picture}
 use Rattle.bms_source.specs.Printed.{printed_codes}
-use Rattle.bms_map.specs.Maps.{Sheet, Shown}
+use Rattle.bms_map.specs.Maps.{Sheet}
 use Rattle.bms_map.specs.LayoutText.{label_text}
-use Rattle.scr_layout.specs.Entry.{Declared}
 use Rattle.scr_layout.specs.Layout.{Declaration}
 use Rattle.scr_check.specs.FindingText.{demo_of}
-use Rattle.term_findings.specs.declared.region.Columns.{Columns}
 use Rattle.term_findings.specs.declared.region.Region.{Region}
 use Rattle.term_findings.specs.Facts.{place_of, row_at, column_at, length_of, entry_of, sent_from}
 use Rattle.term_findings.specs.Members.{with_count, with_text}

@@ -7,6 +7,7 @@ use Rattle.bms_source.specs.declared.refusal.Why.TheVariants.{NoSuchMap}
 use Rattle.bms_source.specs.Told.{Told, ◌>>=◌}
 use Rattle.bms_source.specs.Words.{upper}
 use Rattle.bms_map.specs.Maps.{Sheet}
+use Rattle.bms_map.specs.Mapset.{maps_of}
 use Rattle.cli_maps.specs.declared.asked.Report.{Report}
 use Rattle.cli_maps.specs.declared.asked.Report.TheVariants.{Text, Json, Sarif}
 
@@ -34,8 +35,9 @@ some_of (map ∷ maps) = Ok (map ∷ maps)
 abbrev pub named : Option (List ℕ) → List Sheet → Result (List Sheet) Told
 named name maps = some_of (filter (is_asked name) maps)
 
-abbrev pub maps_asked : Option (List ℕ) → Result (List Sheet) Told → Result (List Sheet) Told
-maps_asked name told = told >>= named name
+-- the maps of a source that are asked for, or why it is refused
+abbrev pub maps_asked : Option (List ℕ) → List ℕ → Result (List Sheet) Told
+maps_asked name text = maps_of text >>= named name
 
 -- ---- as the program holds it
 

@@ -1,5 +1,5 @@
 -- What is found of a map as JSON objects. Members are in the order of their keys, and a key that doesn't apply is left out.
-use Rattle.std.specs.Prelude.{ℕ, List, [], ◌∷◌, ◌++◌, codes, length, Option, Some, None, option_map}
+use Rattle.std.specs.Prelude.{ℕ, List, [], ◌∷◌, ◌++◌, codes, length, Option, Some, option_map}
 use Rattle.std.specs.List.{flat_map}
 use Rattle.serde_json.specs.Data.{Data, number, unsigned, string, object, Members, member, no_members}
 use Rattle.ds_screen.specs.Picture.{Picture}

@@ -9,3 +9,6 @@ pub mod Json
 pub mod Sarif
 pub mod Told
 pub mod Printed
+pub mod Screen
+pub mod Layouts
+pub mod Kept

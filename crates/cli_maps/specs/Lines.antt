@@ -12,7 +12,6 @@ use Rattle.scr_check.specs.FindingText.{finding_text}
 use Rattle.term_findings.specs.Facts.{place_of}
 use Rattle.cli_maps.specs.declared.judged.MapFinding.{MapFinding}
 use Rattle.cli_maps.specs.declared.judged.MapFinding.TheVariants.{Overlapping, Found}
-use Rattle.cli_maps.specs.Judged.{Judged}
 
 -- ---- the field
 

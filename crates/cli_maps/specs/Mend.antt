@@ -1,5 +1,5 @@
 -- What to do about a finding of a map: the change of its source that ends it.
-use Rattle.std.specs.Prelude.{ℕ, ◌+◌, ◌-◌, ◌*◌, ◌/◌, ◌%◌, Bool, not, ◌&&◌, ◌==◌, nat_le, nat_lt, List, [], ◌∷◌, ◌++◌, codes, slice_get, Option, Some, None, if◌then◌else◌}
+use Rattle.std.specs.Prelude.{ℕ, ◌+◌, ◌-◌, ◌*◌, ◌/◌, ◌%◌, Bool, not, ◌&&◌, ◌==◌, nat_le, nat_lt, List, [], ◌++◌, codes, slice_get, Option, Some, None, if◌then◌else◌}
 use Rattle.std.specs.Fmt.{decimal}
 use Rattle.std.specs.List.{find}
 use Rattle.bms_map.specs.Maps.{Ground, Sheet, Shown}
@@ -9,7 +9,6 @@ use Rattle.bms_map.specs.LayoutText.{label_text}
 use Rattle.scr_layout.specs.Entry.{Declared}
 use Rattle.scr_check.specs.declared.finding.Finding.{Finding}
 use Rattle.scr_check.specs.declared.finding.Finding.TheVariants.{KeyboardLocked, Unformatted, Undeclared, UndeclaredFixed, Missing, TooLong, EmptyModified}
-use Rattle.scr_check.specs.declared.finding.Overlong.{Overlong}
 use Rattle.cli_maps.specs.declared.judged.MapFinding.{MapFinding}
 use Rattle.cli_maps.specs.declared.judged.MapFinding.TheVariants.{Overlapping, Found}
 use Rattle.cli_maps.specs.Lines.{field_of}

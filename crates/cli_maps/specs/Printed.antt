@@ -1,4 +1,4 @@
--- What the commands on maps print, as functions of the maps that a source is read as, or of its refusal.
+-- What the commands on maps print, as functions of the source, and their statuses.
 use Rattle.std.specs.Prelude.{ℕ, List, [], ◌∷◌, ◌++◌, codes, Option, None, Result, Ok, Err}
 use Rattle.std.specs.Fmt.{decimal}
 use Rattle.ds_codec.specs.Reading.{◌>>=◌}
@@ -10,13 +10,7 @@ use Rattle.bms_map.specs.declared.record.Control.{Control}
 use Rattle.bms_map.specs.LayoutText.{layout_text}
 use Rattle.term_commands.specs.declared.fault.Fault.{Fault}
 use Rattle.term_commands.specs.declared.status.Status.TheVariants.{Done, BadInput}
-use Rattle.term_commands.specs.declared.fault.CommandError.{CommandError}
-use Rattle.term_commands.specs.declared.output.answer.Answer.{Answer}
-use Rattle.term_commands.specs.declared.status.Status.{Status}
-use Rattle.term_commands.specs.Causes.{EndsBy}
-use Rattle.term_commands.specs.Fault.{Gives, GivesOrFails, fault_text}
-use Rattle.term_commands.specs.Held.{answer_seen}
-use Rattle.term_commands.specs.Streams.{Prints}
+use Rattle.term_commands.specs.Fault.{fault_text}
 use Rattle.term_commands.specs.Lines.{within_limit}
 use Rattle.term_commands.specs.Printed.{Printed, printed, printed_or_fault}
 use Rattle.term_commands.specs.Show.{show}
@@ -50,13 +44,16 @@ abbrev pub mapped : Form → Control → List Sheet → Result Printed Fault
 mapped forms.Records control maps = all_told (record_told control) maps
 mapped forms.Layout control maps = layout_told maps
 
--- what `map` prints of a reading
-abbrev pub map_told : Form → Option (List ℕ) → Control → Result (List Sheet) Told → Result Printed Fault
-map_told form name control told = or_refused (mapped form control) (maps_asked name told)
+abbrev pub map_told : Form → Option (List ℕ) → Control → List ℕ → Result Printed Fault
+map_told form name control text = or_refused (mapped form control) (maps_asked name text)
 
--- what `map` answers to a source that is read so
-abbrev pub map_source : Form → Option (List ℕ) → Control → List ℕ → Result (List Sheet) Told → Result Printed Fault
-map_source form name control input told = within_limit input >>= λ text. map_told form name control told
+-- what `map` answers to a source
+abbrev pub map_source : Form → Option (List ℕ) → Control → List ℕ → Result Printed Fault
+map_source form name control input = within_limit input >>= map_told form name control
+
+-- what it prints, and its status
+abbrev pub printed_map : Form → Option (List ℕ) → Control → List ℕ → Printed
+printed_map form name control input = printed_or_fault (map_source form name control input)
 
 -- ---- check --map
 
@@ -88,16 +85,19 @@ abbrev pub or_refused_in : Reported → (List Sheet → Result Printed Fault) �
 or_refused_in report answer (Ok maps) = answer maps
 or_refused_in report answer (Err told) = Ok (refused_in report told)
 
--- what `check --map` prints of a reading of a text
-abbrev pub check_told : Reported → Option (List ℕ) → Control → List ℕ → Result (List Sheet) Told → Result Printed Fault
-check_told report name control text told = or_refused_in report (checked report control text) (maps_asked name told)
+abbrev pub check_told : Reported → Option (List ℕ) → Control → List ℕ → Result Printed Fault
+check_told report name control text = or_refused_in report (checked report control text) (maps_asked name text)
 
-abbrev pub check_limited : Reported → Option (List ℕ) → Control → Result (List ℕ) Fault → Result (List Sheet) Told → Result Printed Fault
-check_limited report name control input told = input >>= λ text. check_told report name control text told
+abbrev pub check_limited : Reported → Option (List ℕ) → Control → List ℕ → Result Printed Fault
+check_limited report name control input = within_limit input >>= check_told report name control
 
--- what it answers to a source that is read so; a fault of the input is reported too
-abbrev pub check_source : Reported → Option (List ℕ) → Control → List ℕ → Result (List Sheet) Told → Result Printed Fault
-check_source report name control input told = or_faulted report (check_limited report name control (within_limit input) told)
+-- what `check --map` answers to a source; a fault of the input is reported too
+abbrev pub check_source : Reported → Option (List ℕ) → Control → List ℕ → Result Printed Fault
+check_source report name control input = or_faulted report (check_limited report name control input)
+
+-- what it prints, and its status
+abbrev pub printed_check_map : Reported → Option (List ℕ) → Control → List ℕ → Printed
+printed_check_map report name control input = printed_or_fault (check_source report name control input)
 
 -- ---- show --map, draft --map
 
@@ -120,25 +120,13 @@ one_rendered rendering control [] = Ok (refused (without SeveralMaps))
 one_rendered rendering control (it ∷ []) = record_due control it >>= rendered rendering it
 one_rendered rendering control (it ∷ other ∷ maps) = Ok (refused (without SeveralMaps))
 
--- what `show --map` and `draft --map` print of a reading
-abbrev pub render_told : Rendering → Option (List ℕ) → Control → Result (List Sheet) Told → Result Printed Fault
-render_told rendering name control told = or_refused (one_rendered rendering control) (maps_asked name told)
+abbrev pub render_told : Rendering → Option (List ℕ) → Control → List ℕ → Result Printed Fault
+render_told rendering name control text = or_refused (one_rendered rendering control) (maps_asked name text)
 
--- what they answer to a source that is read so
-abbrev pub render_source : Rendering → Option (List ℕ) → Control → List ℕ → Result (List Sheet) Told → Result Printed Fault
-render_source rendering name control input told = within_limit input >>= λ text. render_told rendering name control told
+-- what `show --map` and `draft --map` answer to a source
+abbrev pub render_source : Rendering → Option (List ℕ) → Control → List ℕ → Result Printed Fault
+render_source rendering name control input = within_limit input >>= render_told rendering name control
 
--- ---- over streams
-
--- the text is that of some reading of the source, as is the status, unless a read or a write failed or memory was refused
-abbrev pub PrintsRead : (Result (List Sheet) Told → Result Printed Fault) → Option (List ℕ) → Option (List ℕ) → ℕ → ℕ → Status → Type 0
-PrintsRead due held left old new status =
-    (told : Result (List Sheet) Told) × Prints held left status (printed_or_fault (due told)) × EndsBy old new (printed_or_fault (due told)).status status
-
--- the answer is that of some reading of the source, or a read failed
-abbrev pub AnswersRead : (Result (List Sheet) Told → Result Printed Fault) → Result Answer CommandError → Type 0
-AnswersRead due answer = (told : Result (List Sheet) Told) × GivesOrFails answer_seen answer (due told)
-
--- the same of a text
-abbrev pub GivesRead : (Result (List Sheet) Told → Result Printed Fault) → Result Answer CommandError → Type 0
-GivesRead due answer = (told : Result (List Sheet) Told) × Gives answer_seen answer (due told)
+-- what they print, and their status
+abbrev pub printed_rendered : Rendering → Option (List ℕ) → Control → List ℕ → Printed
+printed_rendered rendering name control input = printed_or_fault (render_source rendering name control input)

@@ -1,5 +1,5 @@
 -- What is printed for a source that is refused.
-use Rattle.std.specs.Prelude.{ℕ, List, [], ◌∷◌, ◌++◌, codes, Result, Ok, Err}
+use Rattle.std.specs.Prelude.{ℕ, List, ◌++◌, codes, Result, Ok, Err}
 use Rattle.bms_source.specs.Printed.{refusal_text}
 use Rattle.bms_source.specs.Told.{Told}
 use Rattle.term_commands.specs.declared.fault.Fault.{Fault}

@@ -1,5 +1,5 @@
 -- What is found of maps as a log of SARIF 2.1.0: a result for each finding, at its macro, or one for a source that is refused.
-use Rattle.std.specs.Prelude.{ℕ, List, [], ◌∷◌, ◌++◌, codes, map}
+use Rattle.std.specs.Prelude.{ℕ, List, ◌++◌, codes, map}
 use Rattle.serde_json.specs.Data.{Data, string, array, object, item, no_items, member, no_members}
 use Rattle.serde_json.specs.View.{items_of}
 use Rattle.bms_map.specs.Maps.{Sheet}

@@ -1,5 +1,5 @@
 -- What is printed of maps one after the other, and the status.
-use Rattle.std.specs.Prelude.{ℕ, List, [], ◌∷◌, ◌++◌, codes, map, Result, Ok, Err}
+use Rattle.std.specs.Prelude.{ℕ, List, [], ◌∷◌, ◌++◌, codes, map, Result, Ok}
 use Rattle.std.specs.Fmt.{decimal}
 use Rattle.hex.specs.Hex.{encode_upper}
 use Rattle.serde_json.specs.Data.{Data}
@@ -7,7 +7,6 @@ use Rattle.ds_codec.specs.Reading.{◌>>=◌}
 use Rattle.bms_source.specs.Printed.{printed_codes}
 use Rattle.bms_map.specs.Maps.{Sheet}
 use Rattle.bms_map.specs.declared.record.Control.{Control}
-use Rattle.bms_map.specs.LayoutText.{layout_text}
 use Rattle.term_commands.specs.declared.fault.Fault.{Fault}
 use Rattle.term_commands.specs.declared.status.Status.{Status}
 use Rattle.term_commands.specs.declared.status.Status.TheVariants.{Done, Findings}
@@ -15,7 +14,7 @@ use Rattle.term_commands.specs.Printed.{Printed, printed}
 use Rattle.cli_maps.specs.declared.each.MapForm.{MapForm}
 use Rattle.cli_maps.specs.declared.each.MapForm.TheVariants.{Record, Lines, Json}
 use Rattle.cli_maps.specs.Json.{json_lines}
-use Rattle.cli_maps.specs.Judged.{Judged, judge, record_due, status_of}
+use Rattle.cli_maps.specs.Judged.{judge, record_due, status_of}
 use Rattle.cli_maps.specs.Lines.{lines_of}
 use Rattle.cli_maps.specs.Sarif.{log_line, results_of}
 

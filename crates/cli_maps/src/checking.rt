@@ -4,18 +4,18 @@ ghost use Rattle.std.specs.Prelude.{◌≡◌, ◌≤◌, ◌+◌, ℕ, Result a
 ghost use Rattle.bms_source.specs.Results.{Gives as GivesMaps};
 ghost use Rattle.bms_source.specs.Told.{Told};
 ghost use Rattle.bms_map.specs.Maps.{Sheet};
-ghost use Rattle.term_commands.specs.Causes.{ToldBy};
+ghost use Rattle.term_commands.specs.Causes.{EndsBy, ToldBy};
 ghost use Rattle.term_commands.specs.Fault.{Gives, GivesOrFails};
 ghost use Rattle.term_commands.specs.Held.{answer_seen};
-ghost use Rattle.term_commands.specs.Lines.{within_limit};
 ghost use Rattle.term_commands.specs.Printed.{Printed};
+ghost use Rattle.term_commands.specs.Streams.{Prints};
 ghost use Rattle.term_commands.specs.declared.fault.Fault.{Fault as AFault};
 ghost use Rattle.cli_maps.specs.Asked.{name_in, report_seen};
 ghost use Rattle.cli_maps.specs.Told.{all_told, json_told, log_told};
 ghost use Rattle.bms_source.specs.Rows.{lines_in};
 ghost use Rattle.std.specs.String.{string_bytes};
 ghost use Rattle.term_commands.specs.Fault.{fault_text};
-ghost use Rattle.cli_maps.specs.Printed.{AnswersRead, GivesRead, PrintsRead, check_limited, check_source, check_told, checked, or_faulted, or_refused_in, refused_in, refused_json, refused_log};
+ghost use Rattle.cli_maps.specs.Printed.{check_limited, check_source, check_told, checked, or_faulted, or_refused_in, refused_in, printed_check_map, refused_json, refused_log};
 
 use crate::asked::{Asked, Report};
 use crate::each::{MapForm, all_told, log_told};
@@ -191,8 +191,8 @@ fn check_within(
     source: &[u8],
 ) -> Result<Answer, CommandError>
     requires { length source.now ≤ 16777216 }
-    ensures { GivesRead (check_told (report_seen report.entry) (name_in asked.entry.name)
-        asked.entry.control source.now) result }
+    ensures { Gives answer_seen result (check_told (report_seen report.entry)
+        (name_in asked.entry.name) asked.entry.control source.now) }
 {
     let maps = maps_asked(alloc, source, asked.name);
     checked_or_refused(alloc, report, asked.control, source, maps)
@@ -204,8 +204,8 @@ fn check_limited(
     asked: Asked<'_>,
     source: &[u8],
 ) -> Result<Answer, CommandError>
-    ensures { GivesRead (check_limited (report_seen report.entry) (name_in asked.entry.name)
-        asked.entry.control (within_limit source.now)) result }
+    ensures { Gives answer_seen result (check_limited (report_seen report.entry)
+        (name_in asked.entry.name) asked.entry.control source.now) }
 {
     match within_limit(source) {
         Ok(source) => check_within(alloc, report, asked, source),
@@ -224,8 +224,8 @@ pub fn check_map_text(
     source: &[u8],
     asked: Asked<'_>,
 ) -> Result<Answer, CommandError>
-    ensures { GivesRead (check_source (report_seen report.entry) (name_in asked.entry.name)
-        asked.entry.control source.now) result }
+    ensures { Gives answer_seen result (check_source (report_seen report.entry)
+        (name_in asked.entry.name) asked.entry.control source.now) }
 {
     let answer = check_limited(alloc, report, asked, source);
     or_faulted(alloc, report, answer)
@@ -237,9 +237,9 @@ fn check_read<R: GivesBytes>(
     reader: &mut R,
     asked: Asked<'_>,
 ) -> Result<Answer, CommandError>
-    ensures answer { IfSome (R.remaining reader.old) (λ input. AnswersRead
+    ensures answer { IfSome (R.remaining reader.old) (λ input. GivesOrFails answer_seen result
         (check_limited (report_seen report.entry) (name_in asked.entry.name) asked.entry.control
-        (within_limit input)) result) }
+        input)) }
     ensures cause { ToldBy (R.failures reader.old) (R.failures reader.new) result }
 {
     match read_text(alloc, reader) {
@@ -254,9 +254,9 @@ fn check_reported<R: GivesBytes>(
     reader: &mut R,
     asked: Asked<'_>,
 ) -> Result<Answer, CommandError>
-    ensures answer { IfSome (R.remaining reader.old) (λ input. AnswersRead
-        (check_source (report_seen report.entry) (name_in asked.entry.name) asked.entry.control input)
-        result) }
+    ensures answer { IfSome (R.remaining reader.old) (λ input. GivesOrFails answer_seen result
+        (check_source (report_seen report.entry) (name_in asked.entry.name) asked.entry.control
+        input)) }
     ensures cause { ToldBy (R.failures reader.old) (R.failures reader.new) result }
 {
     let answer = check_read(alloc, report, reader, asked);
@@ -274,11 +274,15 @@ pub fn run_check_map<R: GivesBytes, W: TakesBytes>(
     writer: &mut W,
     asked: Asked<'_>,
 ) -> Status
-    ensures { IfSome (R.remaining reader.old) (λ input. PrintsRead
-        (check_source (report_seen report.entry) (name_in asked.entry.name) asked.entry.control input)
-        (W.contents writer.old) (W.contents writer.new)
-        (R.failures reader.old + W.failures writer.old)
-        (R.failures reader.new + W.failures writer.new) result) }
+    ensures prints { IfSome (R.remaining reader.old) (λ input.
+        Prints (W.contents writer.old) (W.contents writer.new) result
+        (printed_check_map (report_seen report.entry) (name_in asked.entry.name)
+        asked.entry.control input)) }
+    ensures cause { IfSome (R.remaining reader.old) (λ input.
+        EndsBy (R.failures reader.old + W.failures writer.old)
+        (R.failures reader.new + W.failures writer.new)
+        (printed_check_map (report_seen report.entry) (name_in asked.entry.name)
+        asked.entry.control input).status result) }
 {
     let answer = check_reported(alloc, report, reader, asked);
     finish(alloc, writer, answer)

@@ -7,6 +7,7 @@ mod checking;
 mod each;
 mod json;
 mod judged;
+mod laws;
 mod lines;
 mod mapping;
 mod mend;
@@ -19,5 +20,6 @@ mod told;
 
 pub use asked::{Asked, Form, Rendering, Report};
 pub use checking::{check_map_text, run_check_map};
+pub use laws::{layouts_are_read, maps_are_judged, maps_are_shown, puts_are_left, yes_is_kept};
 pub use mapping::{map_text, run_map};
 pub use rendering::{render_map_text, run_render_map};

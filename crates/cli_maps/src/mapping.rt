@@ -4,11 +4,12 @@ ghost use Rattle.std.specs.Prelude.{◌≡◌, ◌≤◌, ◌+◌, Result as ARe
 ghost use Rattle.bms_source.specs.Results.{Gives as GivesMaps};
 ghost use Rattle.bms_source.specs.Told.{Told};
 ghost use Rattle.bms_map.specs.Maps.{Sheet};
-ghost use Rattle.term_commands.specs.Causes.{ToldBy};
-ghost use Rattle.term_commands.specs.Fault.{Gives};
+ghost use Rattle.term_commands.specs.Causes.{EndsBy, ToldBy};
+ghost use Rattle.term_commands.specs.Fault.{Gives, GivesOrFails};
 ghost use Rattle.term_commands.specs.Held.{answer_seen};
+ghost use Rattle.term_commands.specs.Streams.{Prints};
 ghost use Rattle.cli_maps.specs.Asked.{name_in};
-ghost use Rattle.cli_maps.specs.Printed.{AnswersRead, GivesRead, PrintsRead, layout_told, map_source, map_told, mapped};
+ghost use Rattle.cli_maps.specs.Printed.{layout_told, map_source, map_told, mapped, printed_map};
 ghost use Rattle.cli_maps.specs.Refused.{or_refused};
 
 use crate::asked::{Asked, Form};
@@ -68,7 +69,8 @@ fn map_within(
     source: &[u8],
 ) -> Result<Answer, CommandError>
     requires { length source.now ≤ 16777216 }
-    ensures { GivesRead (map_told form (name_in asked.entry.name) asked.entry.control) result }
+    ensures { Gives answer_seen result
+        (map_told form (name_in asked.entry.name) asked.entry.control source.now) }
 {
     let maps = maps_asked(alloc, source, asked.name);
     mapped_or_refused(alloc, form, asked.control, maps)
@@ -85,8 +87,8 @@ pub fn map_text(
     asked: Asked<'_>,
     form: Form,
 ) -> Result<Answer, CommandError>
-    ensures { GivesRead (map_source form (name_in asked.entry.name) asked.entry.control source.now)
-        result }
+    ensures { Gives answer_seen result
+        (map_source form (name_in asked.entry.name) asked.entry.control source.now) }
 {
     match within_limit(source) {
         Ok(source) => map_within(alloc, form, asked, source),
@@ -100,8 +102,8 @@ fn map_read<R: GivesBytes>(
     asked: Asked<'_>,
     form: Form,
 ) -> Result<Answer, CommandError>
-    ensures answer { IfSome (R.remaining reader.old) (λ input. AnswersRead
-        (map_source form (name_in asked.entry.name) asked.entry.control input) result) }
+    ensures answer { IfSome (R.remaining reader.old) (λ input. GivesOrFails answer_seen result
+        (map_source form (name_in asked.entry.name) asked.entry.control input)) }
     ensures cause { ToldBy (R.failures reader.old) (R.failures reader.new) result }
 {
     match read_text(alloc, reader) {
@@ -121,11 +123,13 @@ pub fn run_map<R: GivesBytes, W: TakesBytes>(
     asked: Asked<'_>,
     form: Form,
 ) -> Status
-    ensures { IfSome (R.remaining reader.old) (λ input. PrintsRead
-        (map_source form (name_in asked.entry.name) asked.entry.control input)
-        (W.contents writer.old) (W.contents writer.new)
-        (R.failures reader.old + W.failures writer.old)
-        (R.failures reader.new + W.failures writer.new) result) }
+    ensures prints { IfSome (R.remaining reader.old) (λ input.
+        Prints (W.contents writer.old) (W.contents writer.new) result
+        (printed_map form (name_in asked.entry.name) asked.entry.control input)) }
+    ensures cause { IfSome (R.remaining reader.old) (λ input.
+        EndsBy (R.failures reader.old + W.failures writer.old)
+        (R.failures reader.new + W.failures writer.new)
+        (printed_map form (name_in asked.entry.name) asked.entry.control input).status result) }
 {
     let answer = map_read(alloc, reader, asked, form);
     finish(alloc, writer, answer)

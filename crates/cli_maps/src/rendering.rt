@@ -6,11 +6,12 @@ ghost use Rattle.bms_source.specs.Results.{Gives as GivesMaps};
 ghost use Rattle.bms_source.specs.Told.{Told};
 ghost use Rattle.bms_map.specs.Maps.{Sheet};
 ghost use Rattle.bms_map.specs.LayoutText.{layout_text};
-ghost use Rattle.term_commands.specs.Causes.{ToldBy};
-ghost use Rattle.term_commands.specs.Fault.{Gives};
+ghost use Rattle.term_commands.specs.Causes.{EndsBy, ToldBy};
+ghost use Rattle.term_commands.specs.Fault.{Gives, GivesOrFails};
 ghost use Rattle.term_commands.specs.Held.{answer_seen};
+ghost use Rattle.term_commands.specs.Streams.{Prints};
 ghost use Rattle.term_pictures.specs.Annotated.{annotated};
-ghost use Rattle.cli_maps.specs.Printed.{AnswersRead, GivesRead, PrintsRead, one_rendered, render_source, render_told, rendered, sized_record};
+ghost use Rattle.cli_maps.specs.Printed.{one_rendered, printed_rendered, render_source, render_told, rendered, sized_record};
 ghost use Rattle.cli_maps.specs.Asked.{name_in};
 ghost use Rattle.cli_maps.specs.Refused.{or_refused};
 ghost use Rattle.cli_maps.specs.Told.{record_line};
@@ -145,8 +146,8 @@ fn render_within(
     source: &[u8],
 ) -> Result<Answer, CommandError>
     requires { length source.now ≤ 16777216 }
-    ensures { GivesRead (render_told rendering (name_in asked.entry.name) asked.entry.control)
-        result }
+    ensures { Gives answer_seen result
+        (render_told rendering (name_in asked.entry.name) asked.entry.control source.now) }
 {
     let maps = maps_asked(alloc, source, asked.name);
     rendered_or_refused(alloc, rendering, asked.control, maps)
@@ -163,8 +164,8 @@ pub fn render_map_text(
     source: &[u8],
     asked: Asked<'_>,
 ) -> Result<Answer, CommandError>
-    ensures { GivesRead (render_source rendering (name_in asked.entry.name) asked.entry.control
-        source.now) result }
+    ensures { Gives answer_seen result
+        (render_source rendering (name_in asked.entry.name) asked.entry.control source.now) }
 {
     match within_limit(source) {
         Ok(source) => render_within(alloc, rendering, asked, source),
@@ -178,8 +179,8 @@ fn render_read<R: GivesBytes>(
     reader: &mut R,
     asked: Asked<'_>,
 ) -> Result<Answer, CommandError>
-    ensures answer { IfSome (R.remaining reader.old) (λ input. AnswersRead
-        (render_source rendering (name_in asked.entry.name) asked.entry.control input) result) }
+    ensures answer { IfSome (R.remaining reader.old) (λ input. GivesOrFails answer_seen result
+        (render_source rendering (name_in asked.entry.name) asked.entry.control input)) }
     ensures cause { ToldBy (R.failures reader.old) (R.failures reader.new) result }
 {
     match read_text(alloc, reader) {
@@ -198,11 +199,14 @@ pub fn run_render_map<R: GivesBytes, W: TakesBytes>(
     writer: &mut W,
     asked: Asked<'_>,
 ) -> Status
-    ensures { IfSome (R.remaining reader.old) (λ input. PrintsRead
-        (render_source rendering (name_in asked.entry.name) asked.entry.control input)
-        (W.contents writer.old) (W.contents writer.new)
-        (R.failures reader.old + W.failures writer.old)
-        (R.failures reader.new + W.failures writer.new) result) }
+    ensures prints { IfSome (R.remaining reader.old) (λ input.
+        Prints (W.contents writer.old) (W.contents writer.new) result
+        (printed_rendered rendering (name_in asked.entry.name) asked.entry.control input)) }
+    ensures cause { IfSome (R.remaining reader.old) (λ input.
+        EndsBy (R.failures reader.old + W.failures writer.old)
+        (R.failures reader.new + W.failures writer.new)
+        (printed_rendered rendering (name_in asked.entry.name) asked.entry.control input).status
+        result) }
 {
     let answer = render_read(alloc, rendering, reader, asked);
     finish(alloc, writer, answer)

@@ -1,10 +1,8 @@
 //! The maps that are asked for.
 
-ghost use Rattle.std.specs.Prelude.{◌≡◌, ◌<◌, ◌^◌, length, List, Result as AResult, IfOk};
+ghost use Rattle.std.specs.Prelude.{◌≡◌, ◌<◌, ◌^◌, length, IfOk};
 ghost use Rattle.std.specs.List.{filter};
 ghost use Rattle.bms_source.specs.Results.{Gives};
-ghost use Rattle.bms_source.specs.Told.{Told};
-ghost use Rattle.bms_map.specs.Maps.{Sheet};
 ghost use Rattle.cli_maps.specs.Asked.{is_asked, is_name, maps_asked, name_in, named, without};
 
 use bms_map::{Map, read_maps};
@@ -80,8 +78,7 @@ pub(crate) fn maps_asked(
     name: Option<&[u8]>,
 ) -> Result<Vec<Map>, SourceError>
     requires { length source.now < 2 ^ 62 }
-    ensures { (told : AResult (List Sheet) Told)
-        × Gives (λ maps. maps.items) result (maps_asked (name_in name.entry) told) }
+    ensures { Gives (λ maps. maps.items) result (maps_asked (name_in name.entry) source.now) }
 {
     match read_maps(alloc, source) {
         Ok(maps) => named(alloc, maps, name),

@@ -1,7 +1,5 @@
 -- What a call leaves to C: a buffer, a length and a status.
-use Rattle.std.specs.Prelude.{◌≡◌, ◌⊎◌, ℕ, ℤ, pos, Bool, true, false, List, [], ◌∷◌, ◌++◌, Option, Some, None, Result, take, drop, length}
-use Rattle.bms_source.specs.Told.{Told}
-use Rattle.bms_map.specs.Maps.{Sheet}
+use Rattle.std.specs.Prelude.{◌≡◌, ◌⊎◌, ℕ, ℤ, pos, Bool, true, false, List, [], ◌∷◌, ◌++◌, Option, Some, None, take, drop, length}
 use Rattle.bms_map.specs.declared.record.Control.{Control}
 use Rattle.cli_maps.specs.declared.asked.Form.{Form as MapForm}
 use Rattle.cli_maps.specs.declared.asked.Form.TheVariants as map_forms
@@ -9,9 +7,8 @@ use Rattle.term_binds.specs.declared.fields.Form.{Form}
 use Rattle.term_binds.specs.declared.fields.Form.TheVariants.{Hexadecimal, Text}
 use Rattle.term_commands.specs.declared.output.demo.Demos.{Demos}
 use Rattle.term_commands.specs.declared.output.demo.Demos.TheVariants.{Omitted, Printed as PrintedDemos}
-use Rattle.term_commands.specs.declared.fault.Fault.{Fault}
 use Rattle.term_commands.specs.declared.status.Status.{Status}
-use Rattle.term_commands.specs.Printed.{Printed, printed, printed_or_fault}
+use Rattle.term_commands.specs.Printed.{Printed, printed}
 use Rattle.term_commands.specs.Status.{code_of}
 use Rattle.term_pictures.specs.declared.drawing.Drawing.{Drawing}
 use Rattle.term_pictures.specs.declared.drawing.Drawing.TheVariants.{Json, Svg}
@@ -42,10 +39,6 @@ abbrev pub LeavesRecords : Asked → List ℕ → List ℕ → List ℕ → ℕ 
 LeavesRecords asked input old new needed status =
     ((text : List ℕ) × (ends : Status) × TellsRecords asked input text ends × IsTold (printed text ends) old new needed status)
     ⊎ IsRefused old new needed status
-
--- the same of what is printed for some reading of a source
-abbrev pub LeavesRead : (Result (List Sheet) Told → Result Printed Fault) → List ℕ → List ℕ → ℕ → ℤ → Type 0
-LeavesRead due old new needed status = (told : Result (List Sheet) Told) × Leaves (printed_or_fault (due told)) old new needed status
 
 -- ---- flags
 

@@ -7,10 +7,7 @@ ghost use Rattle.term_commands.specs.Held.{answer_seen};
 ghost use Rattle.term_commands.specs.Printed.{Printed, printed_or_fault};
 ghost use Rattle.term_traces.specs.declared.asked.Asked.{Asked};
 ghost use Rattle.term_traces.specs.Told.{TellsRecords};
-ghost use Rattle.bms_source.specs.Told.{Told as ATold};
-ghost use Rattle.bms_map.specs.Maps.{Sheet};
-ghost use Rattle.cli_maps.specs.Printed.{GivesRead};
-ghost use Rattle.takvorn_c.specs.Left.{laid_over, IsTold, Leaves, LeavesRead, LeavesRecords};
+ghost use Rattle.takvorn_c.specs.Left.{laid_over, IsTold, Leaves, LeavesRecords};
 
 use std::alloc::{AllocError, Global};
 use term_commands::{Answer, CommandError, Status, printed};
@@ -76,17 +73,4 @@ pub fn leave_records(told: Result<Told, AllocError>, out: &mut [u8], needed: &mu
             Status::NoMemory.code()
         }
     }
-}
-
-/// The same of what is answered to some reading of a source.
-pub fn leave_read(
-    alloc: Global,
-    answer: Result<Answer, CommandError>,
-    out: &mut [u8],
-    needed: &mut usize,
-) -> u8
-    ensures { (due : Result (List Sheet) ATold → Result Printed Fault) → GivesRead due answer
-        → LeavesRead due out.old out.new needed.new (pos result) }
-{
-    leave(alloc, answer, out, needed)
 }

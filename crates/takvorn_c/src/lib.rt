@@ -16,8 +16,8 @@ ghost use Rattle.term_findings.specs.Report.{printed_report};
 ghost use Rattle.term_pictures.specs.Picture.{printed_picture};
 ghost use Rattle.term_pictures.specs.Pressed.{printed_pressed};
 ghost use Rattle.cli_maps.specs.Asked.{as_text, name_in};
-ghost use Rattle.cli_maps.specs.Printed.{check_source, map_source};
-ghost use Rattle.takvorn_c.specs.Left.{Leaves, LeavesRead, LeavesRecords, asked_of, control_of, demos_of, drawing_of, form_of, map_form_of, name_of};
+ghost use Rattle.cli_maps.specs.Printed.{printed_check_map, printed_map};
+ghost use Rattle.takvorn_c.specs.Left.{Leaves, LeavesRecords, asked_of, control_of, demos_of, drawing_of, form_of, map_form_of, name_of};
 
 mod left;
 
@@ -25,7 +25,7 @@ use bms_map::Control;
 use cli_maps::{
     Asked as MapsAsked, Form as MapForm, Report as MapReport, check_map_text, map_text,
 };
-use left::{leave, leave_read, leave_records};
+use left::{leave, leave_records};
 use std::alloc::Global;
 use term_binds::{Form, bind_texts};
 use term_commands::{
@@ -372,11 +372,11 @@ fn map_left(
     out: &mut [u8],
     needed: &mut usize,
 ) -> u8
-    ensures { LeavesRead (map_source form (name_in asked.entry.name) asked.entry.control source.now)
+    ensures { Leaves (printed_map form (name_in asked.entry.name) asked.entry.control source.now)
         out.old out.new needed.new (pos result) }
 {
     let answer = map_text(alloc, source, asked, form);
-    leave_read(alloc, answer, out, needed)
+    leave(alloc, answer, out, needed)
 }
 
 /// What `check --map` answers, and the status.
@@ -387,11 +387,11 @@ fn check_left(
     out: &mut [u8],
     needed: &mut usize,
 ) -> u8
-    ensures { LeavesRead (check_source as_text (name_in asked.entry.name) asked.entry.control
+    ensures { Leaves (printed_check_map as_text (name_in asked.entry.name) asked.entry.control
         source.now) out.old out.new needed.new (pos result) }
 {
     let answer = check_map_text(alloc, MapReport::Text, source, asked);
-    leave_read(alloc, answer, out, needed)
+    leave(alloc, answer, out, needed)
 }
 
 /// `map`: the records of BMS maps, or with `layout` the layout of one.
@@ -406,7 +406,7 @@ pub extern "C" fn takvorn_map(
     out: &mut [u8],
     needed: &mut usize,
 ) -> i32
-    ensures { LeavesRead (map_source (map_form_of layout) (name_of name.now)
+    ensures { Leaves (printed_map (map_form_of layout) (name_of name.now)
         (control_of freekb frset) source.now) out.old out.new needed.new result }
 {
     let form = map_form_of(layout);
@@ -431,7 +431,7 @@ pub extern "C" fn takvorn_check_map(
     out: &mut [u8],
     needed: &mut usize,
 ) -> i32
-    ensures { LeavesRead (check_source as_text (name_of name.now) (control_of freekb frset)
+    ensures { Leaves (printed_check_map as_text (name_of name.now) (control_of freekb frset)
         source.now) out.old out.new needed.new result }
 {
     i32::from(check_left(alloc, source, maps_asked(name, freekb, frset), out, needed))

@@ -1,4 +1,4 @@
-use Rattle.bms_map.proofs.FitLaws.{maps_are_fit}
+use Rattle.bms_map.proofs.MapsetLaws.{maps_are_fit}
 use Rattle.bms_map.proofs.laws.maps_are_fit.Goals as goal
 
 pub returns : goal.returns

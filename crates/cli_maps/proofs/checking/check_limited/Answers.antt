@@ -2,13 +2,13 @@ use Rattle.std.specs.Prelude.{ℕ, List}
 use Rattle.std.specs.Borrow.{Bor}
 use Rattle.term_commands.specs.Lines.{within_limit}
 use Rattle.cli_maps.specs.Asked.{name_in, report_seen}
+use Rattle.term_commands.specs.Held.{answer_seen}
 use Rattle.cli_maps.specs.Printed.{check_told}
-use Rattle.cli_maps.proofs.Read.{goes_read, stops_read}
+use Rattle.cli_maps.proofs.Read.{goes, stops}
 use Rattle.cli_maps.proofs.checking.check_limited.Goals as goal
 
 pub returns-in-Ok : goal.returns-in-Ok
-returns-in-Ok c =
-    goes_read (within_limit c.args.source.now) c.in-Ok.source.now (λ text told. check_told (report_seen c.args.report) (name_in c.args.asked.name) c.args.asked.control text told) c.check_within.result c.in-Ok.ensures.bytes c.check_within.ensures
+returns-in-Ok c = goes (within_limit c.args.source.now) c.in-Ok.source.now (check_told (report_seen c.args.report) (name_in c.args.asked.name) c.args.asked.control) c.check_within.result c.in-Ok.ensures.bytes c.check_within.ensures
 
 pub returns-in-Err : goal.returns-in-Err
-returns-in-Err c = stops_read (λ (t : Bor (List ℕ)). t.now) c.in-Err.error (within_limit c.args.source.now) (λ text told. check_told (report_seen c.args.report) (name_in c.args.asked.name) c.args.asked.control text told) c.in-Err.ensures.bytes
+returns-in-Err c = stops (λ (t : Bor (List ℕ)). t.now) answer_seen c.in-Err.error (within_limit c.args.source.now) (check_told (report_seen c.args.report) (name_in c.args.asked.name) c.args.asked.control) c.in-Err.ensures.bytes

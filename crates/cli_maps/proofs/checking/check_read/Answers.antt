@@ -1,15 +1,16 @@
 use Rattle.std.proofs.Common.{ℕ, List, subst}
 use Rattle.ds_codec.specs.Reading.{◌>>=◌}
-use Rattle.term_commands.specs.Lines.{within_limit}
+use Rattle.term_commands.specs.Fault.{Gives}
+use Rattle.term_commands.specs.Held.{answer_seen}
 use Rattle.cli_maps.specs.Asked.{name_in, report_seen}
-use Rattle.cli_maps.specs.Printed.{GivesRead, check_limited}
+use Rattle.cli_maps.specs.Printed.{check_limited, check_told}
 use Rattle.cli_maps.proofs.Read.{read_fails, read_on}
 use Rattle.cli_maps.proofs.checking.check_read.Goals as goal
 
 pub returns-in-Ok-clause-answer : goal.returns-in-Ok-clause-answer
 returns-in-Ok-clause-answer g c =
-    read_on (g.R.GivesBytes.remaining c.args.reader.now) (check_limited (report_seen c.args.report) (name_in c.args.asked.name) c.args.asked.control) c.in-Ok.source.items c.check_limited.result c.in-Ok.ensures.bytes
-    (subst (λ (t : List ℕ). GivesRead ((check_limited (report_seen c.args.report) (name_in c.args.asked.name) c.args.asked.control) (within_limit t)) c.check_limited.result) c.as_slice.ensures.value c.check_limited.ensures)
+    read_on (g.R.GivesBytes.remaining c.args.reader.now) (λ input. input >>= check_told (report_seen c.args.report) (name_in c.args.asked.name) c.args.asked.control) c.in-Ok.source.items c.check_limited.result c.in-Ok.ensures.bytes
+    (subst (λ (t : List ℕ). Gives answer_seen c.check_limited.result (check_limited (report_seen c.args.report) (name_in c.args.asked.name) c.args.asked.control t)) c.as_slice.ensures.value c.check_limited.ensures)
 
 pub returns-in-Err-clause-answer : goal.returns-in-Err-clause-answer
-returns-in-Err-clause-answer g c = read_fails (g.R.GivesBytes.remaining c.args.reader.now) (λ input. check_limited (report_seen c.args.report) (name_in c.args.asked.name) c.args.asked.control (within_limit input)) c.in-Err.error c.in-Err.ensures.failed
+returns-in-Err-clause-answer g c = read_fails (g.R.GivesBytes.remaining c.args.reader.now) (check_limited (report_seen c.args.report) (name_in c.args.asked.name) c.args.asked.control) c.in-Err.error c.in-Err.ensures.failed

@@ -1,14 +1,16 @@
 use Rattle.std.proofs.Common.{ℕ, List, subst}
 use Rattle.ds_codec.specs.Reading.{◌>>=◌}
+use Rattle.term_commands.specs.Fault.{Gives}
+use Rattle.term_commands.specs.Held.{answer_seen}
 use Rattle.cli_maps.specs.Asked.{name_in}
-use Rattle.cli_maps.specs.Printed.{GivesRead, map_source, map_told}
+use Rattle.cli_maps.specs.Printed.{map_source, map_told}
 use Rattle.cli_maps.proofs.Read.{read_fails, read_on}
 use Rattle.cli_maps.proofs.mapping.map_read.Goals as goal
 
 pub returns-in-Ok-clause-answer : goal.returns-in-Ok-clause-answer
 returns-in-Ok-clause-answer g c =
-    read_on (g.R.GivesBytes.remaining c.args.reader.now) (λ input told. input >>= λ text. map_told c.args.form (name_in c.args.asked.name) c.args.asked.control told) c.in-Ok.source.items c.map_text.result c.in-Ok.ensures.bytes
-    (subst (λ (t : List ℕ). GivesRead (map_source c.args.form (name_in c.args.asked.name) c.args.asked.control t) c.map_text.result) c.as_slice.ensures.value c.map_text.ensures)
+    read_on (g.R.GivesBytes.remaining c.args.reader.now) (λ input. input >>= map_told c.args.form (name_in c.args.asked.name) c.args.asked.control) c.in-Ok.source.items c.map_text.result c.in-Ok.ensures.bytes
+    (subst (λ (t : List ℕ). Gives answer_seen c.map_text.result (map_source c.args.form (name_in c.args.asked.name) c.args.asked.control t)) c.as_slice.ensures.value c.map_text.ensures)
 
 pub returns-in-Err-clause-answer : goal.returns-in-Err-clause-answer
-returns-in-Err-clause-answer g c = read_fails (g.R.GivesBytes.remaining c.args.reader.now) (λ input. map_source c.args.form (name_in c.args.asked.name) c.args.asked.control input) c.in-Err.error c.in-Err.ensures.failed
+returns-in-Err-clause-answer g c = read_fails (g.R.GivesBytes.remaining c.args.reader.now) (map_source c.args.form (name_in c.args.asked.name) c.args.asked.control) c.in-Err.error c.in-Err.ensures.failed
