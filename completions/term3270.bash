@@ -16,7 +16,7 @@ _term3270() {
     bind) COMPREPLY=($(compgen -W '--text --help' -- "$word") $(compgen -f -- "$word")) ;;
     records) COMPREPLY=($(compgen -W '--from --answers --help' -- "$word")) ;;
     serve) COMPREPLY=($(compgen -W '--port --count --listen --help' -- "$word") $(compgen -f -- "$word")) ;;
-    attach) COMPREPLY=($(compgen -W '--port --device --help' -- "$word") $(compgen -A hostname -- "$word") $(compgen -f -- "$word")) ;;
+    attach) COMPREPLY=($(compgen -W '--strokes --port --device --help' -- "$word") $(compgen -A hostname -- "$word") $(compgen -f -- "$word")) ;;
     map) COMPREPLY=($(compgen -W '--map --layout --freekb --frset --help' -- "$word") $(compgen -f -- "$word")) ;;
     help) COMPREPLY=($(compgen -W 'show check talk press convert draft bind records serve attach map' -- "$word")) ;;
   esac
