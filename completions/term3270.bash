@@ -59,7 +59,7 @@ _term3270_options() {
     bind) options='--text' ;;
     records) options='--from --answers' ;;
     serve) options='--port --count --listen' ;;
-    attach) options='--port --device' ;;
+    attach) options='--strokes --port --device' ;;
     map) options='--map --layout --freekb --frset' ;;
     help) return ;;
   esac

@@ -1,7 +1,7 @@
 #!/bin/sh
 # Runs each case, a folder tests/sessions/NAME, over loopback: `serve` with `layout.toml` and the records of `stdin`, at a port
 # that is free, for as many terminals as the file `terminals` has lines. They come one after the other:
-#   attach KEYS STATUS TEXT [--device NAME]   our own `attach` presses the keys of that file, and prints this text
+#   attach KEYS STATUS TEXT [--device NAME] [--strokes]   our own `attach` presses the keys of that file, and prints this text
 #   send HEX [HEX]    sends these bytes at once; what it gets up to the line's end is the second HEX, where that is there
 #   bytes HEX HEX     the same byte by byte
 #   close HEX HEX     sends these bytes, or none for a dash, and closes the line once it has got so many as the second HEX
@@ -90,8 +90,10 @@ come() { # NUMBER WORD FURTHER..: the terminal of this number
     shift 3
     text=$*
     words=
+    strokes=
+    case $text in *' --strokes') strokes=--strokes text=${text% --strokes} ;; esac
     case $text in *' --device '*) words=${text##* --device }; text=${text%% --device *} ;; esac
-    attach "$keys" ${words:+--device "$words"}
+    attach "$keys" $strokes ${words:+--device "$words"}
     ended=$?
     [ "$ended" = "$wanted" ] || say "attach ended with $ended, wanted $wanted"
     [ "$(cat "$work/report")" = "$text" ] || say "attach printed '$(cat "$work/report")', wanted '$text'"

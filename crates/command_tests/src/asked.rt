@@ -2,6 +2,7 @@
 
 use crate::lists::add;
 use ds_keys::{Key, key_of_line};
+use ds_strokes::{Stroke, stroke_of_line};
 use scr_layout::Layout;
 use test_words::Row;
 
@@ -18,6 +19,8 @@ pub(crate) struct Asked {
 #[derive(Drop)]
 pub(crate) enum End {
     Terminal(Vec<Key>),
+    /// A terminal whose operator strikes.
+    Operator(Vec<Stroke>),
     Host(Hosted),
 }
 
@@ -57,6 +60,17 @@ fn read_keys(row: &mut Row, words: &str) -> Vec<Key> {
     keys
 }
 
+/// Strokes that are parted by commas.
+fn read_strokes(row: &mut Row, words: &str) -> Vec<Stroke> {
+    let mut strokes = Vec::new(row.alloc());
+    for word in words.split(',') {
+        if let Some(stroke) = stroke_of_line(word) {
+            add(row, &mut strokes, stroke);
+        }
+    }
+    strokes
+}
+
 /// A layout of this size, with the input `code` at row 1, column 4, of length 3.
 fn read_layout(row: &mut Row, size: &str) -> Option<Layout> {
     let mut text = Row::new(row.alloc());
@@ -78,6 +92,7 @@ fn read_host(row: &mut Row, words: &str) -> Option<Hosted> {
 fn read_end(row: &mut Row, verb: &str, words: &str) -> Option<End> {
     match verb {
         "press" => Some(End::Terminal(read_keys(row, words))),
+        "strike" => Some(End::Operator(read_strokes(row, words))),
         "serve" => Some(End::Host(read_host(row, words)?)),
         _ => {
             row.spoil();
@@ -86,7 +101,8 @@ fn read_end(row: &mut Row, verb: &str, words: &str) -> Option<End> {
     }
 }
 
-/// The run of `press classic none type C2,enter` or `serve classic none 24x80 HEX,HEX`, over these pieces.
+/// The run of `press classic none type C2,enter`, of `strike classic none insert,enter`, or of `serve classic none 24x80 HEX,HEX`,
+/// over these pieces.
 pub(crate) fn read_asked(row: &mut Row, verb: &str, words: &str, pieces: &str) -> Option<Asked> {
     let (kind, words) = row.cut(words, " ");
     let (responses, words) = row.cut(words, " ");

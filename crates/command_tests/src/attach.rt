@@ -1,13 +1,12 @@
 //! Terminals that attach to a host in memory.
 
 use crate::commands::push_ran;
-use ds_keys::Key;
 use std::io;
 use std::io::{Read, Write};
-use term_commands::{Watched, read_keys};
+use term_commands::{Watched, read_keys, read_strokes};
 use term_sessions::{Output, attach_on};
 use test_words::Row;
-use tn_session::{Device, ScreenModel, Stop};
+use tn_session::{Device, Keystroke, ScreenModel, Stop};
 
 /// How a host's line ends a flush.
 #[derive(Clone, Copy)]
@@ -52,7 +51,7 @@ fn name_of(stop: Option<Stop>) -> &'static str {
     }
 }
 
-fn push_session(row: &mut Row, host: Host<'_>, keys: &[Key]) {
+fn push_session<K: Keystroke>(row: &mut Row, host: Host<'_>, keys: &[K]) {
     let device = Device {
         model: ScreenModel::Two,
         extended: false,
@@ -77,5 +76,19 @@ pub(crate) fn push_attached(row: &mut Row, sends: &str, keys: &[u8], flush: Flus
     let mut keys = keys;
     if let Some(named) = row.take(read_keys(row.alloc(), &mut keys)) {
         push_session(row, host, named.keys.as_slice());
+    }
+}
+
+/// The same of a terminal that strikes the file's strokes.
+pub(crate) fn push_striking(row: &mut Row, sends: &str, strokes: &[u8]) {
+    let bytes = row.read_bytes(sends);
+    let host = Host {
+        sends: bytes.as_slice(),
+        gets: Vec::new(row.alloc()),
+        flush: Flush::Done,
+    };
+    let mut strokes = strokes;
+    if let Some(named) = row.take(read_strokes(row.alloc(), &mut strokes)) {
+        push_session(row, host, named.strokes.as_slice());
     }
 }

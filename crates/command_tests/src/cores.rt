@@ -6,8 +6,8 @@ use scr_layout::Layout;
 use std::alloc::Global;
 use test_words::Row;
 use tn_session::{
-    Device, HostCore, Out, ScreenModel, SessionFault, TermCore, delivery_law, one_log, outcome_law,
-    pair_law, pieces_law, reply_law, work_law,
+    Device, HostCore, Out, ScreenModel, SessionFault, TermCore, delivery_law, key_law, one_log,
+    outcome_law, pair_law, pieces_law, reply_law, work_law,
 };
 
 /// Which core events come to.
@@ -170,6 +170,7 @@ fn push_laws(row: &mut Row) {
     pair_law();
     delivery_law();
     reply_law();
+    key_law();
     one_log::<u8>();
     outcome_law();
     pieces_law::<u8>();

@@ -5,7 +5,8 @@
 //!
 //! `file TEXT` gives the layout or the keys of the lines below, or of `talk` the layouts, with `|` between two of them, and
 //! `many N TEXT` the same text so often as a file. `attach HEX` is a terminal that presses the file's keys on a host that
-//! sends these bytes, and `unflushed HEX` one whose line fails at each flush. `same FORM RECORDS` prints in a form, with the
+//! sends these bytes, `attach-striking HEX` one that strikes the file's strokes, and `unflushed HEX` one whose line fails at each
+//! flush. `same FORM RECORDS` prints in a form, with the
 //! file as the layout, from streams and of texts, `next TEXT` reads lines, `told TEXT` prints what is told of the screen that
 //! records leave, and `all-findings`, `traced` and `lines` call what `check` reports with. A verb, a command and its input run
 //! this command, where `^` stands for the file. In texts `\n`, `\r` and `\xFF` are bytes; a line that is printed 32 times or
@@ -14,7 +15,8 @@
 //! `terminal classic responses HEX` and `host enhanced none HEX` say which core events come to below, each time a new one
 //! that first takes the events HEX. `event LABEL > HEX` prints what it answers to each event of HEX: the reply's bytes and
 //! what is told, or a dash. `name TEXT` prints the device of a name, `layout A B` what a host for these sizes says first, and
-//! `faults` every refusal. `press` runs a terminal with its keys over a line in memory, and `serve` a host with its records;
+//! `faults` every refusal. `press` runs a terminal with its keys over a line in memory, `strike` one with its strokes, and `serve`
+//! a host with its records; `insert-mode HEX` tells when a terminal that takes these bytes is in insert mode;
 //! after `paced` the line gives a piece only once what is due before it was written, and after `endless` it never ends.
 //! Each such run is told besides by pieces of several lengths to a session without a line. `both-ends` has both ends in one
 //! process, and `many-sessions N` so many of each, one after the other.
@@ -104,6 +106,7 @@ fn push_read(row: &mut Row, file: &[u8], verb: &str, words: &str) -> bool {
         "laws" => push_laws(row),
         "failures" => commands::push_failures(row),
         "attach" => attach::push_attached(row, words, file, Flush::Done),
+        "attach-striking" => attach::push_striking(row, words, file),
         "unflushed" => attach::push_attached(row, words, file, Flush::Failed),
         "same" => forms::push_form(row, file, words),
         "next" => lines::push_read(row, words),

@@ -2,14 +2,48 @@
 
 use crate::asked::{Asked, End, Hosted, push_piece};
 use crate::runs::{lent, push_outcome, push_report};
+use ds_codec::Aid;
 use ds_keys::Key;
 use ds_screen::Lock;
+use ds_strokes::Stroke;
 use std::alloc::{AllocError, Global};
 use test_words::Row;
 use tn_session::{
-    Device, HostSession, Progress, Report, RunEnd, RunFault, ScreenModel, SessionFault,
+    Device, HostSession, Pressed, Progress, Report, RunEnd, RunFault, ScreenModel, SessionFault,
     TerminalSession,
 };
+
+/// What is done at a terminal's session.
+trait Act {
+    fn act(
+        &self,
+        alloc: Global,
+        session: &mut TerminalSession,
+        due: &mut Vec<u8>,
+    ) -> Result<Pressed, RunFault>;
+}
+
+impl Act for Key {
+    fn act(
+        &self,
+        alloc: Global,
+        session: &mut TerminalSession,
+        due: &mut Vec<u8>,
+    ) -> Result<Pressed, RunFault> {
+        session.press(alloc, *self, due)
+    }
+}
+
+impl Act for Stroke {
+    fn act(
+        &self,
+        alloc: Global,
+        session: &mut TerminalSession,
+        due: &mut Vec<u8>,
+    ) -> Result<Pressed, RunFault> {
+        session.strike(alloc, *self, due)
+    }
+}
 
 /// What a session gave, and what it told at its end; and whether it told its fault again, and took and gave nothing then.
 #[derive(Drop)]
@@ -115,7 +149,7 @@ fn terminal_told(session: &mut TerminalSession, given: &mut Given, end: RunEnd) 
     push_report(&mut given.told, &report);
 }
 
-/// Whether a terminal's session that failed answers its fault again to bytes and to a key, and gives nothing more.
+/// Whether a terminal's session that failed answers its fault again to bytes, to a key and to a stroke, and gives nothing more.
 fn terminal_stays(
     alloc: Global,
     session: &mut TerminalSession,
@@ -125,17 +159,19 @@ fn terminal_stays(
     let before = given.written.len();
     let again = session.take(alloc, &[0xff, 0xef], &mut given.written);
     let pressed = session.press(alloc, Key::Home, &mut given.written);
+    let struck = session.strike(alloc, Stroke::Insert, &mut given.written);
     again == Err(fault)
         && pressed == Err(fault)
+        && struck == Err(fault)
         && given.written.len() == before
         && !session.is_ready()
 }
 
-/// Presses the keys that are left, until the keyboard waits: how many are pressed then.
-fn press_keys(
+/// Presses the keys that are left, or strikes, until the keyboard waits: how many are pressed then.
+fn press_keys<A: Act>(
     alloc: Global,
     session: &mut TerminalSession,
-    keys: &[Key],
+    keys: &[A],
     pressed: usize,
     given: &mut Given,
 ) -> usize {
@@ -144,7 +180,7 @@ fn press_keys(
         if session.screen().lock() == Lock::Waiting {
             return count;
         }
-        if session.press(alloc, *key, &mut given.written).is_err() {
+        if key.act(alloc, session, &mut given.written).is_err() {
             given.told.spoil();
         }
         count = count.saturating_add(1);
@@ -152,7 +188,7 @@ fn press_keys(
     count
 }
 
-fn feed_terminal(alloc: Global, asked: &Asked, keys: &[Key], pieces: &[Vec<u8>]) -> Given {
+fn feed_terminal<A: Act>(alloc: Global, asked: &Asked, keys: &[A], pieces: &[Vec<u8>]) -> Given {
     let device = Device {
         model: ScreenModel::Two,
         extended: false,
@@ -193,6 +229,58 @@ pub(crate) fn feed(row: &mut Row, asked: &Asked, bytes: &[u8], most: usize) -> G
             keys.as_slice(),
             pieces.as_slice(),
         ),
+        End::Operator(strokes) => feed_terminal(
+            row.alloc(),
+            asked,
+            strokes.as_slice(),
+            pieces.as_slice(),
+        ),
         End::Host(host) => feed_host(row.alloc(), asked, host, pieces.as_slice()),
     }
+}
+
+/// Adds what becomes of a key or a stroke, and whether insert mode is on then.
+fn push_act<A: Act>(row: &mut Row, session: &mut TerminalSession, due: &mut Vec<u8>, act: &A) {
+    match act.act(row.alloc(), session, due) {
+        Ok(pressed) => {
+            row.word(match pressed {
+                Pressed::Done => "done ",
+                Pressed::Inhibited => "inhibited ",
+                Pressed::Ignored => "ignored ",
+                Pressed::Sent => "sent ",
+            });
+            row.word(if session.inserts() { "on " } else { "off " });
+        }
+        Err(_) => row.spoil(),
+    }
+}
+
+/// A terminal that is struck before its session is ready, and is pressed and struck once it has taken the bytes: what became of
+/// each key and stroke, whether insert mode was on then, and what it gave.
+pub(crate) fn push_insert_mode(row: &mut Row, words: &str) {
+    let device = Device {
+        model: ScreenModel::Two,
+        extended: false,
+    };
+    let bytes = row.read_bytes(words);
+    let mut due = Vec::new(row.alloc());
+    let made = TerminalSession::new(row.alloc(), device, false, false);
+    let Some(mut session) = row.take(made) else {
+        return;
+    };
+    push_act(row, &mut session, &mut due, &Stroke::Insert);
+    let taken = session.take(row.alloc(), bytes.as_slice(), &mut due);
+    row.word_if(taken.is_err(), "fault ");
+    push_act(row, &mut session, &mut due, &Stroke::Insert);
+    push_act(row, &mut session, &mut due, &Key::Typed(0xe8));
+    push_act(row, &mut session, &mut due, &Stroke::Key(Key::Typed(0xe7)));
+    push_act(row, &mut session, &mut due, &Stroke::Key(Key::Reset));
+    push_act(row, &mut session, &mut due, &Stroke::Insert);
+    push_act(
+        row,
+        &mut session,
+        &mut due,
+        &Stroke::Key(Key::Attention(Aid::enter())),
+    );
+    row.bytes(due.as_slice());
 }

@@ -4,13 +4,12 @@
 use crate::asked::{Asked, End, Hosted, push_piece, read_asked, read_pieces};
 use crate::both_ends::{push_both, push_many};
 use crate::lists::add;
-use crate::objects::feed;
+use crate::objects::{feed, push_insert_mode};
 use crate::scripted::{Giving, Script, script_of};
-use ds_keys::Key;
 use std::alloc::Global;
 use test_words::Row;
 use tn_session::{
-    Device, HostOutcome, Report, RunEnd, ScreenModel, Stop, Wire, host_run, terminal_run,
+    Device, HostOutcome, Keystroke, Report, RunEnd, ScreenModel, Stop, Wire, host_run, terminal_run,
 };
 
 /// A run: the report, the outcome or the fault, why the line stopped, and the line.
@@ -67,7 +66,7 @@ pub(crate) fn push_outcome(row: &mut Row, outcome: &HostOutcome) {
     }
 }
 
-fn run_terminal(alloc: Global, asked: &Asked, keys: &[Key], line: Script) -> Ran {
+fn run_terminal<K: Keystroke>(alloc: Global, asked: &Asked, keys: &[K], line: Script) -> Ran {
     let device = Device {
         model: ScreenModel::Two,
         extended: false,
@@ -126,6 +125,7 @@ fn run_host(alloc: Global, asked: &Asked, host: &Hosted, line: Script) -> Ran {
 fn run(alloc: Global, asked: &Asked, line: Script) -> Ran {
     match &asked.end {
         End::Terminal(keys) => run_terminal(alloc, asked, keys.as_slice(), line),
+        End::Operator(strokes) => run_terminal(alloc, asked, strokes.as_slice(), line),
         End::Host(host) => run_host(alloc, asked, host, line),
     }
 }
@@ -318,6 +318,8 @@ fn push_endless(row: &mut Row, words: &str) {
 pub(crate) fn push_answer(row: &mut Row, verb: &str, words: &str) -> bool {
     match verb {
         "press" => push_whole(row, verb, words),
+        "strike" => push_whole(row, verb, words),
+        "insert-mode" => push_insert_mode(row, words),
         "serve" => push_whole(row, verb, words),
         "paced" => push_paced(row, words),
         "endless" => push_endless(row, words),

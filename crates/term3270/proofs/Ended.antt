@@ -1,7 +1,6 @@
 -- Commands that end at a fault of their inputs, at a read that failed, or for want of memory.
 use Rattle.std.proofs.Common.{◌≡◌, ◌⊎◌, inl, inr, ℕ, List, [], Option, Some, None, Result, Ok, Err, refl, sym, subst}
 use Rattle.std.specs.Prelude.{IfSome}
-use Rattle.ds_keys.specs.declared.key.Key.{Key}
 use Rattle.term_commands.specs.declared.fault.Fault.{Fault}
 use Rattle.term_commands.specs.declared.fault.CommandError.{CommandError}
 use Rattle.term_commands.specs.declared.fault.CommandError.TheVariants.{Fault as Told, ReadFailed, OutOfMemory}
@@ -11,6 +10,7 @@ use Rattle.term_commands.specs.Fault.{GivesOrFails, fault_line}
 use Rattle.term_commands.specs.Printed.{Printed, printed}
 use Rattle.term_commands.specs.Streams.{AppendsFront, Finishes, IsStopped, IsWantOrFailure, IsWritten, Prints}
 use Rattle.tn_cores.specs.declared.device.Device.{Device}
+use Rattle.tn_session.specs.Strikes.{Strike}
 use Rattle.term_sessions.specs.Prepare.{Prepared, ready, stops}
 use Rattle.term_sessions.specs.Printing.{Printing}
 use Rattle.term_sessions.proofs.Serving.{appends_none}
@@ -54,11 +54,12 @@ serve_ends view count old new status OutOfMemory (Err fault) gives ends = wantin
 serve_ends view count old new status OutOfMemory (Ok (stops answer)) gives ends = wanting_prints old.written new.written status answer ends
 serve_ends view count old new status OutOfMemory (Ok (ready layout records)) gives ends = inr (wanting_fails old new status ends)
 
-pub attach_ends : {H : Type 0} (view : H → List Key) (device : Device) (old new : Printing) (status : Status) (error : CommandError) (due : Result (List Key) Fault)
-    → GivesOrFails view (Err error) due → Finishes old.written new.written (Err error) status → AttachesNamed device old new status due
-attach_ends view device old new status (Told fault) due gives ends =
-    subst (AttachesNamed device old new status) (sym gives) (told_prints old.written new.written status (fault_line fault) ends)
-attach_ends view device old new status ReadFailed (Err fault) gives ends = failed_prints old.written new.written status (printed (fault_line fault) BadInput) ends
-attach_ends view device old new status ReadFailed (Ok keys) gives ends = inr (failed_fails old new status ends)
-attach_ends view device old new status OutOfMemory (Err fault) gives ends = wanting_prints old.written new.written status (printed (fault_line fault) BadInput) ends
-attach_ends view device old new status OutOfMemory (Ok keys) gives ends = inr (wanting_fails old new status ends)
+pub attach_ends : {H K : Type 0} (view : H → List K) (strike : K → Strike) (device : Device) (old new : Printing) (status : Status) (error : CommandError)
+    (due : Result (List K) Fault)
+    → GivesOrFails view (Err error) due → Finishes old.written new.written (Err error) status → AttachesNamed strike device old new status due
+attach_ends view strike device old new status (Told fault) due gives ends =
+    subst (AttachesNamed strike device old new status) (sym gives) (told_prints old.written new.written status (fault_line fault) ends)
+attach_ends view strike device old new status ReadFailed (Err fault) gives ends = failed_prints old.written new.written status (printed (fault_line fault) BadInput) ends
+attach_ends view strike device old new status ReadFailed (Ok keys) gives ends = inr (failed_fails old new status ends)
+attach_ends view strike device old new status OutOfMemory (Err fault) gives ends = wanting_prints old.written new.written status (printed (fault_line fault) BadInput) ends
+attach_ends view strike device old new status OutOfMemory (Ok keys) gives ends = inr (wanting_fails old new status ends)

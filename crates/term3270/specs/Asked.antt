@@ -14,6 +14,8 @@ use Rattle.term_commands.specs.declared.output.demo.Demos.{Demos}
 use Rattle.term_commands.specs.declared.output.demo.Demos.TheVariants.{Printed, Omitted}
 use Rattle.term3270.specs.declared.asked.When.{When}
 use Rattle.term3270.specs.declared.asked.When.TheVariants.{Auto, Always, Never}
+use Rattle.term3270.specs.declared.asked.KeyLines.{KeyLines}
+use Rattle.term3270.specs.declared.asked.KeyLines.TheVariants as key_lines
 use Rattle.term3270.specs.declared.asked.ReportForm.{ReportForm}
 use Rattle.term3270.specs.declared.asked.ReportForm.TheVariants.{Json, Sarif}
 use Rattle.term3270.specs.declared.asked.Asked.{Asked}
@@ -192,9 +194,14 @@ IsServe rows (Serve layout address port count) =
     IsText (codes "LAYOUT") rows layout × IsText (codes "listen") rows address × IsNumber (codes "port") rows port × IsNumber (codes "count") rows count
 IsServe rows _ = ⊥
 
+abbrev pub AreKeyLines : List Row → KeyLines → Type 0
+AreKeyLines rows key_lines.Strokes = IsOption (codes "strokes") rows true
+AreKeyLines rows key_lines.Keys = IsOption (codes "strokes") rows false
+
 abbrev pub IsAttach : List Row → Asked → Type 0
-IsAttach rows (Attach host keys port device) =
-    IsText (codes "HOST") rows host × IsText (codes "KEYS") rows keys × IsNumber (codes "port") rows port × IsText (codes "device") rows device
+IsAttach rows (Attach host keys lines port device) =
+    IsText (codes "HOST") rows host × IsText (codes "KEYS") rows keys × AreKeyLines rows lines × IsNumber (codes "port") rows port
+    × IsText (codes "device") rows device
 IsAttach rows _ = ⊥
 
 -- the command that is named, with its paths, places and options; the default command is show

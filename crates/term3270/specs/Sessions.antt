@@ -1,25 +1,29 @@
 -- What `serve` and `attach` print from their inputs on, whatever the net does.
-use Rattle.std.specs.Prelude.{◌≡◌, ◌⊎◌, ℕ, List, None, Result, Ok, Err}
-use Rattle.ds_keys.specs.declared.key.Key.{Key}
+use Rattle.std.specs.Prelude.{◌≡◌, ◌⊎◌, ℕ, List, map, None, Result, Ok, Err}
 use Rattle.term_commands.specs.declared.fault.Fault.{Fault}
 use Rattle.term_commands.specs.declared.status.Status.{Status}
 use Rattle.term_commands.specs.declared.status.Status.TheVariants.{BadInput}
 use Rattle.term_commands.specs.Fault.{fault_line}
+use Rattle.term_commands.specs.Keys.{keys_in}
 use Rattle.term_commands.specs.Printed.{printed}
 use Rattle.term_commands.specs.Streams.{IsWantOrFailure, Prints}
+use Rattle.term_commands.specs.Strokes.{strokes_in}
 use Rattle.tn_cores.specs.declared.device.Device.{Device}
+use Rattle.tn_session.specs.Strikes.{Strike, by_key, by_stroke}
 use Rattle.tn_session.specs.Wire.{WireState, fresh}
 use Rattle.term_sessions.specs.Attach.{Attaches}
 use Rattle.term_sessions.specs.Prepare.{Prepared, ready, stops}
 use Rattle.term_sessions.specs.Printing.{Printing}
 use Rattle.term_sessions.specs.Serve.{ServesAnew}
+use Rattle.term3270.specs.declared.asked.KeyLines.{KeyLines}
+use Rattle.term3270.specs.declared.asked.KeyLines.TheVariants.{Keys, Strokes}
 
 -- nothing was written, and the status is that of a failure
 abbrev pub HasFailed : Printing → Printing → Status → Type 0
 HasFailed old new status = IsWantOrFailure status × (new.written ≡ old.written)
 
 -- a session over a socket, from its beginning
-abbrev pub AttachesSocket : Device → List Key → Printing → Printing → Status → Type 0
+abbrev pub AttachesSocket : Device → List Strike → Printing → Printing → Status → Type 0
 AttachesSocket device keys old new status = (ended : WireState) × Attaches device keys (fresh None None) ended old new status
 
 -- the first fault of the inputs, or what stands against the screen; else its terminals, unless the port can't be bound
@@ -29,6 +33,11 @@ ServesPrepared count old new status (Ok (stops answer)) = Prints old.written new
 ServesPrepared count old new status (Ok (ready layout records)) = ServesAnew layout records count old new status ⊎ HasFailed old new status
 
 -- the first fault of the keys; else the session, unless the host can't be reached
-abbrev pub AttachesNamed : Device → Printing → Printing → Status → Result (List Key) Fault → Type 0
-AttachesNamed device old new status (Err fault) = Prints old.written new.written status (printed (fault_line fault) BadInput)
-AttachesNamed device old new status (Ok keys) = AttachesSocket device keys old new status ⊎ HasFailed old new status
+abbrev pub AttachesNamed : {K : Type 0} → (K → Strike) → Device → Printing → Printing → Status → Result (List K) Fault → Type 0
+AttachesNamed strike device old new status (Err fault) = Prints old.written new.written status (printed (fault_line fault) BadInput)
+AttachesNamed strike device old new status (Ok keys) = AttachesSocket device (map strike keys) old new status ⊎ HasFailed old new status
+
+-- the keys of lines are pressed, or their strokes struck
+abbrev pub AttachesLines : KeyLines → Device → Printing → Printing → Status → List ℕ → Type 0
+AttachesLines Keys device old new status lines = AttachesNamed by_key device old new status (keys_in lines)
+AttachesLines Strokes device old new status lines = AttachesNamed by_stroke device old new status (strokes_in lines)

@@ -2,7 +2,7 @@
 
 ghost use Rattle.std.specs.Prelude.{◌≡◌, is_some, option_map};
 ghost use Rattle.clap.specs.Words.{first_of, found_of, rows_of, subcommand_rows_of};
-ghost use Rattle.term3270.specs.Asked.{AreDemos, AsksFor, IsCheck, IsDrawn, IsForm, IsConvert, IsNumber, IsOption, IsPath, IsPen, IsPress, IsShow, IsDraft, IsDraftedMap, IsRendering, IsShownMap, IsReportForm, IsSide, IsSource, IsText, IsWhen, IsWithLayout, IsMap, IsMapForm, IsMapCheck, IsLayoutCheck, AreControls};
+ghost use Rattle.term3270.specs.Asked.{AreDemos, AreKeyLines, AsksFor, IsCheck, IsDrawn, IsForm, IsConvert, IsNumber, IsOption, IsPath, IsPen, IsPress, IsShow, IsDraft, IsDraftedMap, IsRendering, IsShownMap, IsReportForm, IsSide, IsSource, IsText, IsWhen, IsWithLayout, IsMap, IsMapForm, IsMapCheck, IsLayoutCheck, AreControls};
 
 use bms_map::Control;
 use clap::ArgMatches;
@@ -28,6 +28,14 @@ pub(crate) enum When {
 pub(crate) enum ReportForm {
     Json,
     Sarif,
+}
+
+/// Which lines name what an operator does.
+#[derive(Clone, Copy)]
+pub(crate) enum KeyLines {
+    Keys,
+    /// Those, and the lines of insert mode, duplicate and field mark.
+    Strokes,
 }
 
 /// A command, with the files, the options and the place on the net that it was given.
@@ -84,6 +92,7 @@ pub(crate) enum Asked<'a> {
     Attach {
         host: &'a str,
         keys: &'a str,
+        lines: KeyLines,
         port: u16,
         device: &'a str,
     },
@@ -160,6 +169,7 @@ fn command_of<'a>(name: &str, words: &ArgMatches<'a>) -> Asked<'a>
         "attach" => Asked::Attach {
             host: text_in(words, "HOST"),
             keys: text_in(words, "KEYS"),
+            lines: key_lines_in(words),
             port: number_in(words, "port"),
             device: text_in(words, "device"),
         },
@@ -388,6 +398,16 @@ fn pen_in(words: &ArgMatches<'_>) -> Pen
         Pen::Asked
     } else {
         Pen::Ignored
+    }
+}
+
+fn key_lines_in(words: &ArgMatches<'_>) -> KeyLines
+    ensures { AreKeyLines (rows_of (found_of words.now)) result }
+{
+    if is_given(words, "strokes") {
+        KeyLines::Strokes
+    } else {
+        KeyLines::Keys
     }
 }
 

@@ -203,7 +203,8 @@ Statuses:
   or a write failed, 4 out of memory";
 
 const ATTACH: &str = "Input:
-  Keys are a file, one a line, as for press. They are pressed as soon as the keyboard is free.
+  Keys are a file, one a line, as for press, with --strokes those of press --strokes. They are pressed as soon
+  as the keyboard is free.
 
 Output:
   'answers A passed B refused C end E': what the terminal sent, the records that it ignored and refused, and
@@ -533,6 +534,11 @@ const OTHERS: &[Described<'_>] = &[
                 name: "KEYS",
                 takes: Takes::Operand,
                 help: KEYS_HELP,
+            },
+            Argument {
+                name: "strokes",
+                takes: Takes::Nothing,
+                help: "Take the lines 'insert', 'dup' and 'fieldmark' too",
             },
             Argument {
                 name: "port",

@@ -1,6 +1,6 @@
 //! Each command on the standard streams, and on the files that it was given.
 
-use crate::asked::{ReportForm, When};
+use crate::asked::{KeyLines, ReportForm, When};
 use crate::file::FileAt;
 use crate::sessions::{run_attach, run_serve};
 use crate::stream::Named;
@@ -160,10 +160,23 @@ pub(crate) fn serve(rt: &HostRuntime, layout: &str, place: Place<'_>, count: u16
     )
 }
 
-/// `attach`, with the keys of a file.
-pub(crate) fn attach(rt: &HostRuntime, place: Place<'_>, keys: &str, device: &str) -> Status {
+/// `attach`, with the keys or strokes of a file.
+pub(crate) fn attach(
+    rt: &HostRuntime,
+    place: Place<'_>,
+    keys: &str,
+    lines: KeyLines,
+    device: &str,
+) -> Status {
     let mut keys = file_at(rt, keys);
-    run_attach(rt, place, &mut keys, device, &mut Output::new(output(rt)))
+    run_attach(
+        rt,
+        place,
+        &mut keys,
+        lines,
+        device,
+        &mut Output::new(output(rt)),
+    )
 }
 
 /// Runs `check` on a layout's file and these records.

@@ -67,9 +67,10 @@ fn run(rt: &HostRuntime, asked: Asked<'_>, matches: &ArgMatches<'_>) -> Status {
         Asked::Attach {
             host,
             keys,
+            lines,
             port,
             device,
-        } => commands::attach(rt, Place { host, port }, keys, device),
+        } => commands::attach(rt, Place { host, port }, keys, lines, device),
         Asked::Map {
             source,
             name,

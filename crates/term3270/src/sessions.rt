@@ -1,20 +1,22 @@
 //! The commands `serve` and `attach`, from their inputs to the net.
 
-ghost use Rattle.std.specs.Prelude.{◌≡◌, ◌⊎◌, IfSome, None, Some};
+ghost use Rattle.std.specs.Prelude.{◌≡◌, ◌⊎◌, map, IfSome, None, Some};
 ghost use Rattle.tn_cores.specs.declared.device.Device.{Device};
 ghost use Rattle.term_commands.specs.declared.status.Status.TheVariants.{BadInput};
 ghost use Rattle.term_commands.specs.Held.{records_held};
 ghost use Rattle.term_commands.specs.Keys.{keys_in};
+ghost use Rattle.term_commands.specs.Strokes.{strokes_in};
 ghost use Rattle.tn_cores.specs.Devices.{device_of};
+ghost use Rattle.tn_session.specs.Strikes.{by_key, by_stroke};
 ghost use Rattle.term_sessions.specs.Prepare.{prepare};
 ghost use Rattle.term_sessions.specs.Serve.{ServesAnew};
-ghost use Rattle.term3270.specs.Sessions.{AttachesNamed, AttachesSocket, HasFailed, ServesPrepared};
+ghost use Rattle.term3270.specs.Sessions.{AttachesLines, AttachesNamed, AttachesSocket, HasFailed, ServesPrepared};
 
+use crate::asked::KeyLines;
 use crate::tcp::{Listening, Place, TcpLine};
-use ds_keys::Key;
-use term_commands::{GivesBytes, Status, TakesBytes, finish, read_keys};
+use term_commands::{GivesBytes, Status, TakesBytes, finish, read_keys, read_strokes};
 use term_sessions::{Output, Prepared, Screen, Visits, attach_on, prepare_serve, serve_on};
-use tn_session::Device;
+use tn_session::{Device, Keystroke};
 
 /// Serves a layout's screen at a place to so many terminals. The port is bound once the screen is found fit.
 pub(crate) fn run_serve<L: GivesBytes, R: GivesBytes, W: TakesBytes>(
@@ -55,39 +57,72 @@ fn serve_at<W: TakesBytes>(
     }
 }
 
-/// Attaches a terminal of the device of this name to the host at a place, and presses keys. The keys are read once the device
-/// is known, and the host is called once the keys are good.
+/// Attaches a terminal of the device of this name to the host at a place, and presses keys, or strikes. These are read once the
+/// device is known, and the host is called once they are good.
 pub(crate) fn run_attach<K: GivesBytes, W: TakesBytes>(
     rt: &HostRuntime,
     place: Place<'_>,
     keys: &mut K,
+    lines: KeyLines,
     device: &str,
     output: &mut Output<W>,
 ) -> Status
     ensures unknown { device_of device.now ≡ None
         → (result ≡ BadInput) × (keys.new ≡ keys.old) × (output.new ≡ output.old) }
     ensures attaches { (known : Device) → device_of device.now ≡ Some known
-        → IfSome (K.remaining keys.old) (λ lines. AttachesNamed known output.old
-        output.new result (keys_in lines)) }
+        → IfSome (K.remaining keys.old) (λ text. AttachesLines lines known output.old
+        output.new result text) }
 {
     let Some(device) = Device::from_name(device.as_bytes()) else {
         let _ = eprintln!(rt; "unknown device");
         return Status::BadInput;
     };
+    match lines {
+        KeyLines::Keys => attach_with_keys(rt, place, keys, device, output),
+        KeyLines::Strokes => attach_with_strokes(rt, place, keys, device, output),
+    }
+}
+
+fn attach_with_keys<K: GivesBytes, W: TakesBytes>(
+    rt: &HostRuntime,
+    place: Place<'_>,
+    keys: &mut K,
+    device: Device,
+    output: &mut Output<W>,
+) -> Status
+    ensures { IfSome (K.remaining keys.old) (λ lines.
+        AttachesNamed by_key device output.old output.new result (keys_in lines)) }
+{
     match read_keys(rt.alloc(), keys) {
         Ok(named) => attach_at(rt, place, device, named.keys.as_slice(), output),
         Err(error) => finish(rt.alloc(), output, Err(error)),
     }
 }
 
-fn attach_at<W: TakesBytes>(
+fn attach_with_strokes<K: GivesBytes, W: TakesBytes>(
+    rt: &HostRuntime,
+    place: Place<'_>,
+    strokes: &mut K,
+    device: Device,
+    output: &mut Output<W>,
+) -> Status
+    ensures { IfSome (K.remaining strokes.old) (λ lines.
+        AttachesNamed by_stroke device output.old output.new result (strokes_in lines)) }
+{
+    match read_strokes(rt.alloc(), strokes) {
+        Ok(named) => attach_at(rt, place, device, named.strokes.as_slice(), output),
+        Err(error) => finish(rt.alloc(), output, Err(error)),
+    }
+}
+
+fn attach_at<K: Keystroke, W: TakesBytes>(
     rt: &HostRuntime,
     place: Place<'_>,
     device: Device,
-    keys: &[Key],
+    keys: &[K],
     output: &mut Output<W>,
 ) -> Status
-    ensures { AttachesSocket device keys.now output.old output.new result
+    ensures { AttachesSocket device (map K.strike keys.now) output.old output.new result
         ⊎ HasFailed output.old output.new result }
 {
     match TcpLine::to(rt, place) {

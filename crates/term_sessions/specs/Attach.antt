@@ -1,7 +1,6 @@
 -- What `attach` prints of its session, and its status.
 use Rattle.std.specs.Prelude.{ℕ, ◌≡◌, ◌⊎◌, true, false, List, ◌++◌, codes, Result, Ok, Err}
 use Rattle.std.specs.Fmt.{decimal}
-use Rattle.ds_keys.specs.declared.key.Key.{Key}
 use Rattle.term_commands.specs.declared.status.Status.{Status}
 use Rattle.term_commands.specs.declared.status.Status.TheVariants.{Done, Failed, NoMemory}
 use Rattle.term_commands.specs.Printed.{Printed, printed}
@@ -11,6 +10,7 @@ use Rattle.tn_session.specs.declared.fault.RunFault.TheVariants.{OutOfMemory}
 use Rattle.tn_session.specs.declared.report.Report.{Report}
 use Rattle.tn_session.specs.declared.report.RunEnd.{RunEnd}
 use Rattle.tn_session.specs.declared.report.RunEnd.TheVariants.{KeysUsed, Closed}
+use Rattle.tn_session.specs.Strikes.{Strike}
 use Rattle.tn_session.specs.TerminalRuns.{TerminalRan}
 use Rattle.tn_session.specs.Wire.{FreshLine, WireState, begun}
 use Rattle.term_sessions.specs.FaultNumber.{fault_number}
@@ -36,7 +36,7 @@ printed_attach (Err why) = printed (fault_line why) Failed
 
 -- A terminal's run over this wire, with TN3270E and RESPONSES where the host asks for them, gave this, and left the wire so:
 -- it is still that of the line which it was made of.
-pub record IsAttached (device : Device) (keys : List Key) (old : WireState) (session : Result Report RunFault) (new : WireState) : Type 0 where
+pub record IsAttached (device : Device) (keys : List Strike) (old : WireState) (session : Result Report RunFault) (new : WireState) : Type 0 where
   pub middle : WireState
   pub ran : Result Report RunFault
   pub terminal : TerminalRan device true true keys old ran middle
@@ -55,7 +55,7 @@ Reports (Err OutOfMemory) old new status = (status ≡ NoMemory) × (new ≡ old
 Reports session old new status = IsReported (printed_attach session) old new status
 
 -- what was printed is the session's, which was over a wire of this line
-pub record Attaches (device : Device) (keys : List Key) (line : FreshLine) (wire : WireState) (old new : Printing) (status : Status) : Type 0 where
+pub record Attaches (device : Device) (keys : List Strike) (line : FreshLine) (wire : WireState) (old new : Printing) (status : Status) : Type 0 where
   pub session : Result Report RunFault
   pub attached : IsAttached device keys (begun line) session wire
   pub reports : Reports session old new status

@@ -1,6 +1,6 @@
 //! The command `attach`, once it is connected.
 
-ghost use Rattle.std.specs.Prelude.{◌≡◌, ◌++◌, IfOk, OnOk};
+ghost use Rattle.std.specs.Prelude.{◌≡◌, ◌++◌, map, IfOk, OnOk};
 ghost use Rattle.std.specs.String.{string_bytes};
 ghost use Rattle.term_commands.specs.Held.{answer_seen};
 ghost use Rattle.tn_session.specs.Wire.{fresh};
@@ -10,21 +10,20 @@ ghost use Rattle.term_sessions.specs.Attach.{end_word, report_line, fault_line, 
 use crate::fault::fault_number;
 use crate::output::Output;
 use crate::session::flushed;
-use ds_keys::Key;
 use std::alloc::{AllocError, Global};
 use std::io::{Read, Write};
 use term_commands::{Answer, Status, TakesBytes};
-use tn_session::{Device, Report, RunEnd, RunFault, Wire, terminal_run};
+use tn_session::{Device, Keystroke, Report, RunEnd, RunFault, Wire, terminal_run};
 
 /// A terminal's session over a wire: TN3270E with RESPONSES where the host asks for it, else classic TN3270.
-fn terminal_session<L: Read + Write>(
+fn terminal_session<L: Read + Write, K: Keystroke>(
     alloc: Global,
     wire: &mut Wire<L>,
     device: Device,
-    keys: &[Key],
+    keys: &[K],
 ) -> Result<Report, RunFault>
     requires { CanRun wire.old }
-    ensures { IsAttached device keys.now wire.old result wire.new }
+    ensures { IsAttached device (map K.strike keys.now) wire.old result wire.new }
 {
     let ran = terminal_run(alloc, wire, device, true, true, keys);
     flushed(wire, ran)
@@ -107,18 +106,18 @@ fn print_session<W: TakesBytes>(
 }
 
 /// Runs a terminal of this device over a line to a host, with TN3270E and RESPONSES where the host asks for them, and presses
-/// the keys; prints `answers A passed B refused C end E`, where E is `keys` or `closed`, or `fault` and the fault's number.
-/// The status is `Done`, or `Failed` where the session or a write failed, or `NoMemory` where memory was refused. With it
-/// comes the wire that was made of the line, by which a caller sees what passed and why the line stopped.
-pub fn attach_on<L: Read + Write, W: TakesBytes>(
+/// the keys, or strikes the strokes; prints `answers A passed B refused C end E`, where E is `keys` or `closed`, or `fault` and
+/// the fault's number. The status is `Done`, or `Failed` where the session or a write failed, or `NoMemory` where memory was
+/// refused. With it comes the wire that was made of the line, by which a caller sees what passed and why the line stopped.
+pub fn attach_on<L: Read + Write, K: Keystroke, W: TakesBytes>(
     alloc: Global,
     line: L,
     device: Device,
-    keys: &[Key],
+    keys: &[K],
     output: &mut Output<W>,
 ) -> (Status, Wire<L>)
-    ensures { Attaches device keys.now (fresh (L.remaining line) (L.contents line)) result.1
-        output.old output.new result.0 }
+    ensures { Attaches device (map K.strike keys.now) (fresh (L.remaining line) (L.contents line))
+        result.1 output.old output.new result.0 }
 {
     let mut wire = Wire::new(line);
     let session = terminal_session(alloc, &mut wire, device, keys);
