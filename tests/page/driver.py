@@ -112,6 +112,11 @@ class Chromium(Browser):
     def logs(self, kind):
         return self.send("POST", "/se/log", {"type": kind})
 
+    def close(self):
+        # Else chromedriver leaves its browser running.
+        self.send("DELETE", "")
+        super().close()
+
     def requests(self):
         """The addresses that were asked for since this was last asked."""
         told = [json.loads(entry["message"])["message"] for entry in self.logs("performance")]
