@@ -60,12 +60,22 @@ fn read_keys(row: &mut Row, words: &str) -> Vec<Key> {
     keys
 }
 
+/// Adds a stroke, each by its name, so that the borrow checker is told of the key within.
+fn add_stroke(row: &mut Row, strokes: &mut Vec<Stroke>, stroke: Stroke) {
+    match stroke {
+        Stroke::Key(key) => add(row, strokes, Stroke::Key(key)),
+        Stroke::Insert => add(row, strokes, Stroke::Insert),
+        Stroke::Dup => add(row, strokes, Stroke::Dup),
+        Stroke::FieldMark => add(row, strokes, Stroke::FieldMark),
+    }
+}
+
 /// Strokes that are parted by commas.
 fn read_strokes(row: &mut Row, words: &str) -> Vec<Stroke> {
     let mut strokes = Vec::new(row.alloc());
     for word in words.split(',') {
         if let Some(stroke) = stroke_of_line(word) {
-            add(row, &mut strokes, stroke);
+            add_stroke(row, &mut strokes, stroke);
         }
     }
     strokes
