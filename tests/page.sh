@@ -3,8 +3,8 @@
 # the golden cases and 20,000 inputs drawn at random through the WebAssembly module, beside the shared library; the page in
 # Chromium and in Firefox, as a person uses it. What isn't there to try it with is said. The last line is
 # 'N passed, M failed, K skipped'.
+program=$(cd "$(dirname "$1")" && pwd)/$(basename "$1")
 cd "$(dirname "$0")/.." || exit 1
-program=$1
 passed=0
 failed=0
 skipped=0
