@@ -24,7 +24,6 @@ export function linesOfKey(event, codes) {
   if (named) return [named];
   const number = /^F(\d+)$/.exec(event.key);
   if (number) return [`pf${Number(number[1]) + (event.shiftKey ? 12 : 0)}`];
-  if (event.key === "Backspace") return ["left", "delete"];
   return linesOfText(event.key.length === 1 ? event.key : "", codes);
 }
 

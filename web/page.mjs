@@ -307,6 +307,14 @@ class Page {
     next(1);
   }
 
+  /** The keys of Backspace: one to the left, and there a character is deleted where it is the same field's. */
+  backspace() {
+    const screen = this.view.screen;
+    const field = screen && fieldAt(screen, screen.cursor);
+    const isInside = field && !field.protected && screen.cursor !== field.place && screen.cursor !== field.at;
+    return isInside ? ["left", "delete"] : ["left"];
+  }
+
   /** @param {string[]} lines */
   press(lines) {
     if (lines.length === 0) return;
@@ -466,7 +474,7 @@ function connectScreen(page) {
   const screen = at("screen");
   screen.addEventListener("keydown", (event) => {
     if (event.key === "Escape") return at("keyboard").querySelector("button")?.focus();
-    const lines = linesOfKey(event, page.work.codes);
+    const lines = event.key === "Backspace" ? page.backspace() : linesOfKey(event, page.work.codes);
     if (lines.length === 0) return;
     event.preventDefault();
     page.press(lines);

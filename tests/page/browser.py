@@ -12,7 +12,7 @@ import driver
 
 ROOT = pathlib.Path(__file__).resolve().parents[2]
 SIGNON = [str(ROOT / "examples/signon.hex"), str(ROOT / "examples/signon.toml")]
-TAB, ENTER = "\ue004", "\ue007"
+TAB, ENTER, BACKSPACE = "\ue004", "\ue007", "\ue003"
 READY = "return document.documentElement.dataset.ready !== undefined"
 TEXT = "return document.querySelector(arguments[0]).textContent"
 
@@ -67,7 +67,9 @@ def try_sign_on(trial):
     trial.holds("the verdict of the sign-on is yes", "return document.querySelector('#verdict').className === 'yes'")
     trial.holds("the title is on the screen", "return document.querySelector('#shown').textContent.includes('SIGN ON')")
     trial.browser.run("document.querySelector('#screen').focus()")
-    type_on_screen(trial, ["A", "N", "N", "A", "Tab", "S", "E", "C", "R", "E", "T", "Enter"])
+    type_on_screen(trial, ["A", "N", "X", "Backspace", "N", "A", "Tab", "Backspace"])
+    trial.compare("a backspace before a field moves alone", True, "keyboard free" in trial.text("#facts"))
+    type_on_screen(trial, ["Tab", "S", "E", "C", "R", "E", "T", "Enter"])
     trial.holds("what was sent is told", "return document.querySelector('#sent').textContent.includes('userid ANNA')")
     sent = trial.browser.run("return document.querySelector('#sent').textContent")
     for part in ["7DC5D911C4C3C1D5D5C111C5D3E2C5C3D9C5E3", "userid ANNA", "password SECRET"]:
@@ -79,7 +81,7 @@ def try_sign_on(trial):
 def type_on_screen(trial, keys):
     """Real keys where the protocol has them, else the events of a page."""
     if hasattr(trial.browser, "type"):
-        return trial.browser.type([{"Tab": TAB, "Enter": ENTER}.get(key, key) for key in keys])
+        return trial.browser.type([{"Tab": TAB, "Enter": ENTER, "Backspace": BACKSPACE}.get(key, key) for key in keys])
     for key in keys:
         trial.browser.run("document.activeElement.dispatchEvent(new KeyboardEvent('keydown', { key: arguments[0], bubbles: true, cancelable: true }))", key)
     return None
@@ -201,8 +203,12 @@ def try_link(trial):
     trial.open()
     trial.drop("signon.toml", both(SIGNON[1]))
     trial.drop("signon.hex", both(SIGNON[0]).replace("E2C9C7D540D6D5", "D3C9D5D2C5C4"))
-    trial.holds("the address has it", "return location.hash.startsWith('#1')")
-    fragment = trial.browser.until("return location.hash.length > 200 ? location.hash : ''")
+    # What is dropped last is in the address once its link was asked for.
+    trial.holds("it is on the screen", "return document.querySelector('#shown').textContent.includes('LINKED')")
+    trial.browser.run("document.querySelector('#link').click()")
+    trial.holds("the link is told", "return document.querySelector('#note').textContent.startsWith('The link')")
+    fragment = trial.browser.run("return location.hash")
+    trial.compare("the address has it", "#1", fragment[:2])
     trial.open(fragment)
     trial.holds("a link brings it back", "return document.querySelector('#shown').textContent.includes('LINKED')")
 
