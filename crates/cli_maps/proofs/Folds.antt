@@ -5,13 +5,13 @@ use Rattle.serde_json.specs.Data.{Data}
 use Rattle.ds_codec.specs.Reading.{◌>>=◌}
 use Rattle.bms_map.specs.Maps.{Sheet}
 use Rattle.bms_map.specs.declared.record.Control.{Control}
-use Rattle.term_commands.specs.declared.fault.Fault.{Fault}
-use Rattle.term_commands.specs.declared.status.Status.{Status}
-use Rattle.term_commands.specs.declared.status.Status.TheVariants.{Done, Findings, BadInput, Failed, NoMemory}
-use Rattle.term_commands.specs.declared.fault.CommandError.{CommandError}
-use Rattle.term_commands.specs.declared.fault.CommandError.TheVariants.{Fault as Faulted, ReadFailed, OutOfMemory}
-use Rattle.term_commands.specs.Fault.{Gives}
-use Rattle.term_commands.specs.Printed.{Printed, printed}
+use Rattle.cli_commands.specs.declared.fault.Fault.{Fault}
+use Rattle.cli_commands.specs.declared.status.Status.{Status}
+use Rattle.cli_commands.specs.declared.status.Status.TheVariants.{Done, Findings, BadInput, Failed, NoMemory}
+use Rattle.cli_commands.specs.declared.fault.CommandError.{CommandError}
+use Rattle.cli_commands.specs.declared.fault.CommandError.TheVariants.{Fault as Faulted, ReadFailed, OutOfMemory}
+use Rattle.cli_commands.specs.Fault.{Gives}
+use Rattle.cli_commands.specs.Printed.{Printed, printed}
 use Rattle.cli_maps.specs.Judged.{Judged, judge}
 use Rattle.cli_maps.specs.Sarif.{results_of}
 use Rattle.cli_maps.specs.Told.{all_results, all_told, then_printed, worse}

@@ -30,10 +30,10 @@ use Rattle.bms_map.specs.Maps.{Shown, Sheet}
 use Rattle.bms_map.specs.Overlaps.{is_declared, is_input, overlaps_of}
 use Rattle.bms_map.specs.Record.{command_of, map_orders}
 use Rattle.bms_map.proofs.MapsetLaws.{maps_are_fit}
-use Rattle.term_commands.specs.declared.fault.Fault.{Fault}
-use Rattle.term_commands.specs.LayoutText.{layout_said, layout_or_fault, layout_in}
-use Rattle.term_commands.specs.Lines.{at_most, within_limit}
-use Rattle.term_commands.proofs.Answered.{bounded}
+use Rattle.cli_commands.specs.declared.fault.Fault.{Fault}
+use Rattle.cli_commands.specs.LayoutText.{layout_said, layout_or_fault, layout_in}
+use Rattle.cli_commands.specs.Lines.{at_most, within_limit}
+use Rattle.cli_commands.proofs.Answered.{bounded}
 use Rattle.cli_maps.specs.declared.judged.MapFinding.{MapFinding}
 use Rattle.cli_maps.specs.declared.judged.MapFinding.TheVariants.{Overlapping, Found}
 use Rattle.cli_maps.specs.Judged.{Judged, written_or_fault, record_due, all_found, judged, judge_with}

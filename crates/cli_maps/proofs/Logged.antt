@@ -4,10 +4,10 @@ use Rattle.serde_json.specs.Data.{Data, depth, items_depth}
 use Rattle.serde_json.specs.View.{items_of}
 use Rattle.serde_json.specs.Written.{has_float, items_have_float}
 use Rattle.bms_map.specs.Maps.{Sheet}
-use Rattle.term_findings.specs.declared.found.Pen.TheVariants.{Ignored}
-use Rattle.term_findings.specs.declared.region.Region.{Region}
-use Rattle.term_findings.specs.Sarif.{rules_data}
-use Rattle.term_findings.proofs.Logged as logs
+use Rattle.cli_findings.specs.declared.found.Pen.TheVariants.{Ignored}
+use Rattle.cli_findings.specs.declared.region.Region.{Region}
+use Rattle.cli_findings.specs.Sarif.{rules_data}
+use Rattle.cli_findings.proofs.Logged as logs
 use Rattle.cli_maps.specs.declared.rules.MapRule.{MapRule}
 use Rattle.cli_maps.specs.declared.rules.MapRule.TheVariants.{Refused}
 use Rattle.cli_maps.specs.Judged.{Judged}

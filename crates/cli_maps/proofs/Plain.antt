@@ -10,10 +10,10 @@ use Rattle.bms_map.specs.Maps.{Sheet}
 use Rattle.bms_map.specs.LayoutText.{label_text}
 use Rattle.scr_layout.specs.Layout.{Declaration}
 use Rattle.scr_check.specs.FindingText.{demo_of}
-use Rattle.term_findings.specs.declared.region.Region.{Region}
-use Rattle.term_findings.specs.Facts.{place_of, row_at, column_at, length_of, entry_of, sent_from}
-use Rattle.term_findings.specs.Members.{with_count, with_text}
-use Rattle.term_findings.proofs.Plain.{IsPlain, put_both, count_plain, text_plain, keys_plain}
+use Rattle.cli_findings.specs.declared.region.Region.{Region}
+use Rattle.cli_findings.specs.Facts.{place_of, row_at, column_at, length_of, entry_of, sent_from}
+use Rattle.cli_findings.specs.Members.{with_count, with_text}
+use Rattle.cli_findings.proofs.Plain.{IsPlain, put_both, count_plain, text_plain, keys_plain}
 use Rattle.cli_maps.specs.declared.judged.MapFinding.{MapFinding}
 use Rattle.cli_maps.specs.declared.judged.MapFinding.TheVariants.{Overlapping, Found}
 use Rattle.cli_maps.specs.Json.{finding_data, refused_data, source_data, with_facts, with_macro, with_source, with_words}

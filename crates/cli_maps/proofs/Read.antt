@@ -2,15 +2,15 @@
 use Rattle.std.proofs.Common.{◌≡◌, ℕ, List, Result, Ok, Err, refl}
 use Rattle.std.specs.Prelude.{Option, Some, None, IfSome}
 use Rattle.ds_codec.specs.Reading.{◌>>=◌}
-use Rattle.term_commands.specs.declared.fault.Fault.{Fault}
-use Rattle.term_commands.specs.declared.fault.CommandError.{CommandError}
-use Rattle.term_commands.specs.declared.fault.CommandError.TheVariants.{Fault as Faulted, ReadFailed, OutOfMemory}
-use Rattle.term_commands.specs.declared.output.answer.Answer.{Answer}
-use Rattle.term_commands.specs.Fault.{Gives, GivesOrFails, IsNoFault}
-use Rattle.term_commands.specs.Held.{answer_seen}
-use Rattle.term_commands.specs.Lines.{within_limit}
-use Rattle.term_commands.specs.Printed.{Printed}
-use Rattle.term_commands.proofs.Answered.{or_fails}
+use Rattle.cli_commands.specs.declared.fault.Fault.{Fault}
+use Rattle.cli_commands.specs.declared.fault.CommandError.{CommandError}
+use Rattle.cli_commands.specs.declared.fault.CommandError.TheVariants.{Fault as Faulted, ReadFailed, OutOfMemory}
+use Rattle.cli_commands.specs.declared.output.answer.Answer.{Answer}
+use Rattle.cli_commands.specs.Fault.{Gives, GivesOrFails, IsNoFault}
+use Rattle.cli_commands.specs.Held.{answer_seen}
+use Rattle.cli_commands.specs.Lines.{within_limit}
+use Rattle.cli_commands.specs.Printed.{Printed}
+use Rattle.cli_commands.proofs.Answered.{or_fails}
 
 -- a text that is too long
 pub stops : {A B S T : Type 0} (seen : S → A) (view : T → B) (error : CommandError) (first : Result A Fault) (rest : A → Result B Fault)

@@ -22,10 +22,10 @@ use Rattle.bms_map.proofs.MapsetLaws.{maps_are_fit}
 use Rattle.scr_layout.specs.Fault.{not_toml}
 use Rattle.scr_layout.specs.Layout.{Declaration, layout_of}
 use Rattle.scr_draft.proofs.NameLaws.{either_way}
-use Rattle.term_commands.specs.declared.fault.Fault.{Fault}
-use Rattle.term_commands.specs.declared.fault.Fault.TheVariants.{TooLong}
-use Rattle.term_commands.specs.LayoutText.{layout_said, layout_or_fault, layout_in}
-use Rattle.term_commands.specs.Lines.{within_limit}
+use Rattle.cli_commands.specs.declared.fault.Fault.{Fault}
+use Rattle.cli_commands.specs.declared.fault.Fault.TheVariants.{TooLong}
+use Rattle.cli_commands.specs.LayoutText.{layout_said, layout_or_fault, layout_in}
+use Rattle.cli_commands.specs.Lines.{within_limit}
 use Rattle.cli_maps.specs.Judged.{written_or_fault, record_due, judged, judge_with}
 use Rattle.cli_maps.specs.Kept.{IsJudged, MapsAreJudged}
 use Rattle.cli_maps.specs.Layouts.{declared_fields, declaration_of}

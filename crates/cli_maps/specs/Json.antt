@@ -9,12 +9,12 @@ use Rattle.bms_map.specs.LayoutText.{label_text}
 use Rattle.scr_layout.specs.Entry.{Declared}
 use Rattle.scr_layout.specs.Layout.{Declaration}
 use Rattle.scr_check.specs.FindingText.{demo_of}
-use Rattle.term_commands.specs.declared.output.demo.Demos.TheVariants.{Printed as Pressed}
-use Rattle.term_commands.specs.DemoLines.{asked, shown_on}
-use Rattle.term_findings.specs.declared.region.Region.{Region}
-use Rattle.term_findings.specs.Facts.{place_of}
-use Rattle.term_findings.specs.Lines.{data_line}
-use Rattle.term_findings.specs.Members.{with_some, with_count, with_text, with_place, with_entry, with_keys}
+use Rattle.cli_commands.specs.declared.output.demo.Demos.TheVariants.{Printed as Pressed}
+use Rattle.cli_commands.specs.DemoLines.{asked, shown_on}
+use Rattle.cli_findings.specs.declared.region.Region.{Region}
+use Rattle.cli_findings.specs.Facts.{place_of}
+use Rattle.cli_findings.specs.Lines.{data_line}
+use Rattle.cli_findings.specs.Members.{with_some, with_count, with_text, with_place, with_entry, with_keys}
 use Rattle.cli_maps.specs.declared.judged.MapFinding.{MapFinding}
 use Rattle.cli_maps.specs.declared.judged.MapFinding.TheVariants.{Overlapping, Found}
 use Rattle.cli_maps.specs.Judged.{Judged}

@@ -11,11 +11,11 @@ use Rattle.bms_map.specs.declared.record.Control.{Control}
 use Rattle.bms_map.specs.LayoutText.{layout_text}
 use Rattle.bms_map.specs.Overlaps.{overlaps_of}
 use Rattle.bms_map.specs.Record.{command_of, map_orders}
-use Rattle.term_commands.specs.declared.fault.Fault.{Fault}
-use Rattle.term_commands.specs.declared.fault.Fault.TheVariants as faults
-use Rattle.term_commands.specs.declared.status.Status.{Status}
-use Rattle.term_commands.specs.declared.status.Status.TheVariants.{Done, Findings}
-use Rattle.term_commands.specs.LayoutText.{layout_in}
+use Rattle.cli_commands.specs.declared.fault.Fault.{Fault}
+use Rattle.cli_commands.specs.declared.fault.Fault.TheVariants as faults
+use Rattle.cli_commands.specs.declared.status.Status.{Status}
+use Rattle.cli_commands.specs.declared.status.Status.TheVariants.{Done, Findings}
+use Rattle.cli_commands.specs.LayoutText.{layout_in}
 use Rattle.cli_maps.specs.declared.judged.MapFinding.{MapFinding}
 use Rattle.cli_maps.specs.declared.judged.MapFinding.TheVariants.{Overlapping, Found}
 

@@ -9,7 +9,7 @@ use Rattle.bms_map.specs.declared.overlap.Overlap.TheVariants.{Overlaps, PastEnd
 use Rattle.bms_map.specs.LayoutText.{label_text, place_of as first_place}
 use Rattle.scr_layout.specs.Entry.{Declared}
 use Rattle.scr_check.specs.FindingText.{finding_text}
-use Rattle.term_findings.specs.Facts.{place_of}
+use Rattle.cli_findings.specs.Facts.{place_of}
 use Rattle.cli_maps.specs.declared.judged.MapFinding.{MapFinding}
 use Rattle.cli_maps.specs.declared.judged.MapFinding.TheVariants.{Overlapping, Found}
 

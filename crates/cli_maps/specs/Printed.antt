@@ -8,18 +8,18 @@ use Rattle.bms_source.specs.Told.{Told}
 use Rattle.bms_map.specs.Maps.{Sheet}
 use Rattle.bms_map.specs.declared.record.Control.{Control}
 use Rattle.bms_map.specs.LayoutText.{layout_text}
-use Rattle.term_commands.specs.declared.fault.Fault.{Fault}
-use Rattle.term_commands.specs.declared.status.Status.TheVariants.{Done, BadInput}
-use Rattle.term_commands.specs.Fault.{fault_text}
-use Rattle.term_commands.specs.Lines.{within_limit}
-use Rattle.term_commands.specs.Printed.{Printed, printed, printed_or_fault}
-use Rattle.term_commands.specs.Show.{show}
-use Rattle.term_findings.specs.declared.region.Region.{Region}
-use Rattle.term_drafts.specs.Draft.{draft}
-use Rattle.term_pictures.specs.declared.annotated.Annotated.TheVariants as annotations
-use Rattle.term_pictures.specs.declared.drawing.Drawing.TheVariants as drawings
-use Rattle.term_pictures.specs.Annotated.{annotated}
-use Rattle.term_pictures.specs.Picture.{pictured}
+use Rattle.cli_commands.specs.declared.fault.Fault.{Fault}
+use Rattle.cli_commands.specs.declared.status.Status.TheVariants.{Done, BadInput}
+use Rattle.cli_commands.specs.Fault.{fault_text}
+use Rattle.cli_commands.specs.Lines.{within_limit}
+use Rattle.cli_commands.specs.Printed.{Printed, printed, printed_or_fault}
+use Rattle.cli_commands.specs.Show.{show}
+use Rattle.cli_findings.specs.declared.region.Region.{Region}
+use Rattle.cli_drafts.specs.Draft.{draft}
+use Rattle.cli_pictures.specs.declared.annotated.Annotated.TheVariants as annotations
+use Rattle.cli_pictures.specs.declared.drawing.Drawing.TheVariants as drawings
+use Rattle.cli_pictures.specs.Annotated.{annotated}
+use Rattle.cli_pictures.specs.Picture.{pictured}
 use Rattle.cli_maps.specs.declared.asked.Form.{Form}
 use Rattle.cli_maps.specs.declared.asked.Form.TheVariants as forms
 use Rattle.cli_maps.specs.declared.asked.Rendering.{Rendering}

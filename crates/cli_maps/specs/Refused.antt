@@ -2,9 +2,9 @@
 use Rattle.std.specs.Prelude.{ℕ, List, ◌++◌, codes, Result, Ok, Err}
 use Rattle.bms_source.specs.Printed.{refusal_text}
 use Rattle.bms_source.specs.Told.{Told}
-use Rattle.term_commands.specs.declared.fault.Fault.{Fault}
-use Rattle.term_commands.specs.declared.status.Status.TheVariants.{BadInput}
-use Rattle.term_commands.specs.Printed.{Printed, printed}
+use Rattle.cli_commands.specs.declared.fault.Fault.{Fault}
+use Rattle.cli_commands.specs.declared.status.Status.TheVariants.{BadInput}
+use Rattle.cli_commands.specs.Printed.{Printed, printed}
 
 abbrev pub refusal_words : Told → List ℕ
 refusal_words told = codes "map refused: " ++ refusal_text told

@@ -3,8 +3,8 @@ use Rattle.std.specs.Prelude.{ℕ, ◌+◌, List, [], ◌∷◌, ◌++◌, codes
 use Rattle.serde_json.specs.Data.{Data, string, object, member, no_members}
 use Rattle.bms_map.specs.declared.overlap.Overlap.{Overlap}
 use Rattle.bms_map.specs.declared.overlap.Overlap.TheVariants.{Overlaps, PastEnd}
-use Rattle.term_findings.specs.Rule.{all_rules, rule_of, rule_id, rule_index, rule_name}
-use Rattle.term_findings.specs.Sarif.{level_data, message_data, rules_data}
+use Rattle.cli_findings.specs.Rule.{all_rules, rule_of, rule_id, rule_index, rule_name}
+use Rattle.cli_findings.specs.Sarif.{level_data, message_data, rules_data}
 use Rattle.cli_maps.specs.declared.judged.MapFinding.{MapFinding}
 use Rattle.cli_maps.specs.declared.judged.MapFinding.TheVariants.{Overlapping, Found}
 use Rattle.cli_maps.specs.declared.rules.MapRule.{MapRule}

@@ -4,9 +4,9 @@ use Rattle.serde_json.specs.Data.{Data, string, array, object, item, no_items, m
 use Rattle.serde_json.specs.View.{items_of}
 use Rattle.bms_map.specs.Maps.{Sheet}
 use Rattle.scr_layout.specs.Entry.{Declared}
-use Rattle.term_findings.specs.declared.region.Region.{Region}
-use Rattle.term_findings.specs.Lines.{data_line}
-use Rattle.term_findings.specs.Sarif.{count, help_end, location_data, log_data, message_data}
+use Rattle.cli_findings.specs.declared.region.Region.{Region}
+use Rattle.cli_findings.specs.Lines.{data_line}
+use Rattle.cli_findings.specs.Sarif.{count, help_end, location_data, log_data, message_data}
 use Rattle.cli_maps.specs.declared.judged.MapFinding.{MapFinding}
 use Rattle.cli_maps.specs.declared.rules.MapRule.TheVariants.{Refused}
 use Rattle.cli_maps.specs.Judged.{Judged}

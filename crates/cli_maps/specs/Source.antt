@@ -1,8 +1,8 @@
 -- Where macros stand in a source.
 use Rattle.std.specs.Prelude.{ℕ, suc, ◌+◌, ◌-◌, ◌^◌, min, ◌==◌, List, [], ◌∷◌, drop, slice_get, Option, Some, None, option_map, if◌then◌else◌}
 use Rattle.bms_source.specs.declared.letter.Place.{Place}
-use Rattle.term_findings.specs.declared.region.Columns.{Columns}
-use Rattle.term_findings.specs.declared.region.Region.{Region}
+use Rattle.cli_findings.specs.declared.region.Columns.{Columns}
+use Rattle.cli_findings.specs.declared.region.Region.{Region}
 
 -- how many characters stand before the first blank
 abbrev pub word_length : List ℕ → ℕ

@@ -7,10 +7,10 @@ use Rattle.ds_codec.specs.Reading.{◌>>=◌}
 use Rattle.bms_source.specs.Printed.{printed_codes}
 use Rattle.bms_map.specs.Maps.{Sheet}
 use Rattle.bms_map.specs.declared.record.Control.{Control}
-use Rattle.term_commands.specs.declared.fault.Fault.{Fault}
-use Rattle.term_commands.specs.declared.status.Status.{Status}
-use Rattle.term_commands.specs.declared.status.Status.TheVariants.{Done, Findings}
-use Rattle.term_commands.specs.Printed.{Printed, printed}
+use Rattle.cli_commands.specs.declared.fault.Fault.{Fault}
+use Rattle.cli_commands.specs.declared.status.Status.{Status}
+use Rattle.cli_commands.specs.declared.status.Status.TheVariants.{Done, Findings}
+use Rattle.cli_commands.specs.Printed.{Printed, printed}
 use Rattle.cli_maps.specs.declared.each.MapForm.{MapForm}
 use Rattle.cli_maps.specs.declared.each.MapForm.TheVariants.{Record, Lines, Json}
 use Rattle.cli_maps.specs.Json.{json_lines}

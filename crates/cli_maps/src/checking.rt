@@ -4,17 +4,17 @@ ghost use Rattle.std.specs.Prelude.{◌≡◌, ◌≤◌, ◌+◌, ℕ, Result a
 ghost use Rattle.bms_source.specs.Results.{Gives as GivesMaps};
 ghost use Rattle.bms_source.specs.Told.{Told};
 ghost use Rattle.bms_map.specs.Maps.{Sheet};
-ghost use Rattle.term_commands.specs.Causes.{EndsBy, ToldBy};
-ghost use Rattle.term_commands.specs.Fault.{Gives, GivesOrFails};
-ghost use Rattle.term_commands.specs.Held.{answer_seen};
-ghost use Rattle.term_commands.specs.Printed.{Printed};
-ghost use Rattle.term_commands.specs.Streams.{Prints};
-ghost use Rattle.term_commands.specs.declared.fault.Fault.{Fault as AFault};
+ghost use Rattle.cli_commands.specs.Causes.{EndsBy, ToldBy};
+ghost use Rattle.cli_commands.specs.Fault.{Gives, GivesOrFails};
+ghost use Rattle.cli_commands.specs.Held.{answer_seen};
+ghost use Rattle.cli_commands.specs.Printed.{Printed};
+ghost use Rattle.cli_commands.specs.Streams.{Prints};
+ghost use Rattle.cli_commands.specs.declared.fault.Fault.{Fault as AFault};
 ghost use Rattle.cli_maps.specs.Asked.{name_in, report_seen};
 ghost use Rattle.cli_maps.specs.Told.{all_told, json_told, log_told};
 ghost use Rattle.bms_source.specs.Rows.{lines_in};
 ghost use Rattle.std.specs.String.{string_bytes};
-ghost use Rattle.term_commands.specs.Fault.{fault_text};
+ghost use Rattle.cli_commands.specs.Fault.{fault_text};
 ghost use Rattle.cli_maps.specs.Printed.{check_limited, check_source, check_told, checked, or_faulted, or_refused_in, refused_in, printed_check_map, refused_json, refused_log};
 
 use crate::asked::{Asked, Report};
@@ -26,11 +26,11 @@ use crate::source::refusal_region;
 use crate::told::maps_asked;
 use bms_map::{Control, Map};
 use bms_source::{Refusal, SourceError, lines_of};
-use std::alloc::{AllocError, Global};
-use term_commands::{
+use cli_commands::{
     Answer, CommandError, Fault, GivesBytes, Status, TakesBytes, finish, read_text, within_limit,
 };
-use term_findings::Region;
+use cli_findings::Region;
+use std::alloc::{AllocError, Global};
 
 /// The report of maps as JSON.
 fn checked_json(

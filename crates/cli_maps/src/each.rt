@@ -5,8 +5,8 @@ ghost use Rattle.std.specs.String.{string_bytes};
 ghost use Rattle.serde_json.specs.Data.{items_depth};
 ghost use Rattle.serde_json.specs.View.{view, items_of};
 ghost use Rattle.serde_json.specs.Written.{items_have_float};
-ghost use Rattle.term_commands.specs.Fault.{Gives};
-ghost use Rattle.term_commands.specs.Held.{answer_seen};
+ghost use Rattle.cli_commands.specs.Fault.{Gives};
+ghost use Rattle.cli_commands.specs.Held.{answer_seen};
 ghost use Rattle.cli_maps.specs.Told.{all_results, all_told, header, json_told, log_told, record_line, record_told, status_in, text_told, told_by, worse};
 
 use crate::json::json_lines;
@@ -15,10 +15,10 @@ use crate::lines::lines_of;
 use crate::sarif::{log_line, push_results};
 use bms_map::{Control, Map};
 use bms_source::push_codes;
+use cli_commands::{Answer, CommandError, Status};
 use order_lines::push_bytes;
 use serde_json::Value;
 use std::alloc::{AllocError, Global};
-use term_commands::{Answer, CommandError, Status};
 
 /// What is printed of a map.
 #[derive(Clone, Copy)]

@@ -4,8 +4,8 @@ ghost use Rattle.std.specs.Prelude.{◌≡◌, ◌++◌, codes, false, map as al
 ghost use Rattle.std.specs.List.{flat_map};
 ghost use Rattle.std.specs.String.{string_bytes};
 ghost use Rattle.serde_json.specs.View.{view, members_view};
-ghost use Rattle.term_findings.specs.Lines.{data_line};
-ghost use Rattle.term_findings.specs.Members.{with_text};
+ghost use Rattle.cli_findings.specs.Lines.{data_line};
+ghost use Rattle.cli_findings.specs.Members.{with_text};
 ghost use Rattle.cli_maps.specs.Json.{finding_data, finding_line, finding_lines, json_lines, refused_data, refused_line, source_data, verdict_data, verdict_word, with_facts, with_macro, with_source, with_words};
 ghost use Rattle.cli_maps.specs.Lines.{map_words};
 ghost use Rattle.cli_maps.specs.Mend.{help_of};
@@ -19,17 +19,17 @@ use crate::rules::{id_of, name_of};
 use crate::source::macro_region;
 use bms_map::{Field, Map, push_label};
 use bms_source::push_codes;
+use cli_commands::{Demos, demo_terminal};
+use cli_findings::{
+    Members, Region, place_of, push_line, put_entry, put_keys, put_number, put_place, put_str,
+    put_text,
+};
 use ds_screen::PlaneCells;
 use ds_terminal::Terminal;
 use scr_check::Finding;
 use scr_layout::{Entry, Layout};
 use serde_json::{Map as Object, Value, put};
 use std::alloc::{AllocError, Global};
-use term_commands::{Demos, demo_terminal};
-use term_findings::{
-    Members, Region, place_of, push_line, put_entry, put_keys, put_number, put_place, put_str,
-    put_text,
-};
 
 /// A line and, where it is known, a column of the file of a path.
 fn source_value(alloc: Global, path: &str, region: Region) -> Result<Value, AllocError>

@@ -3,19 +3,19 @@
 ghost use Rattle.std.specs.Prelude.{◌≡◌, ◌++◌, map as all_of, IfOk, OnOk, [], ◌∷◌};
 ghost use Rattle.scr_check.specs.Findings.{answer_of};
 ghost use Rattle.bms_map.specs.Overlaps.{overlaps_of};
-ghost use Rattle.term_commands.specs.Fault.{Gives};
-ghost use Rattle.term_commands.specs.Held.{records_held};
+ghost use Rattle.cli_commands.specs.Fault.{Gives};
+ghost use Rattle.cli_commands.specs.Held.{records_held};
 ghost use Rattle.cli_maps.specs.Judged.{all_found, judge, judge_with, judged, record_due, status_of};
 ghost use Rattle.bms_map.specs.LayoutText.{layout_text};
-ghost use Rattle.term_commands.specs.LayoutText.{layout_in};
+ghost use Rattle.cli_commands.specs.LayoutText.{layout_in};
 
 use bms_map::{Control, Map, Overlap, layout_text, overlaps_of, record_of};
+use cli_commands::{CommandError, Fault, Status, layout_in, lent};
 use ds_codec::Unwritable;
 use scr_check::{Finding, Verdict, check};
 use scr_layout::Layout;
 use std::alloc::{AllocError, Global};
 use std::marker::Model;
-use term_commands::{CommandError, Fault, Status, layout_in, lent};
 
 /// What stands against a map.
 #[derive(Clone, Copy, Debug, PartialEq, Eq)]

@@ -9,10 +9,10 @@ ghost use Rattle.cli_maps.specs.Lines.{field_at, field_of, head_text, is_at, lab
 use crate::judged::MapFinding;
 use bms_map::{Field, Map, Overlap, push_label};
 use bms_source::push_codes;
+use cli_findings::place_of;
 use scr_check::Finding;
 use scr_layout::Entry;
 use std::alloc::{AllocError, Global};
-use term_findings::place_of;
 
 /// Whether the first character of a field stands at a place.
 fn is_at(map: &Map, place: u32, field: &Field) -> bool

@@ -4,10 +4,10 @@ ghost use Rattle.std.specs.Prelude.{◌≡◌, ◌≤◌, ◌+◌, Result as ARe
 ghost use Rattle.bms_source.specs.Results.{Gives as GivesMaps};
 ghost use Rattle.bms_source.specs.Told.{Told};
 ghost use Rattle.bms_map.specs.Maps.{Sheet};
-ghost use Rattle.term_commands.specs.Causes.{EndsBy, ToldBy};
-ghost use Rattle.term_commands.specs.Fault.{Gives, GivesOrFails};
-ghost use Rattle.term_commands.specs.Held.{answer_seen};
-ghost use Rattle.term_commands.specs.Streams.{Prints};
+ghost use Rattle.cli_commands.specs.Causes.{EndsBy, ToldBy};
+ghost use Rattle.cli_commands.specs.Fault.{Gives, GivesOrFails};
+ghost use Rattle.cli_commands.specs.Held.{answer_seen};
+ghost use Rattle.cli_commands.specs.Streams.{Prints};
 ghost use Rattle.cli_maps.specs.Asked.{name_in};
 ghost use Rattle.cli_maps.specs.Printed.{layout_told, map_source, map_told, mapped, printed_map};
 ghost use Rattle.cli_maps.specs.Refused.{or_refused};
@@ -18,10 +18,10 @@ use crate::refusal::refused;
 use crate::told::{maps_asked, without_place};
 use bms_map::{Control, Map, layout_text};
 use bms_source::{SourceError, Why};
-use std::alloc::{AllocError, Global};
-use term_commands::{
+use cli_commands::{
     Answer, CommandError, GivesBytes, Status, TakesBytes, finish, read_text, within_limit,
 };
+use std::alloc::{AllocError, Global};
 
 /// The layout of the one map.
 fn layout_told(alloc: Global, maps: &[Map]) -> Result<Answer, CommandError>

@@ -2,12 +2,12 @@
 
 ghost use Rattle.std.specs.Prelude.{◌≡◌, IfOk};
 ghost use Rattle.std.specs.String.{string_bytes};
-ghost use Rattle.term_commands.specs.Held.{answer_seen};
+ghost use Rattle.cli_commands.specs.Held.{answer_seen};
 ghost use Rattle.cli_maps.specs.Refused.{refused, refusal_words};
 
 use bms_source::Refusal;
+use cli_commands::{Answer, Status};
 use std::alloc::{AllocError, Global};
-use term_commands::{Answer, Status};
 
 pub(crate) fn refusal_words(alloc: Global, refusal: &Refusal) -> Result<String, AllocError>
     ensures { IfOk result (λ text. string_bytes text ≡ refusal_words refusal.now) }

@@ -6,11 +6,11 @@ ghost use Rattle.bms_source.specs.Results.{Gives as GivesMaps};
 ghost use Rattle.bms_source.specs.Told.{Told};
 ghost use Rattle.bms_map.specs.Maps.{Sheet};
 ghost use Rattle.bms_map.specs.LayoutText.{layout_text};
-ghost use Rattle.term_commands.specs.Causes.{EndsBy, ToldBy};
-ghost use Rattle.term_commands.specs.Fault.{Gives, GivesOrFails};
-ghost use Rattle.term_commands.specs.Held.{answer_seen};
-ghost use Rattle.term_commands.specs.Streams.{Prints};
-ghost use Rattle.term_pictures.specs.Annotated.{annotated};
+ghost use Rattle.cli_commands.specs.Causes.{EndsBy, ToldBy};
+ghost use Rattle.cli_commands.specs.Fault.{Gives, GivesOrFails};
+ghost use Rattle.cli_commands.specs.Held.{answer_seen};
+ghost use Rattle.cli_commands.specs.Streams.{Prints};
+ghost use Rattle.cli_pictures.specs.Annotated.{annotated};
 ghost use Rattle.cli_maps.specs.Printed.{one_rendered, printed_rendered, render_source, render_told, rendered, sized_record};
 ghost use Rattle.cli_maps.specs.Asked.{name_in};
 ghost use Rattle.cli_maps.specs.Refused.{or_refused};
@@ -23,13 +23,13 @@ use crate::refusal::refused;
 use crate::told::{maps_asked, without_place};
 use bms_map::{Control, Map, layout_text};
 use bms_source::{SourceError, Why};
-use std::alloc::{AllocError, Global};
-use term_commands::{
+use cli_commands::{
     Answer, CommandError, GivesBytes, Status, TakesBytes, finish, read_text, show_text,
     within_limit,
 };
-use term_drafts::draft_text;
-use term_pictures::{Annotated, Drawing, annotated_text, picture_text};
+use cli_drafts::draft_text;
+use cli_pictures::{Annotated, Drawing, annotated_text, picture_text};
+use std::alloc::{AllocError, Global};
 
 /// The line of the sizes, and the record.
 fn sized_record(alloc: Global, map: &Map, bytes: &[u8]) -> Result<String, AllocError>

@@ -7,12 +7,12 @@ ghost use Rattle.cli_maps.specs.Rules.{all_data, id_of, index_among, index_of, m
 
 use crate::judged::MapFinding;
 use bms_map::Overlap;
-use serde_json::{Map as Object, Value, put};
-use std::alloc::{AllocError, Global};
-use term_findings::{
+use cli_findings::{
     level_value, name_of as name_of_finding, put_message, put_str, rule_count, rule_id_of,
     rule_index_of, rules_value,
 };
+use serde_json::{Map as Object, Value, put};
+use std::alloc::{AllocError, Global};
 
 /// A kind of result that only maps have.
 #[derive(Clone, Copy)]

@@ -5,7 +5,7 @@ ghost use Rattle.std.specs.String.{string_bytes};
 ghost use Rattle.serde_json.specs.Data.{items_depth};
 ghost use Rattle.serde_json.specs.View.{view, items_of};
 ghost use Rattle.serde_json.specs.Written.{items_have_float};
-ghost use Rattle.term_findings.specs.Sarif.{help_end};
+ghost use Rattle.cli_findings.specs.Sarif.{help_end};
 ghost use Rattle.cli_maps.specs.Sarif.{finding_result, log_line, message_of, refused_result, result_data, results_of};
 
 use crate::judged::{Judged, MapFinding};
@@ -14,10 +14,10 @@ use crate::mend::help_of;
 use crate::rules::{MapRule, all_values, id_of, index_of};
 use crate::source::macro_region;
 use bms_map::Map;
+use cli_findings::{Region, listed, location_value, log_text, put_message, put_str};
 use scr_layout::Entry;
 use serde_json::{Map as Object, Value, put};
 use std::alloc::{AllocError, Global};
-use term_findings::{Region, listed, location_value, log_text, put_message, put_str};
 
 /// A result of a rule at a place, with a text.
 #[tactic(auto, unfolding(crate::specs::Sarif::result_data))]

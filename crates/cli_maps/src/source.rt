@@ -4,7 +4,7 @@ ghost use Rattle.std.specs.Prelude.{◌≡◌, ◌≤◌, ◌<◌, ◌^◌, leng
 ghost use Rattle.cli_maps.specs.Source.{before_operation, blank_length, macro_region, operation_columns, refusal_region, word_length};
 
 use bms_source::Place;
-use term_findings::{Columns, Region};
+use cli_findings::{Columns, Region};
 
 /// How many characters stand before the first blank.
 fn word_length(text: &[u8]) -> usize

@@ -1,10 +1,10 @@
 //! Terminals that attach to a host in memory.
 
 use crate::commands::push_ran;
+use cli_commands::{Watched, read_keys, read_strokes};
+use cli_sessions::{Output, attach_on};
 use std::io;
 use std::io::{Read, Write};
-use term_commands::{Watched, read_keys, read_strokes};
-use term_sessions::{Output, attach_on};
 use test_words::Row;
 use tn_session::{Device, Keystroke, ScreenModel, Stop};
 

@@ -4,14 +4,14 @@ use crate::files::texts_of;
 use crate::notation::push_written;
 use anyhow::{Context, Result, ensure};
 use bms_map::Control;
+use cli_commands::{
+    Demos, GivesBytes, Status, TakesBytes, Watched, failure, run_check, run_convert,
+    run_convert_back, run_press, run_press_strokes, run_show, run_talk,
+};
 use cli_maps::{Asked, Form, Rendering, Report, run_check_map, run_map, run_render_map};
 use std::alloc::Global;
 use std::io;
 use std::io::{Read, Write};
-use term_commands::{
-    Demos, GivesBytes, Status, TakesBytes, Watched, failure, run_check, run_convert,
-    run_convert_back, run_press, run_press_strokes, run_show, run_talk,
-};
 use test_words::{Row, push_word_number};
 
 /// A command of the program.

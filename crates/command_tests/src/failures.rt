@@ -5,9 +5,9 @@ use crate::devices::{Narrow, Unflushed, slow_reader};
 use crate::files::{slow_files, texts_of};
 use crate::lists::add;
 use anyhow::Result;
+use cli_commands::Status;
 use std::alloc::Global;
 use std::io::{ErrorKind, Write};
-use term_commands::Status;
 use test_words::Row;
 
 /// Which read of a command fails and how: of its input, or of its files; at 0 none.

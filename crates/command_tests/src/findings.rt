@@ -1,10 +1,10 @@
 //! Each finding by itself: its name, as JSON and in a log, and what to do.
 
 use crate::reports::{is_read_again, push_results};
+use cli_findings::{Pen, finding_json, findings_log, help_text, line_of_record, name_of};
 use scr_check::{Demo, Finding, Origin, Overlong, Traced};
 use scr_layout::Layout;
 use std::alloc::AllocError;
-use term_findings::{Pen, finding_json, findings_log, help_text, line_of_record, name_of};
 use test_words::Row;
 
 /// A layout of two rows of ten, with one entry.

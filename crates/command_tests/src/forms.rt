@@ -2,10 +2,10 @@
 
 use crate::commands::name_of;
 use crate::notation::read_text;
+use cli_commands::{Answer, CommandError, Status, Watched, printed};
+use cli_findings::{Paths, Pen, Report, report_texts, run_report};
+use cli_pictures::{Annotated, annotated_text, run_annotated};
 use std::alloc::Global;
-use term_commands::{Answer, CommandError, Status, Watched, printed};
-use term_findings::{Paths, Pen, Report, report_texts, run_report};
-use term_pictures::{Annotated, annotated_text, run_annotated};
 use test_words::Row;
 
 const PATHS: Paths<'static> = Paths {

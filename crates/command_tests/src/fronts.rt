@@ -2,7 +2,7 @@
 
 use crate::commands::{Command, name_of, written};
 use crate::lists::add;
-use term_commands::Status;
+use cli_commands::Status;
 use test_words::Row;
 
 /// Adds a status, and how many fronts one after the other have it.

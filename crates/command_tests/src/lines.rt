@@ -1,7 +1,7 @@
 //! Lines as they are read.
 
 use crate::notation::read_text;
-use term_commands::{GivesBytes, ReadAhead, next_line, without_end};
+use cli_commands::{GivesBytes, ReadAhead, next_line, without_end};
 use test_words::Row;
 
 /// The most lines that are read of an input.

@@ -60,13 +60,13 @@ struct Given {
 
 /// Each law does nothing.
 fn push_laws(row: &mut Row) {
-    term_commands::convert_law();
-    term_commands::lines_law();
-    term_pictures::drawing_law();
-    term_pictures::looks_law();
-    term_pictures::names_law();
-    term_traces::pieces_law();
-    term_traces::text_law();
+    cli_commands::convert_law();
+    cli_commands::lines_law();
+    cli_pictures::drawing_law();
+    cli_pictures::looks_law();
+    cli_pictures::names_law();
+    cli_traces::pieces_law();
+    cli_traces::text_law();
     row.word("done");
 }
 

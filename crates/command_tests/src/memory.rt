@@ -7,8 +7,8 @@
 use crate::commands::{Command, command_of, push_told, written};
 use crate::notation::bytes_of;
 use anyhow::{Context, Result};
+use cli_commands::Status;
 use std::alloc::Global;
-use term_commands::Status;
 
 /// The bytes that a row's command may write: its text has room before it runs.
 const ROOM: usize = 65_536;

@@ -1,7 +1,7 @@
 //! What is told of the screen that records leave.
 
 use crate::notation::read_text;
-use term_commands::{
+use cli_commands::{
     Records, SizeLine, lock_word, push_field_lines, push_screen_line, records_in, shown_on,
 };
 use test_words::Row;

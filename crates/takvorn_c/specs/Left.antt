@@ -3,19 +3,19 @@ use Rattle.std.specs.Prelude.{◌≡◌, ◌⊎◌, ℕ, ℤ, pos, Bool, true, f
 use Rattle.bms_map.specs.declared.record.Control.{Control}
 use Rattle.cli_maps.specs.declared.asked.Form.{Form as MapForm}
 use Rattle.cli_maps.specs.declared.asked.Form.TheVariants as map_forms
-use Rattle.term_binds.specs.declared.fields.Form.{Form}
-use Rattle.term_binds.specs.declared.fields.Form.TheVariants.{Hexadecimal, Text}
-use Rattle.term_commands.specs.declared.output.demo.Demos.{Demos}
-use Rattle.term_commands.specs.declared.output.demo.Demos.TheVariants.{Omitted, Printed as PrintedDemos}
-use Rattle.term_commands.specs.declared.status.Status.{Status}
-use Rattle.term_commands.specs.Printed.{Printed, printed}
-use Rattle.term_commands.specs.Status.{code_of}
-use Rattle.term_pictures.specs.declared.drawing.Drawing.{Drawing}
-use Rattle.term_pictures.specs.declared.drawing.Drawing.TheVariants.{Json, Svg}
-use Rattle.term_traces.specs.declared.asked.Asked.{Asked}
-use Rattle.term_traces.specs.declared.asked.Source.{Source}
-use Rattle.term_traces.specs.declared.asked.Source.TheVariants.{Trace, Stream}
-use Rattle.term_traces.specs.Told.{TellsRecords}
+use Rattle.cli_binds.specs.declared.fields.Form.{Form}
+use Rattle.cli_binds.specs.declared.fields.Form.TheVariants.{Hexadecimal, Text}
+use Rattle.cli_commands.specs.declared.output.demo.Demos.{Demos}
+use Rattle.cli_commands.specs.declared.output.demo.Demos.TheVariants.{Omitted, Printed as PrintedDemos}
+use Rattle.cli_commands.specs.declared.status.Status.{Status}
+use Rattle.cli_commands.specs.Printed.{Printed, printed}
+use Rattle.cli_commands.specs.Status.{code_of}
+use Rattle.cli_pictures.specs.declared.drawing.Drawing.{Drawing}
+use Rattle.cli_pictures.specs.declared.drawing.Drawing.TheVariants.{Json, Svg}
+use Rattle.cli_traces.specs.declared.asked.Asked.{Asked}
+use Rattle.cli_traces.specs.declared.asked.Source.{Source}
+use Rattle.cli_traces.specs.declared.asked.Source.TheVariants.{Trace, Stream}
+use Rattle.cli_traces.specs.Told.{TellsRecords}
 use Rattle.tn_traces.specs.declared.line.Side.{Side}
 use Rattle.tn_traces.specs.declared.line.Side.TheVariants.{Host, Terminal}
 

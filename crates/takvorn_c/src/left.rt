@@ -1,17 +1,17 @@
 //! What a call leaves to C: a buffer, a length and a status.
 
 ghost use Rattle.std.specs.Prelude.{◌≡◌, ℕ, List, pos, Result, IfOk};
-ghost use Rattle.term_commands.specs.declared.fault.Fault.{Fault};
-ghost use Rattle.term_commands.specs.Fault.{Gives, GivesOrFails};
-ghost use Rattle.term_commands.specs.Held.{answer_seen};
-ghost use Rattle.term_commands.specs.Printed.{Printed, printed_or_fault};
-ghost use Rattle.term_traces.specs.declared.asked.Asked.{Asked};
-ghost use Rattle.term_traces.specs.Told.{TellsRecords};
+ghost use Rattle.cli_commands.specs.declared.fault.Fault.{Fault};
+ghost use Rattle.cli_commands.specs.Fault.{Gives, GivesOrFails};
+ghost use Rattle.cli_commands.specs.Held.{answer_seen};
+ghost use Rattle.cli_commands.specs.Printed.{Printed, printed_or_fault};
+ghost use Rattle.cli_traces.specs.declared.asked.Asked.{Asked};
+ghost use Rattle.cli_traces.specs.Told.{TellsRecords};
 ghost use Rattle.takvorn_c.specs.Left.{laid_over, IsTold, Leaves, LeavesRecords};
 
+use cli_commands::{Answer, CommandError, Status, printed};
+use cli_traces::Told;
 use std::alloc::{AllocError, Global};
-use term_commands::{Answer, CommandError, Status, printed};
-use term_traces::Told;
 
 /// Lays a text over a buffer, as far as it fits.
 fn lay(out: &mut [u8], text: &[u8])

@@ -3,18 +3,18 @@
 #![tactic(auto)]
 
 ghost use Rattle.std.specs.Prelude.{◌≡◌, map, pos};
-ghost use Rattle.term_binds.specs.Bind.{printed_bind};
-ghost use Rattle.term_commands.specs.Back.{printed_back};
-ghost use Rattle.term_commands.specs.Check.{printed_check};
-ghost use Rattle.term_commands.specs.Convert.{printed_convert};
-ghost use Rattle.term_commands.specs.Press.{printed_press};
-ghost use Rattle.term_commands.specs.Show.{printed_show};
-ghost use Rattle.term_commands.specs.Talk.{printed_talk};
-ghost use Rattle.term_drafts.specs.Draft.{printed_draft};
-ghost use Rattle.term_findings.specs.Origins.{printed_origins};
-ghost use Rattle.term_findings.specs.Report.{printed_report};
-ghost use Rattle.term_pictures.specs.Picture.{printed_picture};
-ghost use Rattle.term_pictures.specs.Pressed.{printed_pressed};
+ghost use Rattle.cli_binds.specs.Bind.{printed_bind};
+ghost use Rattle.cli_commands.specs.Back.{printed_back};
+ghost use Rattle.cli_commands.specs.Check.{printed_check};
+ghost use Rattle.cli_commands.specs.Convert.{printed_convert};
+ghost use Rattle.cli_commands.specs.Press.{printed_press};
+ghost use Rattle.cli_commands.specs.Show.{printed_show};
+ghost use Rattle.cli_commands.specs.Talk.{printed_talk};
+ghost use Rattle.cli_drafts.specs.Draft.{printed_draft};
+ghost use Rattle.cli_findings.specs.Origins.{printed_origins};
+ghost use Rattle.cli_findings.specs.Report.{printed_report};
+ghost use Rattle.cli_pictures.specs.Picture.{printed_picture};
+ghost use Rattle.cli_pictures.specs.Pressed.{printed_pressed};
 ghost use Rattle.cli_maps.specs.Asked.{as_text, name_in};
 ghost use Rattle.cli_maps.specs.Printed.{printed_check_map, printed_map};
 ghost use Rattle.takvorn_c.specs.Left.{Leaves, LeavesRecords, asked_of, control_of, demos_of, drawing_of, form_of, map_form_of, name_of};
@@ -22,19 +22,19 @@ ghost use Rattle.takvorn_c.specs.Left.{Leaves, LeavesRecords, asked_of, control_
 mod left;
 
 use bms_map::Control;
+use cli_binds::{Form, bind_texts};
+use cli_commands::{
+    Demos, check_texts, convert_back_text, convert_text, press_texts, show_text, talk_texts,
+};
+use cli_drafts::draft_text;
+use cli_findings::{Pen, Report, origins_text, report_texts};
 use cli_maps::{
     Asked as MapsAsked, Form as MapForm, Report as MapReport, check_map_text, map_text,
 };
+use cli_pictures::{Drawing, picture_text, pressed_text};
+use cli_traces::{Asked, Source, records_text};
 use left::{leave, leave_records};
 use std::alloc::Global;
-use term_binds::{Form, bind_texts};
-use term_commands::{
-    Demos, check_texts, convert_back_text, convert_text, press_texts, show_text, talk_texts,
-};
-use term_drafts::draft_text;
-use term_findings::{Pen, Report, origins_text, report_texts};
-use term_pictures::{Drawing, picture_text, pressed_text};
-use term_traces::{Asked, Source, records_text};
 use tn_traces::Side;
 
 fn demos_of(printed: bool) -> Demos

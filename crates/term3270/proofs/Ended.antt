@@ -1,19 +1,19 @@
 -- Commands that end at a fault of their inputs, at a read that failed, or for want of memory.
 use Rattle.std.proofs.Common.{◌≡◌, ◌⊎◌, inl, inr, ℕ, List, [], Option, Some, None, Result, Ok, Err, refl, sym, subst}
 use Rattle.std.specs.Prelude.{IfSome}
-use Rattle.term_commands.specs.declared.fault.Fault.{Fault}
-use Rattle.term_commands.specs.declared.fault.CommandError.{CommandError}
-use Rattle.term_commands.specs.declared.fault.CommandError.TheVariants.{Fault as Told, ReadFailed, OutOfMemory}
-use Rattle.term_commands.specs.declared.status.Status.{Status}
-use Rattle.term_commands.specs.declared.status.Status.TheVariants.{BadInput, Failed, NoMemory}
-use Rattle.term_commands.specs.Fault.{GivesOrFails, fault_line}
-use Rattle.term_commands.specs.Printed.{Printed, printed}
-use Rattle.term_commands.specs.Streams.{AppendsFront, Finishes, IsStopped, IsWantOrFailure, IsWritten, Prints}
+use Rattle.cli_commands.specs.declared.fault.Fault.{Fault}
+use Rattle.cli_commands.specs.declared.fault.CommandError.{CommandError}
+use Rattle.cli_commands.specs.declared.fault.CommandError.TheVariants.{Fault as Told, ReadFailed, OutOfMemory}
+use Rattle.cli_commands.specs.declared.status.Status.{Status}
+use Rattle.cli_commands.specs.declared.status.Status.TheVariants.{BadInput, Failed, NoMemory}
+use Rattle.cli_commands.specs.Fault.{GivesOrFails, fault_line}
+use Rattle.cli_commands.specs.Printed.{Printed, printed}
+use Rattle.cli_commands.specs.Streams.{AppendsFront, Finishes, IsStopped, IsWantOrFailure, IsWritten, Prints}
 use Rattle.tn_cores.specs.declared.device.Device.{Device}
 use Rattle.tn_session.specs.Strikes.{Strike}
-use Rattle.term_sessions.specs.Prepare.{Prepared, ready, stops}
-use Rattle.term_sessions.specs.Printing.{Printing}
-use Rattle.term_sessions.proofs.Serving.{appends_none}
+use Rattle.cli_sessions.specs.Prepare.{Prepared, ready, stops}
+use Rattle.cli_sessions.specs.Printing.{Printing}
+use Rattle.cli_sessions.proofs.Serving.{appends_none}
 use Rattle.term3270.specs.Sessions.{AttachesNamed, HasFailed, ServesPrepared}
 
 pub if_some : {X : Type 0} {A B : X → Type 0} (known : Option X) → ((x : X) → A x → B x) → IfSome known A → IfSome known B

@@ -8,10 +8,10 @@ use Rattle.cli_maps.specs.declared.asked.Form.{Form as MapForm}
 use Rattle.cli_maps.specs.declared.asked.Form.TheVariants as map_forms
 use Rattle.cli_maps.specs.declared.asked.Rendering.{Rendering}
 use Rattle.cli_maps.specs.declared.asked.Rendering.TheVariants as renderings
-use Rattle.term_binds.specs.declared.fields.Form.{Form}
-use Rattle.term_binds.specs.declared.fields.Form.TheVariants as forms
-use Rattle.term_commands.specs.declared.output.demo.Demos.{Demos}
-use Rattle.term_commands.specs.declared.output.demo.Demos.TheVariants.{Printed, Omitted}
+use Rattle.cli_binds.specs.declared.fields.Form.{Form}
+use Rattle.cli_binds.specs.declared.fields.Form.TheVariants as forms
+use Rattle.cli_commands.specs.declared.output.demo.Demos.{Demos}
+use Rattle.cli_commands.specs.declared.output.demo.Demos.TheVariants.{Printed, Omitted}
 use Rattle.term3270.specs.declared.asked.When.{When}
 use Rattle.term3270.specs.declared.asked.When.TheVariants.{Auto, Always, Never}
 use Rattle.term3270.specs.declared.asked.KeyLines.{KeyLines}
@@ -20,13 +20,13 @@ use Rattle.term3270.specs.declared.asked.ReportForm.{ReportForm}
 use Rattle.term3270.specs.declared.asked.ReportForm.TheVariants.{Json, Sarif}
 use Rattle.term3270.specs.declared.asked.Asked.{Asked}
 use Rattle.term3270.specs.declared.asked.Asked.TheVariants.{Show, Draw, Annotate, Undrawn, Check, Report, Talk, Press, Strike, Convert, ConvertBack, Draft, Bind, Records, Serve, Attach, Map, CheckMap, RenderMap, NoLayout}
-use Rattle.term_findings.specs.declared.found.Pen.{Pen}
-use Rattle.term_findings.specs.declared.found.Pen.TheVariants as pens
-use Rattle.term_pictures.specs.declared.annotated.Annotated.{Annotated}
-use Rattle.term_pictures.specs.declared.annotated.Annotated.TheVariants as annotated
-use Rattle.term_pictures.specs.declared.drawing.Drawing.TheVariants as drawings
-use Rattle.term_traces.specs.declared.asked.Source.{Source}
-use Rattle.term_traces.specs.declared.asked.Source.TheVariants.{Trace, Stream}
+use Rattle.cli_findings.specs.declared.found.Pen.{Pen}
+use Rattle.cli_findings.specs.declared.found.Pen.TheVariants as pens
+use Rattle.cli_pictures.specs.declared.annotated.Annotated.{Annotated}
+use Rattle.cli_pictures.specs.declared.annotated.Annotated.TheVariants as annotated
+use Rattle.cli_pictures.specs.declared.drawing.Drawing.TheVariants as drawings
+use Rattle.cli_traces.specs.declared.asked.Source.{Source}
+use Rattle.cli_traces.specs.declared.asked.Source.TheVariants.{Trace, Stream}
 use Rattle.tn_traces.specs.declared.line.Side.{Side}
 use Rattle.tn_traces.specs.declared.line.Side.TheVariants.{Host, Terminal}
 

@@ -1,20 +1,20 @@
 -- What `serve` and `attach` print from their inputs on, whatever the net does.
 use Rattle.std.specs.Prelude.{◌≡◌, ◌⊎◌, ℕ, List, map, None, Result, Ok, Err}
-use Rattle.term_commands.specs.declared.fault.Fault.{Fault}
-use Rattle.term_commands.specs.declared.status.Status.{Status}
-use Rattle.term_commands.specs.declared.status.Status.TheVariants.{BadInput}
-use Rattle.term_commands.specs.Fault.{fault_line}
-use Rattle.term_commands.specs.Keys.{keys_in}
-use Rattle.term_commands.specs.Printed.{printed}
-use Rattle.term_commands.specs.Streams.{IsWantOrFailure, Prints}
-use Rattle.term_commands.specs.Strokes.{strokes_in}
+use Rattle.cli_commands.specs.declared.fault.Fault.{Fault}
+use Rattle.cli_commands.specs.declared.status.Status.{Status}
+use Rattle.cli_commands.specs.declared.status.Status.TheVariants.{BadInput}
+use Rattle.cli_commands.specs.Fault.{fault_line}
+use Rattle.cli_commands.specs.Keys.{keys_in}
+use Rattle.cli_commands.specs.Printed.{printed}
+use Rattle.cli_commands.specs.Streams.{IsWantOrFailure, Prints}
+use Rattle.cli_commands.specs.Strokes.{strokes_in}
 use Rattle.tn_cores.specs.declared.device.Device.{Device}
 use Rattle.tn_session.specs.Strikes.{Strike, by_key, by_stroke}
 use Rattle.tn_session.specs.Wire.{WireState, fresh}
-use Rattle.term_sessions.specs.Attach.{Attaches}
-use Rattle.term_sessions.specs.Prepare.{Prepared, ready, stops}
-use Rattle.term_sessions.specs.Printing.{Printing}
-use Rattle.term_sessions.specs.Serve.{ServesAnew}
+use Rattle.cli_sessions.specs.Attach.{Attaches}
+use Rattle.cli_sessions.specs.Prepare.{Prepared, ready, stops}
+use Rattle.cli_sessions.specs.Printing.{Printing}
+use Rattle.cli_sessions.specs.Serve.{ServesAnew}
 use Rattle.term3270.specs.declared.asked.KeyLines.{KeyLines}
 use Rattle.term3270.specs.declared.asked.KeyLines.TheVariants.{Keys, Strokes}
 

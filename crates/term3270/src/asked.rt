@@ -6,12 +6,12 @@ ghost use Rattle.term3270.specs.Asked.{AreDemos, AreKeyLines, AsksFor, IsCheck, 
 
 use bms_map::Control;
 use clap::ArgMatches;
+use cli_binds::Form;
+use cli_commands::Demos;
+use cli_findings::Pen;
 use cli_maps::{Form as MapForm, Rendering};
-use term_binds::Form;
-use term_commands::Demos;
-use term_findings::Pen;
-use term_pictures::{Annotated, Drawing};
-use term_traces::Source;
+use cli_pictures::{Annotated, Drawing};
+use cli_traces::Source;
 use tn_traces::Side;
 
 /// When the looks of a screen's cells are printed.

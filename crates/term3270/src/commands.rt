@@ -6,24 +6,24 @@ use crate::sessions::{run_attach, run_serve};
 use crate::stream::Named;
 use crate::tcp::Place;
 use clap::ArgMatches;
+use cli_binds::{Form, run_bind};
+use cli_commands::{
+    Demos, GivesBytes, Status, Watched, run_check, run_check_pen, run_convert, run_convert_back,
+    run_press, run_press_strokes, run_show, run_talk,
+};
+use cli_drafts::run_draft;
+use cli_findings::{Paths, Pen, Report, run_report};
 use cli_maps::{
     Asked as MapsAsked, Form as MapForm, Rendering, Report as MapReport, run_check_map, run_map,
     run_render_map,
 };
+use cli_pictures::{Annotated, Drawing, run_annotated, run_picture};
+use cli_sessions::Output;
+use cli_traces::{Asked, Source, run_records};
 use std::alloc::AllocError;
 use std::env;
 use std::env::VarError;
 use std::io::{IsTerminal, Stdin, Stdout};
-use term_binds::{Form, run_bind};
-use term_commands::{
-    Demos, GivesBytes, Status, Watched, run_check, run_check_pen, run_convert, run_convert_back,
-    run_press, run_press_strokes, run_show, run_talk,
-};
-use term_drafts::run_draft;
-use term_findings::{Paths, Pen, Report, run_report};
-use term_pictures::{Annotated, Drawing, run_annotated, run_picture};
-use term_sessions::Output;
-use term_traces::{Asked, Source, run_records};
 use tn_traces::Side;
 
 /// A stream, and what people call it.

@@ -17,10 +17,10 @@ use crate::tcp::Place;
 use bms_map::Control;
 use clap::ArgMatches;
 use clap::error::ErrorKind;
+use cli_commands::{Status, failure};
 use cli_maps::Asked as MapsAsked;
 use std::process::ExitCode;
 use std::{env, io};
-use term_commands::{Status, failure};
 
 /// The maps of this name, or all, and what SEND MAP adds.
 fn maps_asked(name: Option<&str>, control: Control) -> MapsAsked<'_> {

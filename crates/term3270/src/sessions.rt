@@ -2,20 +2,20 @@
 
 ghost use Rattle.std.specs.Prelude.{◌≡◌, ◌⊎◌, map, IfSome, None, Some};
 ghost use Rattle.tn_cores.specs.declared.device.Device.{Device};
-ghost use Rattle.term_commands.specs.declared.status.Status.TheVariants.{BadInput};
-ghost use Rattle.term_commands.specs.Held.{records_held};
-ghost use Rattle.term_commands.specs.Keys.{keys_in};
-ghost use Rattle.term_commands.specs.Strokes.{strokes_in};
+ghost use Rattle.cli_commands.specs.declared.status.Status.TheVariants.{BadInput};
+ghost use Rattle.cli_commands.specs.Held.{records_held};
+ghost use Rattle.cli_commands.specs.Keys.{keys_in};
+ghost use Rattle.cli_commands.specs.Strokes.{strokes_in};
 ghost use Rattle.tn_cores.specs.Devices.{device_of};
 ghost use Rattle.tn_session.specs.Strikes.{by_key, by_stroke};
-ghost use Rattle.term_sessions.specs.Prepare.{prepare};
-ghost use Rattle.term_sessions.specs.Serve.{ServesAnew};
+ghost use Rattle.cli_sessions.specs.Prepare.{prepare};
+ghost use Rattle.cli_sessions.specs.Serve.{ServesAnew};
 ghost use Rattle.term3270.specs.Sessions.{AttachesLines, AttachesNamed, AttachesSocket, HasFailed, ServesPrepared};
 
 use crate::asked::KeyLines;
 use crate::tcp::{Listening, Place, TcpLine};
-use term_commands::{GivesBytes, Status, TakesBytes, finish, read_keys, read_strokes};
-use term_sessions::{Output, Prepared, Screen, Visits, attach_on, prepare_serve, serve_on};
+use cli_commands::{GivesBytes, Status, TakesBytes, finish, read_keys, read_strokes};
+use cli_sessions::{Output, Prepared, Screen, Visits, attach_on, prepare_serve, serve_on};
 use tn_session::{Device, Keystroke};
 
 /// Serves a layout's screen at a place to so many terminals. The port is bound once the screen is found fit.

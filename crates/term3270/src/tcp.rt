@@ -1,11 +1,11 @@
 //! Lines over TCP.
 
+use cli_commands::{Status, failure};
+use cli_sessions::Terminals;
 use std::alloc::Global;
 use std::io;
 use std::io::{BufWriter, Read, Write};
 use std::net::{TcpListener, TcpStream};
-use term_commands::{Status, failure};
-use term_sessions::Terminals;
 
 /// How many bytes are gathered before they go out.
 const MOST_GATHERED: usize = 65_536;
@@ -60,7 +60,7 @@ pub(crate) struct Place<'a> {
 impl Place<'_> {
     ghost use Rattle.std.specs.Prelude.{◌≡◌};
     ghost use Rattle.std.specs.IoError.{error_kind};
-    ghost use Rattle.term_commands.specs.Streams.{failure_of, IsWantOrFailure};
+    ghost use Rattle.cli_commands.specs.Streams.{failure_of, IsWantOrFailure};
 
     /// Says on standard error what failed there and why, and gives the status.
     pub(crate) fn report(self, rt: &HostRuntime, error: &io::Error) -> Status

@@ -1,6 +1,6 @@
 use Rattle.std.proofs.Common.{subst}
 use Rattle.std.specs.Result.{IfOk}
-use Rattle.term_traces.specs.Told.{TellsRecords}
+use Rattle.cli_traces.specs.Told.{TellsRecords}
 use Rattle.takvorn_c.specs.Left.{asked_of}
 use Rattle.takvorn_c.proofs.records_left.Goals as goal
 

@@ -1,8 +1,8 @@
 use Rattle.std.specs.Prelude.{ℕ, List}
 use Rattle.std.specs.Borrow.{Bor}
-use Rattle.term_commands.specs.Lines.{within_limit}
+use Rattle.cli_commands.specs.Lines.{within_limit}
 use Rattle.cli_maps.specs.Asked.{name_in, report_seen}
-use Rattle.term_commands.specs.Held.{answer_seen}
+use Rattle.cli_commands.specs.Held.{answer_seen}
 use Rattle.cli_maps.specs.Printed.{check_told}
 use Rattle.cli_maps.proofs.Read.{goes, stops}
 use Rattle.cli_maps.proofs.checking.check_limited.Goals as goal

@@ -1,5 +1,5 @@
-use Rattle.term_commands.proofs.Answered.{finished}
-use Rattle.term_commands.proofs.Causes.{ends_known}
+use Rattle.cli_commands.proofs.Answered.{finished}
+use Rattle.cli_commands.proofs.Causes.{ends_known}
 use Rattle.cli_maps.specs.Asked.{name_in, report_seen}
 use Rattle.cli_maps.specs.Printed.{check_source}
 use Rattle.cli_maps.proofs.checking.run_check_map.Goals as goal

@@ -1,6 +1,6 @@
 use Rattle.std.proofs.Common.{◌++◌, List, ℕ, ap, ◌∙◌}
 use Rattle.std.specs.String.{string_bytes}
-use Rattle.term_commands.specs.Held.{answer_seen}
+use Rattle.cli_commands.specs.Held.{answer_seen}
 use Rattle.cli_maps.specs.Told.{all_told, told_by}
 use Rattle.cli_maps.proofs.Folds.{told_next}
 use Rattle.cli_maps.proofs.each.all_told.Goals as goal

@@ -1,6 +1,6 @@
 use Rattle.std.proofs.Common.{◌≡◌, drop}
 use Rattle.std.specs.String.{string_bytes}
-use Rattle.term_commands.specs.Printed.{printed}
+use Rattle.cli_commands.specs.Printed.{printed}
 use Rattle.cli_maps.specs.Told.{all_told, told_by}
 use Rattle.cli_maps.proofs.Folds.{after}
 use Rattle.cli_maps.proofs.each.all_told.Given as goal

@@ -1,7 +1,7 @@
 use Rattle.std.proofs.Common.{ℕ, List, subst}
 use Rattle.ds_codec.specs.Reading.{◌>>=◌}
-use Rattle.term_commands.specs.Fault.{Gives}
-use Rattle.term_commands.specs.Held.{answer_seen}
+use Rattle.cli_commands.specs.Fault.{Gives}
+use Rattle.cli_commands.specs.Held.{answer_seen}
 use Rattle.cli_maps.specs.Asked.{name_in}
 use Rattle.cli_maps.specs.Printed.{map_source, map_told}
 use Rattle.cli_maps.proofs.Read.{read_fails, read_on}

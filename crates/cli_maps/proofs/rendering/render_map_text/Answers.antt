@@ -1,8 +1,8 @@
 use Rattle.std.specs.Prelude.{ℕ, List}
 use Rattle.std.specs.Borrow.{Bor}
-use Rattle.term_commands.specs.Lines.{within_limit}
+use Rattle.cli_commands.specs.Lines.{within_limit}
 use Rattle.cli_maps.specs.Asked.{name_in}
-use Rattle.term_commands.specs.Held.{answer_seen}
+use Rattle.cli_commands.specs.Held.{answer_seen}
 use Rattle.cli_maps.specs.Printed.{render_told}
 use Rattle.cli_maps.proofs.Read.{goes, stops}
 use Rattle.cli_maps.proofs.rendering.render_map_text.Goals as goal

@@ -1,5 +1,5 @@
-use Rattle.term_commands.proofs.Answered.{finished}
-use Rattle.term_commands.proofs.Causes.{ends_known}
+use Rattle.cli_commands.proofs.Answered.{finished}
+use Rattle.cli_commands.proofs.Causes.{ends_known}
 use Rattle.cli_maps.specs.Asked.{name_in}
 use Rattle.cli_maps.specs.Printed.{render_source}
 use Rattle.cli_maps.proofs.rendering.run_render_map.Goals as goal

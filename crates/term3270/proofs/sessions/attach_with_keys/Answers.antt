@@ -1,5 +1,5 @@
-use Rattle.term_commands.specs.Held.{keys_seen}
-use Rattle.term_commands.specs.Keys.{keys_in}
+use Rattle.cli_commands.specs.Held.{keys_seen}
+use Rattle.cli_commands.specs.Keys.{keys_in}
 use Rattle.tn_session.specs.Strikes.{by_key}
 use Rattle.term3270.proofs.Ended.{if_some, attach_ends}
 use Rattle.term3270.proofs.sessions.attach_with_keys.Goals as goal

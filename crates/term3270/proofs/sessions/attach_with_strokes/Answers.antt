@@ -1,5 +1,5 @@
-use Rattle.term_commands.specs.Held.{strokes_seen}
-use Rattle.term_commands.specs.Strokes.{strokes_in}
+use Rattle.cli_commands.specs.Held.{strokes_seen}
+use Rattle.cli_commands.specs.Strokes.{strokes_in}
 use Rattle.tn_session.specs.Strikes.{by_stroke}
 use Rattle.term3270.proofs.Ended.{if_some, attach_ends}
 use Rattle.term3270.proofs.sessions.attach_with_strokes.Goals as goal

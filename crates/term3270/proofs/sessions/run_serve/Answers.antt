@@ -1,5 +1,5 @@
-use Rattle.term_sessions.specs.Held.{prepared_seen}
-use Rattle.term_sessions.specs.Prepare.{prepare}
+use Rattle.cli_sessions.specs.Held.{prepared_seen}
+use Rattle.cli_sessions.specs.Prepare.{prepare}
 use Rattle.term3270.proofs.Ended.{if_some, serve_ends}
 use Rattle.term3270.proofs.sessions.run_serve.Goals as goal
 

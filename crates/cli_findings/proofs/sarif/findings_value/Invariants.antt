@@ -1,0 +1,9 @@
+use Rattle.std.proofs.Common.{◌≡◌, ◌++◌, map, drop}
+use Rattle.serde_json.specs.View.{view}
+use Rattle.cli_findings.specs.Sarif.{finding_result}
+use Rattle.cli_findings.proofs.sarif.findings_value.Given as goal
+
+abbrev pub invariant-loop-finding : goal.invariant-loop-finding
+invariant-loop-finding l =
+    map view l.values.items ++ map (finding_result l.path l.layout l.standing) (drop l.finding-index l.findings)
+    ≡ map (finding_result l.fn.path l.fn.layout l.fn.standing) l.fn.findings

@@ -1,0 +1,8 @@
+use Rattle.std.specs.String.{string_bytes}
+use Rattle.cli_commands.proofs.Rows.{one_more}
+use Rattle.cli_pictures.specs.Svg.{line_at}
+use Rattle.cli_pictures.proofs.svg.push_lines.Goals as goal
+
+pub loop-p-preserved : goal.loop-p-preserved
+loop-p-preserved c =
+    one_more (line_at c.args.screen.now) c.loop-p.p (string_bytes c.args.out.now) (string_bytes c.loop-p.out) _ c.loop-p.invariant c.in_ok-push_line_at.ensures

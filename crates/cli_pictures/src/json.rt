@@ -1,0 +1,156 @@
+//! A screen as one line of JSON.
+
+ghost use Rattle.std.specs.Prelude.{◌≡◌, ◌<◌, ◌++◌, map, IfOk, OnOk, string_bytes};
+ghost use Rattle.std.specs.List.{range_with_len};
+ghost use Rattle.order_lines.specs.Print.{hex_byte};
+ghost use Rattle.serde_json.specs.Data.{string};
+ghost use Rattle.serde_json.specs.View.{view};
+ghost use Rattle.cli_commands.specs.Screen.{lock_word};
+ghost use Rattle.cli_pictures.specs.Seen.{is_numeric};
+ghost use Rattle.cli_pictures.specs.Json.{field_data, fields_data, row_data, rows_data, screen_data, json_text, json_line};
+
+use crate::seen::is_intensified;
+use cli_commands::lock_word;
+use ds_codec::{Attr, Size};
+use ds_screen::{FieldAt, Lock, PlaneCells, Screen};
+use order_lines::push_hex;
+use serde_json::{Map, Value, put};
+use std::alloc::{AllocError, Global};
+
+/// Whether digits alone are to be typed.
+fn is_numeric(attr: Attr) -> bool
+    ensures { result ≡ is_numeric attr }
+{
+    attr.bits() / 0x10 % 2 == 1
+}
+
+/// Two hexadecimal digits.
+fn hex_value(alloc: Global, byte: u8) -> Result<Value, AllocError>
+    ensures { IfOk result (λ value. view value ≡ string (hex_byte byte)) }
+{
+    let mut text = String::new(alloc);
+    push_hex(&mut text, byte)?;
+    Ok(Value::String(text))
+}
+
+fn field_value(alloc: Global, field: FieldAt) -> Result<Value, AllocError>
+    ensures { IfOk result (λ value. view value ≡ field_data field) }
+{
+    let attr = field.attr;
+    let mut members = Map::new(alloc);
+    put(&mut members, alloc, "at", Value::from(field.at))?;
+    put(
+        &mut members,
+        alloc,
+        "attribute",
+        hex_value(alloc, attr.bits())?,
+    )?;
+    put(&mut members, alloc, "hidden", Value::from(attr.hidden()))?;
+    put(
+        &mut members,
+        alloc,
+        "intensified",
+        Value::from(is_intensified(attr)),
+    )?;
+    put(&mut members, alloc, "length", Value::from(field.length))?;
+    put(
+        &mut members,
+        alloc,
+        "modified",
+        Value::from(attr.modified()),
+    )?;
+    put(
+        &mut members,
+        alloc,
+        "numeric",
+        Value::from(is_numeric(attr)),
+    )?;
+    put(&mut members, alloc, "place", Value::from(field.place))?;
+    put(
+        &mut members,
+        alloc,
+        "protected",
+        Value::from(attr.protected()),
+    )?;
+    Ok(Value::Object(members))
+}
+
+fn fields_value(alloc: Global, screen: &Screen<PlaneCells>) -> Result<Value, AllocError>
+    ensures { IfOk result (λ value. view value ≡ fields_data screen.now) }
+{
+    let mut fields = Vec::new(alloc);
+    for field in screen.fields() {
+        fields.push(field_value(alloc, field)?)?;
+    }
+    Ok(Value::Array(fields))
+}
+
+fn row_value(alloc: Global, screen: &Screen<PlaneCells>, row: u16) -> Result<Value, AllocError>
+    requires { row < screen.now.size.rows }
+    ensures { IfOk result (λ value. view value ≡ row_data screen.now row) }
+{
+    Ok(Value::String(screen.shown_row(alloc, row)?))
+}
+
+fn rows_value(alloc: Global, screen: &Screen<PlaneCells>) -> Result<Value, AllocError>
+    ensures { IfOk result (λ value. view value ≡ rows_data screen.now) }
+{
+    let mut rows = Vec::new(alloc);
+    for row in 0..screen.size().rows {
+        rows.push(row_value(alloc, screen, row)?)?;
+    }
+    Ok(Value::Array(rows))
+}
+
+fn keyboard_value(alloc: Global, lock: Lock) -> Result<Value, AllocError>
+    ensures { IfOk result (λ value. view value ≡ string (lock_word lock)) }
+{
+    Ok(Value::String(String::from_str(alloc, lock_word(lock))?))
+}
+
+#[tactic(auto, unfolding(crate::specs::Json::screen_data))]
+fn screen_value(alloc: Global, screen: &Screen<PlaneCells>) -> Result<Value, AllocError>
+    ensures { IfOk result (λ value. view value ≡ screen_data screen.now) }
+{
+    let Size { rows, cols } = screen.size();
+    let mut members = Map::new(alloc);
+    put(
+        &mut members,
+        alloc,
+        "aid",
+        hex_value(alloc, screen.aid().byte())?,
+    )?;
+    put(&mut members, alloc, "columns", Value::from(cols))?;
+    put(&mut members, alloc, "cursor", Value::from(screen.cursor()))?;
+    put(&mut members, alloc, "fields", fields_value(alloc, screen)?)?;
+    put(
+        &mut members,
+        alloc,
+        "keyboard",
+        keyboard_value(alloc, screen.lock())?,
+    )?;
+    put(&mut members, alloc, "rows", Value::from(rows))?;
+    put(&mut members, alloc, "text", rows_value(alloc, screen)?)?;
+    Ok(Value::Object(members))
+}
+
+/// The text of a screen's value.
+fn json_text(alloc: Global, screen: &Screen<PlaneCells>) -> Result<String, AllocError>
+    ensures { IfOk result (λ text. string_bytes text ≡ json_text screen.now) }
+{
+    let value = screen_value(alloc, screen)?;
+    value.to_string(alloc)
+}
+
+/// The line of a screen.
+pub(crate) fn push_json(
+    alloc: Global,
+    out: &mut String,
+    screen: &Screen<PlaneCells>,
+) -> Result<(), AllocError>
+    ensures { OnOk result (string_bytes out.new ≡ string_bytes out.old ++ json_line screen.now) }
+{
+    let text = json_text(alloc, screen)?;
+    out.push_str(text.as_str())?;
+    out.push_str("\n")
+}

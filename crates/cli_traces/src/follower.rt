@@ -1,0 +1,99 @@
+//! A connection: the streams of both sides, and what is known beside them.
+
+ghost use Rattle.std.specs.Prelude.{◌≡◌, ◌++◌, length, IfOk, OnOk};
+ghost use Rattle.std.specs.String.{string_bytes};
+ghost use Rattle.tn_wire.specs.Stream.{Told};
+ghost use Rattle.cli_traces.specs.Following.{connection, open_of};
+ghost use Rattle.cli_traces.specs.Held.{following_seen, IsReady, TakesSide};
+ghost use Rattle.cli_traces.specs.Reading.{event_log};
+ghost use Rattle.cli_traces.specs.Taking.{TakesPiece};
+
+use crate::piece::{Reading, Task, take_piece};
+use std::alloc::{AllocError, Global};
+use tn_session::RunFault;
+use tn_traces::{Negotiated, Side};
+use tn_wire::Deframer;
+
+/// The streams of a connection.
+#[derive(Drop)]
+pub(crate) struct Follower {
+    host: Deframer,
+    terminal: Deframer,
+    /// The bytes that are open of each side's stream, as they came.
+    host_count: usize,
+    terminal_count: usize,
+    reading: Reading,
+}
+
+impl Follower {
+    /// The beginning of a connection, after so many records that were printed as lines.
+    pub(crate) fn new(alloc: Global, count: u64) -> Result<Follower, AllocError>
+        ensures begins { IfOk result (λ follower. following_seen follower ≡ connection count) }
+        ensures ready { IfOk result IsReady }
+    {
+        Ok(Follower {
+            host: Deframer::new(alloc)?,
+            terminal: Deframer::new(alloc)?,
+            host_count: 0,
+            terminal_count: 0,
+            reading: Reading {
+                now: Negotiated::Classic,
+                count,
+            },
+        })
+    }
+
+    /// Begins the next connection.
+    pub(crate) fn reconnect(&mut self, alloc: Global) -> Result<(), AllocError>
+        ensures begins { OnOk result
+            (following_seen self.new ≡ connection self.old.reading.count) }
+        ensures ready { OnOk result (IsReady self.new) }
+    {
+        *self = Follower::new(alloc, self.reading.count)?;
+        Ok(())
+    }
+
+    /// Takes a piece of what a side sent.
+    pub(crate) fn take(
+        &mut self,
+        task: Task,
+        side: Side,
+        piece: &[u8],
+        out: &mut String,
+    ) -> Result<(), RunFault>
+        requires ready { IsReady self.old }
+        ensures taken { TakesSide task side (following_seen self.old) piece.now
+            (string_bytes out.old) result (following_seen self.new) (string_bytes out.new) }
+        ensures ready { OnOk result (IsReady self.new) }
+    {
+        match side {
+            Side::Host => take_piece(
+                task,
+                &mut self.host,
+                &mut self.host_count,
+                &mut self.reading,
+                out,
+                piece,
+            ),
+            Side::Terminal => take_piece(
+                task,
+                &mut self.terminal,
+                &mut self.terminal_count,
+                &mut self.reading,
+                out,
+                piece,
+            ),
+        }
+    }
+
+    /// The bytes that are open of a side's stream, as they came.
+    pub(crate) fn open_count(&self, side: Side) -> usize
+        requires { IsReady self.now }
+        ensures { result ≡ length (open_of side (following_seen self.now)) }
+    {
+        match side {
+            Side::Host => self.host_count,
+            Side::Terminal => self.terminal_count,
+        }
+    }
+}

@@ -1,8 +1,0 @@
-use Rattle.term_commands.specs.Held.{checking_seen}
-use Rattle.term_commands.specs.Records.{take_record}
-use Rattle.term_commands.specs.Taking.{beside}
-use Rattle.term_commands.proofs.Taking.{gives_taken}
-use Rattle.term_commands.proofs.input.checking.take_added.Goals as goal
-
-pub returns : goal.returns
-returns c = gives_taken checking_seen (beside take_record) 1 c.args.none _ c.take_lines.result c.take_lines.ensures

@@ -1,5 +1,0 @@
-use Rattle.term_commands.proofs.Converted.{converts_back}
-use Rattle.term_commands.proofs.law.convert_law.Goals as goal
-
-pub returns : goal.returns
-returns c = converts_back

@@ -1,5 +1,0 @@
-use Rattle.term_commands.proofs.OwnStrokes.{own_strokes_leave, own_strokes_are_promised}
-use Rattle.term_commands.proofs.law.own_strokes_law.Goals as goal
-
-pub returns : goal.returns
-returns c = record { strokes = own_strokes_leave; promised = own_strokes_are_promised }

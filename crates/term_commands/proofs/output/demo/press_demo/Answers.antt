@@ -1,7 +1,0 @@
-use Rattle.term_commands.proofs.DemoKeys.{demo_pressed}
-use Rattle.term_commands.proofs.output.demo.press_demo.Goals as goal
-
-pub returns : goal.returns
-returns c =
-    demo_pressed c.args.terminal.now c.press_times.new.terminal c.press_times-2.new.terminal c.press_times-3.new.terminal c.args.demo
-    c.in_ok-press_times.ensures c.in_ok-press_times-2.ensures (rw c.enter.ensures at c.in_ok-press_times-3.ensures)

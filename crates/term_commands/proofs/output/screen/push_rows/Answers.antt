@@ -1,7 +1,0 @@
-use Rattle.std.specs.String.{string_bytes}
-use Rattle.term_commands.specs.Screen.{row_line}
-use Rattle.term_commands.proofs.Rows.{one_more}
-use Rattle.term_commands.proofs.output.screen.push_rows.Goals as goal
-
-pub loop-row-preserved : goal.loop-row-preserved
-loop-row-preserved c = one_more (row_line c.args.screen.now) c.loop-row.row (string_bytes c.args.out.now) (string_bytes c.loop-row.out) _ c.loop-row.invariant c.in_ok-push_row.ensures

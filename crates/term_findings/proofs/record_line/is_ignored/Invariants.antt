@@ -1,6 +1,0 @@
-use Rattle.std.proofs.Common.{◌≡◌, drop}
-use Rattle.term_commands.specs.Records.{without_spaces}
-use Rattle.term_findings.proofs.record_line.is_ignored.Given as goal
-
-abbrev pub invariant-loop-byte : goal.invariant-loop-byte
-invariant-loop-byte l = without_spaces (drop l.byte-index l.line) ≡ without_spaces l.line

@@ -1,6 +1,0 @@
-use Rattle.std.proofs.Common.{◌∙◌, sym}
-use Rattle.term_findings.proofs.Slashes.{of_short}
-use Rattle.term_findings.proofs.uri.one_slash.Goals as goal
-
-pub returns-in_default : goal.returns-in_default
-returns-in_default c = sym (of_short c.loop-rest.rest.now c.in_default.len_below) ∙ c.loop-rest.invariant

@@ -1,8 +1,0 @@
-use Rattle.std.proofs.Common.{◌≡◌, map}
-use Rattle.std.specs.List.{range_with_len}
-use Rattle.serde_json.specs.View.{view}
-use Rattle.term_pictures.specs.Json.{row_data}
-use Rattle.term_pictures.proofs.json.rows_value.Given as goal
-
-abbrev pub invariant-loop-row : goal.invariant-loop-row
-invariant-loop-row l = map view l.rows.items ≡ map (row_data l.screen) (range_with_len 0 l.row)

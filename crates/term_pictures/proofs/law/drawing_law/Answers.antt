@@ -1,5 +1,0 @@
-use Rattle.term_pictures.proofs.CountLaws.{draws_seen}
-use Rattle.term_pictures.proofs.law.drawing_law.Goals as goal
-
-pub returns : goal.returns
-returns c = draws_seen

@@ -1,5 +1,0 @@
-use Rattle.term_pictures.proofs.LookLaws.{rows_are_shown}
-use Rattle.term_pictures.proofs.law.looks_law.Goals as goal
-
-pub returns : goal.returns
-returns c = rows_are_shown

@@ -1,5 +1,0 @@
-use Rattle.term_pictures.proofs.NameLaws.{names_each}
-use Rattle.term_pictures.proofs.law.names_law.Goals as goal
-
-pub returns : goal.returns
-returns c = names_each

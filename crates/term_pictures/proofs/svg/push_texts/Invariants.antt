@@ -1,8 +1,0 @@
-use Rattle.std.proofs.Common.{◌≡◌, ◌++◌}
-use Rattle.std.specs.String.{string_bytes}
-use Rattle.std.specs.List.{flat_map, range_with_len}
-use Rattle.term_pictures.specs.Svg.{text_at}
-use Rattle.term_pictures.proofs.svg.push_texts.Given as goal
-
-abbrev pub invariant-loop-p : goal.invariant-loop-p
-invariant-loop-p l = string_bytes l.out ≡ string_bytes l.fn.out ++ flat_map (text_at l.screen) (range_with_len 0 l.p)

@@ -1,5 +1,0 @@
-use Rattle.term_traces.proofs.Cuts.{pieces_add_whole, adds_one_text, cuts_agree}
-use Rattle.term_traces.proofs.law.pieces_law.Goals as goal
-
-pub returns : goal.returns
-returns c = record { whole = pieces_add_whole; one = adds_one_text; cuts = cuts_agree }
