@@ -68,8 +68,8 @@ class Takvorn:
         return run.stdout
 
     def session(self, case):
-        """A session byte by byte, and the fault that `attach` prints where it ends the session."""
-        self.keep(case["keys"])
+        """A session byte by byte, and the fault that `attach` prints where it ends the session. It ends with its last key: one more is kept back."""
+        self.keep([*case["keys"], "reset"])
         words = [self.program, "attach", "127.0.0.1", self.keys, "--port", str(self.host.port), "--device", case["device"]]
         run = subprocess.Popen(words, stdout=subprocess.PIPE, text=True)
         try:

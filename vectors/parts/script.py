@@ -4,8 +4,8 @@ USUAL = "24x80 24x80"
 
 
 class Script:
-    """The cases of one file. `rule` and `source` hold for the cases that come after; a source is a chapter of GA23-0059, a section of
-    an RFC, or "own". What `paper` tells of a case was worked out by hand, beside it: a cell's code, an attribute, the cursor, ..,
+    """The cases of one file. `rule` and `source` hold for the cases that come after; a rule is a heading or the first cell of a row of
+    docs/PROFILE.md, to which `make` adds the refusal; a source is a chapter of GA23-0059, a section of an RFC, or "own". What `paper` tells of a case was worked out by hand, beside it: a cell's code, an attribute, the cursor, ..,
     and what the program says must be the same."""
 
     def __init__(self, name):
@@ -17,7 +17,7 @@ class Script:
         self.rule, self.source = rule, source
 
     def case(self, name, says, *records, keys=(), then=(), size=USUAL, source=None, paper=None):
-        case = {"id": f"{self.name}/{name}", "says": says, "rule": self.rule, "source": source or self.source, "size": size}
+        case = {"id": f"{self.name}/{name}", "says": says, "rules": [self.rule], "source": source or self.source, "size": size}
         case["records"] = [it.hex().upper() for it in records]
         case["keys"] = [*keys]
         if then:
@@ -26,7 +26,7 @@ class Script:
 
     def session(self, name, says, *pieces, device="IBM-3278-2", keys=("enter",), source=None, paper=None):
         """A session byte by byte: what the host sends, piece by piece."""
-        case = {"id": f"{self.name}/{name}", "says": says, "rule": self.rule, "source": source or self.source, "device": device}
+        case = {"id": f"{self.name}/{name}", "says": says, "rules": [self.rule], "source": source or self.source, "device": device}
         case["keys"] = [*keys]
         case["host"] = [it.hex().upper() for it in pieces]
         self.add(case, paper)

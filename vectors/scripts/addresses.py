@@ -67,7 +67,7 @@ def write_at(order):
 
 
 def limits(script):
-    script.of("A1 AddressOutside", "Buffer addressing")
+    script.of("Set Buffer Address", "Buffer addressing")
     # 5D 7F is 29 * 64 + 63 = 1919, 5E 40 is 30 * 64 = 1920, the number of cells.
     script.case("last-24x80", "the last position of 24x80 is 1919", at(bytes.fromhex("5D7F")), paper={"at": {1919: "C1"}, "cursor": 0})
     for order, name in ((SBA, "Set Buffer Address"), (RA, "Repeat to Address"), (EUA, "Erase Unprotected to Address")):

@@ -77,16 +77,16 @@ def reads(script):
     script.case("buffer-after-key", "Read Buffer after Enter has its identifier, and what was typed", erase_write(sf(0x00), text(" "), sf(0x20), sba(1), ic), keys=[*typed("A"), "enter"], then=[buffer],
                 paper={"answers": ["7D40C31140C1C1", "7D40C3" + "1DC1C1" + "1D60" + "00" * 1917]})
     script.case("buffer-unformatted", "Read Buffer without attributes sends every cell", erase_write(text("AB"), sba(1919), text("Z"), wcc=0xC0), buffer, paper={"answers": ["604040C1C2" + "00" * 1917 + "E9"]})
-    for code in (0x02, 0x06, 0x0E):
-        script.case(f"channel-{code:02X}", f"the read {code:02X} of the channel form is answered as its SNA form", erase_write(*FORM, wcc=0xC0), bytes([code]))
+    for code, name in ((0x02, "Read Buffer"), (0x06, "Read Modified"), (0x0E, "Read Modified All")):
+        script.case(f"channel-{code:02X}", f"{name} in its channel form, {code:02X}, is answered as in its SNA form", erase_write(*FORM, wcc=0xC0), bytes([code]))
 
 
 def locks(script):
     script.of("any key while the keyboard waits", "Keyboard")
-    shut = erase_write(sf(0x00), text("AB"), sf(0x20), sba(1), ic, wcc=0xC0)
+    shut = erase_write(sf(0x00), text("AB"), sf(0x20), sba(1), ic)
     for key in ("left", "right", "up", "down", "tab", "backtab", "newline", "home", "eraseeof", "eraseinput", "delete", "type C1", "enter", "pf1", "pa1", "clear"):
-        script.case(f"waits-{key.replace(' ', '-')}", f"{key} is ignored while the keyboard waits", shut, keys=[key], source="own",
-                    paper={"cursor": 1, "keyboard": "waiting", "answers": [], "at": {0: "--C1C2--"}, "aid": "60"})
+        script.case(f"waits-{key.replace(' ', '-')}", f"after Enter {key} is ignored while the keyboard waits", shut, keys=["enter", key], source="own",
+                    paper={"cursor": 1, "keyboard": "waiting", "answers": ["7D40C1"], "at": {0: "--C1C2--"}, "aid": "7D"})
     script.of("any key but Reset after an error", "Keyboard")
     free = erase_write(sf(0x20), text("AB"), sf(0x00), text("C"), sf(0x20), sba(1), ic)
     for key in ("left", "right", "up", "down", "tab", "backtab", "newline", "home", "eraseeof", "eraseinput", "delete", "type C1", "enter", "pf1", "pa1", "clear"):
@@ -95,9 +95,10 @@ def locks(script):
     script.of("Reset", "Keyboard")
     script.case("reset-error", "Reset after an error frees the keyboard", free, keys=["type E9", "reset"], paper={"keyboard": "free", "cursor": 1})
     script.case("reset-free", "Reset on a free keyboard changes nothing", free, keys=["reset"], source="own", paper={"keyboard": "free", "cursor": 1})
-    script.case("reset-waits", "Reset while the keyboard waits for the host is ignored", shut, keys=["reset"], source="own", paper={"keyboard": "waiting"})
+    script.case("reset-waits", "Reset on a new terminal, whose keyboard waits for the host, is ignored", erase_write(text("A"), wcc=0xC0), keys=["reset"], source="own", paper={"keyboard": "waiting"})
     script.case("reset-after-enter", "Reset after Enter is ignored: the host has to free the keyboard", free, keys=["enter", "reset"], source="own", paper={"keyboard": "waiting", "aid": "7D"})
     script.case("reset-then-key", "after Reset keys act again", free, keys=["type E9", "reset", "tab", "type E8"], paper={"at": {4: "E8"}, "keyboard": "free"})
     script.of("any key while the keyboard waits", "Keyboard")
+    script.case("new-terminal", "the keyboard of a new terminal waits until a record frees it", erase_write(text("A"), wcc=0xC0), source="own", paper={"keyboard": "waiting", "aid": "60"})
     script.case("after-enter", "after Enter keys are ignored until the host frees the keyboard", free, keys=["enter", "right", "enter"], source="own", paper={"cursor": 1, "answers": ["7D40C1"]})
     script.case("freed-again", "once the host frees the keyboard a new screen is there to type into", free, keys=["enter"], then=[write_record(sba(4), ic, wcc=0xC2)], paper={"keyboard": "free", "cursor": 4})

@@ -23,13 +23,13 @@ def bits(script):
 
 def bytes_of(script):
     script.of("Field attributes", "Field attributes")
-    for value in (0x00, 0x0D, 0x20, 0x3F, 0x80, 0x8D, 0xA0, 0xBF, 0xC0, 0x60 + 0x0D, 0xED, 0xFF):
+    for value in (0x00, 0x0D, 0x20, 0x3F, 0x80, 0x8D, 0xA0, 0xBF, 0xC0, 0xED, 0xFF):
         script.case(f"byte-{value:02X}", f"of an attribute's byte {value:02X} only the low six bits count", erase_write(sba(2), bytes([SF, value]), text("A")),
                     paper={"attributes": {"2": f"{value & 0x3F:02X}"}})
 
 
 def typing(script):
-    script.of("a character", "Keyboard")
+    script.of("a character, 40 to FE", "Keyboard")
     for kind, name in SAYS.items():
         for look, how in LOOKS.items():
             for tag in (0, 1):

@@ -22,6 +22,8 @@ def codes(script):
         for code in both:
             body = b"\xc0" + sba(1) + text("X") if name in ("Write", "Erase/Write", "Erase/Write Alternate") else b""
             form = "channel" if code < 0x40 and len(both) > 1 else "SNA" if len(both) > 1 else "only"
+            if name.startswith("Read "):
+                continue
             script.case(f"code-{code:02X}", f"{code:02X} is {name} in its {form} form", erase_write(*FORM, wcc=0xC0), bytes([code]) + body)
     for code in sorted({it + step for it in KNOWN for step in (-1, 1)} - KNOWN | {0x40, 0x7D, 0x80, 0xFF}):
         script.case(f"no-command-{code:02X}", f"a record that begins with {code:02X} has no command, and is refused", erase_write(text("OLD")), bytes([code, 0xC2]) + text("X"),

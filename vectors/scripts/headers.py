@@ -46,10 +46,13 @@ def responses(script):
     after_ready(script, "errors-good", "a record that wants a response to errors alone gets none where it is taken", record("0000010005"), replies=["0000000000" + ANSWER + "FFEF"])
     after_ready(script, "none-good", "a record that wants no response gets none", record("0000000005", SHUT), replies=[""])
     for flag in ("01", "02"):
+        script.of("a terminal responds", "RFC 2355, section 10.4")
         says = "to errors alone" if flag == "01" else "always"
         after_ready(script, f"unknown-command-{flag}", f"a record with an unknown command that wants a response {says} gets COMMAND-REJECT", record(f"0000{flag}0007", "F4C2"), replies=["020001000700FFEF"])
         after_ready(script, f"structured-{flag}", f"a Write Structured Field that wants a response {says} gets COMMAND-REJECT", record(f"0000{flag}0007", "F3"), replies=["020001000700FFEF"])
+        script.of("O1 Empty", "RFC 2355, section 10.4")
         after_ready(script, f"empty-{flag}", f"a record without a byte that wants a response {says} gets COMMAND-REJECT", record(f"0000{flag}0007", ""), replies=["020001000700FFEF"])
+        script.of("a terminal responds", "RFC 2355, section 10.4")
         after_ready(script, f"bad-order-{flag}", f"a record with an unknown order that wants a response {says} gets OPERATION-CHECK", record(f"0000{flag}0007", "F5C201"), replies=["020001000702FFEF"])
         after_ready(script, f"outside-{flag}", f"a record with an address outside that wants a response {says} gets OPERATION-CHECK", record(f"0000{flag}0007", "F5C2115E40"), replies=["020001000702FFEF"])
         after_ready(script, f"cut-{flag}", f"a record with an order that is cut and that wants a response {says} gets OPERATION-CHECK", record(f"0000{flag}0007", "F5C21140"), replies=["020001000702FFEF"])

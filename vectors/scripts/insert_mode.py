@@ -41,7 +41,9 @@ def mode(script):
     script.of("Insert", "own")
     script.case("insert-alone", "Insert alone changes nothing on the screen", erase_write(*ROOM, sba(11), ic), keys=["insert"], paper={"at": {11: "C1C2C3000000--"}, "cursor": 11, "keyboard": "free"})
     script.case("insert-twice", "Insert a second time leaves insert mode on", erase_write(*ROOM, sba(11), ic), keys=["insert", "insert", *typed("Z")], paper={"at": {11: "E9C1C2C3"}})
+    script.of("Reset, and each key that sends", "own")
     script.case("reset-ends", "Reset ends insert mode", erase_write(*ROOM, sba(11), ic), keys=["insert", "reset", *typed("Z")], paper={"at": {11: "E9C2C300"}})
+    script.of("any other key", "own")
     # The field 101 to 104 holds AB and two nulls; each key goes away, and Tab or BackTab comes back to 101.
     for key, back in (("left", "tab"), ("right", "backtab"), ("tab", "backtab"), ("backtab", "tab"), ("newline", "tab"), ("home", "tab"), ("up", "tab"), ("down", "backtab")):
         script.case(f"kept-by-{key}", f"{key} keeps insert mode", erase_write(sba(100), sf(0x00), text("AB"), sba(105), sf(0x20), sba(101), ic), keys=["insert", key, back, *typed("Z")],

@@ -70,7 +70,7 @@ def insert_cursor(script):
     script.case("ic-protected", "the cursor may be put into a protected field", erase_write(sba(5), sf(0x20), text("A"), ic), paper={"cursor": 7})
     script.case("ic-none", "without Insert Cursor a Write leaves the cursor where it was", erase_write(sba(5), ic, wcc=0xC0), write_record(sba(9), text("A")), paper={"cursor": 5})
     script.case("ic-erased", "without Insert Cursor Erase/Write leaves the cursor at 0", erase_write(sba(5), ic, wcc=0xC0), erase_write(sba(9), text("A")), paper={"cursor": 0})
-    script.case("ic-after-the-end", "Insert Cursor after the last cell was written puts the cursor at 0", erase_write(sba(1919), text("A"), ic), paper={"cursor": 0})
+    script.case("ic-after-the-end", "Insert Cursor after the last cell was written puts the cursor at 0", erase_write(sba(1918), text("AB"), ic), paper={"cursor": 0})
 
 
 def graphic_escape(script):

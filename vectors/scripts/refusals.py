@@ -18,7 +18,7 @@ def refused(script, name, says, *orders, paper, source=None, start=text("X"), er
 
 
 def truncated(script):
-    script.of("O6 Truncated", "Orders")
+    script.of("Refusals of an outbound record", "Orders")
     names = {SF: "Start Field", SBA: "Set Buffer Address", SA: "Set Attribute", EUA: "Erase Unprotected to Address", GE: "Graphic Escape", RA: "Repeat to Address", SFE: "Start Field Extended", MF: "Modify Field"}
     whole = {SF: "60", SBA: "40C1", SA: "42F1", EUA: "40C1", GE: "C1", RA: "40C1C1", SFE: "02C06042F1", MF: "02C06042F1"}
     for order, name in names.items():

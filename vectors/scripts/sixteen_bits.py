@@ -33,7 +33,7 @@ def write(script):
     script.case("field-sent", "a field's place is sent as a number of 16 bits", erase_write(sba(40000), sf(0x01), text("AB"), sf(0x20)), keys=["enter"], size=LARGE, paper={"answers": ["7D0000" + "119C41" + "C1C2"]})
     script.case("field-at-zero", "a field whose attribute is in the last cell of 255x255 has the place 0", erase_write(text("A"), sf(0x20), sba(65024), sf(0x01)), keys=["enter"], size=LARGE, paper={"answers": ["7D0000" + "110000" + "C1"]})
     script.case("small-sent", "a small screen with addresses of 16 bits writes numbers too", erase_write(sba(3), sf(0x01), text("AB"), sf(0x20)), keys=["enter"], size=SMALL, paper={"answers": ["7D0000" + "110004" + "C1C2"]})
-    script.of("A1 AddressOutside", "Buffer addressing")
+    script.of("Set Buffer Address", "Buffer addressing")
     for place in (65025, 65535):
         script.case(f"outside-{place}", f"{place} is outside of 255x255", erase_write(text("OLD")), write_record(text("X"), sba(place)), size=LARGE, paper={"refused": "1 at 3: A1 AddressOutside"})
     for place in (20, 255, 32768, 49344):

@@ -15,7 +15,7 @@ def write(script):
 
 
 def codes(script):
-    script.of("a character", "Keyboard")
+    script.of("a character, 40 to FE", "Keyboard")
     for code in (*range(0x4A, 0x51), *range(0x5A, 0x62), *range(0x6A, 0x70), *range(0x79, 0x80), 0x81, 0x89, 0x91, 0x99, 0xA1, 0xA2, 0xA9, 0xB0, 0xBA, 0xBB, 0xC0, 0xC9, 0xD0, 0xD9, 0xE0, 0xE2, 0xE9, 0xF0, 0xF9):
         script.case(f"type-{code:02X}", f"the character {code:02X} is stored when it is typed", erase_write(*field(0x00, "   ", sf(0x20)), sba(11), ic), keys=[f"type {code:02X}"],
                     paper={"at": {11: f"{code:02X}4040"}, "cursor": 12, "attributes": {"10": "01", "14": "20"}})
