@@ -13,13 +13,16 @@ from parts.host import FENCE, FENCE_ANSWER, READ_BUFFER, Gone, Host
 from parts.screen import Unreadable, buffer_cells, cells_of, device_of, is_applied, is_read, place_in, screen_json, sizes_of
 
 
-def heard(host, pieces):
-    """What the terminal sends after each piece of the host, up to where it closes the line; and whether it did."""
-    replies = []
+def heard(host, case, press=lambda piece: b""):
+    """What the terminal sends after each piece of the host and the key that is pressed then, up to where it closes the line; and whether
+    it did."""
+    replies, pieces = [], records_in(case, "host")
+    if "functions" in case:
+        host.enhanced(bytes.fromhex(case["functions"]))
     for piece in pieces:
         try:
             host.put(piece + FENCE)
-            replies.append(host.until(FENCE_ANSWER).hex().upper())
+            replies.append((host.until(FENCE_ANSWER) + press(piece)).hex().upper())
         except Gone:
             return [*replies, host.bytes.hex().upper()], True
     return replies, False
@@ -74,7 +77,7 @@ class Takvorn:
         run = subprocess.Popen(words, stdout=subprocess.PIPE, text=True)
         try:
             self.host.accept()
-            replies, is_over = heard(self.host, records_in(case, "host"))
+            replies, is_over = heard(self.host, case)
             self.host.close()
             printed = run.communicate(timeout=10)[0].split()
         finally:

@@ -3,7 +3,7 @@
 import socket
 
 IAC, SE, SB, WILL, WONT, DO, DONT, EOR = 0xFF, 0xF0, 0xFA, 0xFB, 0xFC, 0xFD, 0xFE, 0xEF
-BINARY, TERMINAL_TYPE, END_OF_RECORD = 0x00, 0x18, 0x19
+BINARY, TERMINAL_TYPE, END_OF_RECORD, TN3270E = 0x00, 0x18, 0x19, 0x28
 # An option that no terminal has: what was sent before it has been looked at where its refusal comes.
 FENCE, FENCE_ANSWER = bytes([IAC, DO, 0x63]), bytes([IAC, WONT, 0x63])
 READ_BUFFER = bytes([0xF2])
@@ -39,6 +39,21 @@ class Host:
         for option in (END_OF_RECORD, BINARY):
             self.put(bytes([IAC, DO, option, IAC, WILL, option]))
             self.until(bytes([IAC, DO, option]))
+        self.bytes = b""
+        self.fenced()
+
+    def enhanced(self, functions):
+        """Agrees on a session with TN3270E and these functions, whatever the terminal asks for (RFC 2355, section 7)."""
+        self.put(bytes([IAC, DO, TN3270E]))
+        self.until(bytes([IAC, WILL, TN3270E]))
+        self.put(bytes([IAC, SB, TN3270E, 8, 2, IAC, SE]))
+        self.until(bytes([IAC, SB, TN3270E, 2, 7]))
+        name = self.until(bytes([IAC, SE])).split(b"\0")[0].split(b"\1")[0]
+        self.put(bytes([IAC, SB, TN3270E, 2, 4]) + name + b"\1LU1" + bytes([IAC, SE]))
+        self.until(bytes([IAC, SB, TN3270E, 3, 7]))
+        self.until(bytes([IAC, SE]))
+        self.put(bytes([IAC, SB, TN3270E, 3, 7]) + functions + bytes([IAC, SE]))
+        self.until(bytes([IAC, SB, TN3270E, 3, 4]) + functions + bytes([IAC, SE]))
         self.bytes = b""
         self.fenced()
 

@@ -1,13 +1,18 @@
 """s3270, worked by its script language at a host of ours."""
 
+import re
 import socket
 import subprocess
 import time
 
-from parts.drivers import READ_BUFFER, heard, records_in, told_buffer, upper
-from parts.host import Host
-from parts.screen import device_of, screen_json, sizes_of
+from parts.drivers import READ_BUFFER, heard, records_in, upper
+from parts.host import EOR, IAC, Host
+from parts.screen import cells_of, device_of, place_in, screen_json, sizes_of
 
+TN3270E = "FFFD28"
+# Verbs and subnegotiations.
+NEGOTIATED = re.compile(rb"\xff[\xfb-\xfe].|\xff\xfa.*?\xff\xf0", re.DOTALL)
+WRITES = {0x01, 0xF1, 0x05, 0xF5, 0x0D, 0x7E}
 ACTIONS = {
     "tab": "Tab()", "backtab": "BackTab()", "newline": "Newline()", "home": "Home()", "eraseeof": "EraseEOF()", "eraseinput": "EraseInput()",
     "delete": "Delete()", "reset": "Reset()", "left": "Left()", "right": "Right()", "up": "Up()", "down": "Down()", "enter": "Enter()",
@@ -21,6 +26,33 @@ def action(key):
     if key[:2] in ("pf", "pa") and key[2:].isdigit():
         return f"{key[:2].upper()}({key[2:]})"
     return ACTIONS[key]
+
+
+def frees(piece, has_header):
+    """Whether the last record in a piece is a write whose bit 02 frees the keyboard."""
+    *_, record = [b"", *NEGOTIATED.sub(b"", piece).split(bytes([IAC, EOR]))[:-1]]
+    record = record.replace(b"\xff\xff", b"\xff")
+    if has_header:
+        record = record[5:] if record[:1] == b"\0" else b""
+    return len(record) > 1 and record[0] in WRITES and bool(record[1] & 2)
+
+
+def cells_told(lines):
+    """The cells that ReadBuffer(Ebcdic) prints, which tells characters from orders."""
+    cells = []
+    for word in " ".join(it.removeprefix("data: ") for it in lines if it.startswith("data: ")).split():
+        if found := re.match(r"SF\(c0=(..)", word):
+            cells.append((int(found[1], 16) & 0x3F,))
+        elif found := re.match(r"GE\((..)\)", word):
+            cells.append([int(found[1], 16)])
+        elif not word.startswith("SA("):
+            cells.append(int(word, 16))
+    return cells
+
+
+def rows_by_columns(size):
+    rows, columns = cells_of(size)
+    return rows * columns
 
 
 class S3270:
@@ -73,12 +105,21 @@ class S3270:
 
     def session(self, case):
         self.start(case["device"])
-        pieces, replies, is_over = records_in(case, "host"), [], False
-        for piece in pieces:
-            reply, is_over = heard(self.host, [piece])
-            replies += reply
-            if is_over:
-                break
+        keys = [*case["keys"]]
+
+        def press(piece):
+            """Presses the next key after a record that frees the keyboard, and returns what comes."""
+            if not keys or not frees(piece, "functions" in case or TN3270E in case["host"][0]):
+                return b""
+            try:
+                self.act("Set(aidWait,false)")
+            except EOFError:
+                # Before a session is ready there is nothing to press.
+                return b""
+            self.act(action(keys.pop(0)))
+            return self.host.fenced()
+
+        replies, is_over = heard(self.host, case, press)
         self.host.close()
         self.close()
         return {"terminal": replies} | ({"ends": "closed"} if is_over else {})
@@ -101,10 +142,12 @@ class S3270:
         is_free = self.act("Query(Cursor)")[-1][0] == "U"
         wanted = case["screen"]["keyboard"]
         keyboard = "free" if is_free else "waiting" if wanted == "free" else wanted
+        cells = cells_told(self.act("ReadBuffer(Ebcdic)"))
         *_, buffer = self.host.answers_to(READ_BUFFER)
         self.host.close()
         self.close()
-        size, aid, cursor, cells = told_buffer(buffer, sizes_of(case)[:2])
+        size = next(it for it in sizes_of(case)[:2] if rows_by_columns(it) == len(cells))
+        aid, cursor = buffer[0], place_in(buffer[1:3])
         return {"screen": screen_json(size, cells, cursor, keyboard, aid), "answers": upper(answers)}
 
     def sent(self, records):

@@ -24,9 +24,11 @@ class Script:
             case["then"] = [it.hex().upper() for it in then]
         self.add(case, paper)
 
-    def session(self, name, says, *pieces, device="IBM-3278-2", keys=("enter",), source=None, paper=None):
-        """A session byte by byte: what the host sends, piece by piece."""
+    def session(self, name, says, *pieces, device="IBM-3278-2-E", functions=None, keys=("enter",), source=None, paper=None):
+        """A session byte by byte: what the host sends, piece by piece, from the first byte on or, with functions, once it is ready with TN3270E."""
         case = {"id": f"{self.name}/{name}", "says": says, "rules": [self.rule], "source": source or self.source, "device": device}
+        if functions is not None:
+            case["functions"] = functions.hex().upper()
         case["keys"] = [*keys]
         case["host"] = [it.hex().upper() for it in pieces]
         self.add(case, paper)

@@ -1,9 +1,7 @@
 """Records of TN3270E: their headers, types, responses and sequence numbers."""
 
-from scripts.negotiation import ASKED, GRANTED, READY, WANTS, sub
-
-AGREED = [*ASKED, WANTS, ""]
 # Erase/Write, keyboard free, an empty screen: Enter sends 7D and the cursor at 0.
+RESPONSES = bytes([2])
 SCREEN, SHUT, ANSWER = "F5C2", "F5C0", "7D4040"
 
 
@@ -18,7 +16,7 @@ def write(script):
 
 
 def after_ready(script, name, says, *records, replies, ends=None, keys=("enter",), source=None):
-    script.session(name, says, *READY, *records, keys=keys, source=source, paper={"terminal": AGREED + replies} | ({"ends": ends} if ends else {}))
+    script.session(name, says, *records, functions=RESPONSES, keys=keys, source=source, paper={"terminal": replies} | ({"ends": ends} if ends else {}))
 
 
 def types(script):
@@ -29,11 +27,11 @@ def types(script):
     script.of("The header of a TN3270E record", "own")
     for kind in (0x09, 0x10, 0x7D, 0xF5, 0xFF):
         header = f"{kind:02X}" if kind != 0xFF else "FFFF"
-        script.session(f"unknown-{kind:02X}", f"a record of type {kind:02X}, which is none, ends the session", *READY, bytes.fromhex(header + "00000000F5C2FFEF"), paper={"terminal": [*AGREED, ""], "ends": "H2"})
+        script.session(f"unknown-{kind:02X}", f"a record of type {kind:02X}, which is none, ends the session", bytes.fromhex(header + "00000000F5C2FFEF"), functions=RESPONSES, paper={"terminal": [""], "ends": "H2"})
     for length in range(5):
-        script.session(f"short-{length}", f"a record of {length} bytes has no whole header, and ends the session", *READY, bytes.fromhex("00" * length + "FFEF"), paper={"terminal": [*AGREED, ""], "ends": "H1"})
-    script.session("no-data", "a header without data is a record without a byte: it is refused, and the session goes on", *READY, bytes.fromhex("0000000000FFEF"), record("0000000001"),
-                   paper={"terminal": [*AGREED, "", "0000000000" + ANSWER + "FFEF"]})
+        script.session(f"short-{length}", f"a record of {length} bytes has no whole header, and ends the session", bytes.fromhex("00" * length + "FFEF"), functions=RESPONSES, paper={"terminal": [""], "ends": "H1"})
+    script.session("no-data", "a header without data is a record without a byte: it is refused, and the session goes on", bytes.fromhex("0000000000FFEF"), record("0000000001"),
+                   functions=b"", paper={"terminal": ["", "0000000000" + ANSWER + "FFEF"]})
 
 
 def responses(script):
@@ -57,16 +55,16 @@ def responses(script):
         after_ready(script, f"outside-{flag}", f"a record with an address outside that wants a response {says} gets OPERATION-CHECK", record(f"0000{flag}0007", "F5C2115E40"), replies=["020001000702FFEF"])
         after_ready(script, f"cut-{flag}", f"a record with an order that is cut and that wants a response {says} gets OPERATION-CHECK", record(f"0000{flag}0007", "F5C21140"), replies=["020001000702FFEF"])
     after_ready(script, "refused-none", "a refused record that wants no response gets none", record("0000000007", "F5C201"), replies=[""])
-    script.session("without-responses", "without RESPONSES no record gets a response", *GRANTED, sub(0x28, [3, 7]), record("0000020005", SHUT), paper={"terminal": [*ASKED, WANTS, "FFFA280304FFF0", ""]})
-    script.session("without-responses-bad", "without RESPONSES a refused record gets no response", *GRANTED, sub(0x28, [3, 7]), record("0000020005", "F5C201"), paper={"terminal": [*ASKED, WANTS, "FFFA280304FFF0", ""]})
+    script.session("without-responses", "without RESPONSES no record gets a response", record("0000020005", SHUT), functions=b"", paper={"terminal": [""]})
+    script.session("without-responses-bad", "without RESPONSES a refused record gets no response", record("0000020005", "F5C201"), functions=b"", paper={"terminal": [""]})
 
 
 def numbers(script):
     script.of("answers", "RFC 2355, section 8.1")
     after_ready(script, "counted", "answers are numbered from 0 up", record("0000000000"), record("0000000001"), record("0000000002"), keys=("enter", "pf1", "pa1"),
                 replies=["0000000000" + ANSWER + "FFEF", "0000000001F14040FFEF", "00000000026CFFEF"])
-    script.session("not-counted", "without RESPONSES answers have the number 0", *GRANTED, sub(0x28, [3, 7]), record("0000000000"), record("0000000000"), keys=["enter", "pf1", "pf2"],
-                   paper={"terminal": [*ASKED, WANTS, "FFFA280304FFF0", "0000000000" + ANSWER + "FFEF", "0000000000F14040FFEF"]})
+    script.session("not-counted", "without RESPONSES answers have the number 0", record("0000000000"), record("0000000000"), keys=["enter", "pf1", "pf2"],
+                   functions=b"", paper={"terminal": ["0000000000" + ANSWER + "FFEF", "0000000000F14040FFEF"]})
     after_ready(script, "read", "the answer to a read is numbered as answers to keys are", record("0000000000", SHUT), record("0000000001", "F6"), record("0000000002", "F6"), replies=["", "0000000000604040FFEF", "0000000001604040FFEF"])
     after_ready(script, "read-response", "a read that always wants a response gets it before its answer", record("0000000000", SHUT), record("0000020001", "F6"), replies=["", "020000000100FFEF" + "0000000000604040FFEF"])
     after_ready(script, "no-operation", "No-operation that always wants a response gets a positive one and no answer", record("0000020004", "03"), replies=["020000000400FFEF"])

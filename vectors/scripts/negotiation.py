@@ -22,10 +22,10 @@ def hexed(some):
 SEND_DEVICE = sub(ENHANCED, [8, 2])
 SEND_TYPE = sub(TERMINAL_TYPE, [1])
 DEVICE = verb(DO, ENHANCED), SEND_DEVICE
-GRANTED = *DEVICE, sub(ENHANCED, [2, 4], "IBM-3278-2", [1], "LU1")
+GRANTED = *DEVICE, sub(ENHANCED, [2, 4], "IBM-3278-2-E", [1], "LU1")
 READY = *GRANTED, sub(ENHANCED, [3, 4, 2])
 CLASSIC = verb(DO, TERMINAL_TYPE), SEND_TYPE, verb(DO, END_OF_RECORD) + verb(WILL, END_OF_RECORD), verb(DO, BINARY) + verb(WILL, BINARY)
-ASKED = [hexed(verb(WILL, ENHANCED)), hexed(sub(ENHANCED, [2, 7], "IBM-3278-2"))]
+ASKED = [hexed(verb(WILL, ENHANCED)), hexed(sub(ENHANCED, [2, 7], "IBM-3278-2-E"))]
 WANTS = hexed(sub(ENHANCED, [3, 7, 2]))
 
 
@@ -68,7 +68,7 @@ def classic(script):
             device = f"IBM-3278-{model}{extended}"
             script.session(f"type-{model}{extended}", f"TERMINAL-TYPE SEND is answered by the name of {device}", *CLASSIC[:2], device=device,
                            paper={"terminal": [hexed(verb(WILL, TERMINAL_TYPE)), hexed(sub(TERMINAL_TYPE, [0], device))]})
-    name = hexed(sub(TERMINAL_TYPE, [0], "IBM-3278-2"))
+    name = hexed(sub(TERMINAL_TYPE, [0], "IBM-3278-2-E"))
     script.session("type-again", "TERMINAL-TYPE SEND is answered each time by the same name", *CLASSIC[:2], SEND_TYPE, paper={"terminal": [hexed(verb(WILL, TERMINAL_TYPE)), name, name]})
     script.session("type-colors", "a 3279 gives the name of a 3278 of its model", *CLASSIC[:2], device="IBM-3279-2-E", source="own",
                    paper={"terminal": [hexed(verb(WILL, TERMINAL_TYPE)), hexed(sub(TERMINAL_TYPE, [0], "IBM-3278-2-E"))]})
@@ -95,15 +95,15 @@ def devices(script):
                            paper={"terminal": [ASKED[0], hexed(sub(ENHANCED, [2, 7], device))]})
     script.session("device-again", "SEND DEVICE-TYPE before the device is granted is answered again", *DEVICE, SEND_DEVICE, paper={"terminal": [*ASKED, ASKED[1]]})
     for name, parts, says in (("connect", ([1], "LU1"), "with a name behind CONNECT"), ("alone", (), "without a name behind it")):
-        script.session(f"granted-{name}", f"DEVICE-TYPE IS {says} is answered by a request for functions", *DEVICE, sub(ENHANCED, [2, 4], "IBM-3278-2", *parts), paper={"terminal": [*ASKED, WANTS]})
-    script.session("granted-lower", "DEVICE-TYPE IS with the name in lower case is our device", *DEVICE, sub(ENHANCED, [2, 4], "ibm-3278-2", [1], "LU1"), paper={"terminal": [*ASKED, WANTS]})
+        script.session(f"granted-{name}", f"DEVICE-TYPE IS {says} is answered by a request for functions", *DEVICE, sub(ENHANCED, [2, 4], "IBM-3278-2-E", *parts), paper={"terminal": [*ASKED, WANTS]})
+    script.session("granted-lower", "DEVICE-TYPE IS with the name in lower case is our device", *DEVICE, sub(ENHANCED, [2, 4], "ibm-3278-2-e", [1], "LU1"), paper={"terminal": [*ASKED, WANTS]})
     script.of("The terminal", "own")
     script.session("granted-other", "DEVICE-TYPE IS with another device ends the session", *DEVICE, sub(ENHANCED, [2, 4], "IBM-3278-3", [1], "LU1"), paper={"terminal": [*ASKED, ""], "ends": "N3"})
-    script.session("granted-associate", "DEVICE-TYPE IS with ASSOCIATE ends the session", *DEVICE, sub(ENHANCED, [2, 4], "IBM-3278-2", [0], "LU1"), paper={"terminal": [*ASKED, ""], "ends": "N3"})
+    script.session("granted-associate", "DEVICE-TYPE IS with ASSOCIATE ends the session", *DEVICE, sub(ENHANCED, [2, 4], "IBM-3278-2-E", [0], "LU1"), paper={"terminal": [*ASKED, ""], "ends": "N3"})
     for reason in range(8):
         script.session(f"rejected-{reason:02X}", f"DEVICE-TYPE REJECT with the reason {reason:02X} ends the session", *DEVICE, sub(ENHANCED, [2, 6, 5, reason]), paper={"terminal": [*ASKED, ""], "ends": "N1"})
     script.session("device-unasked", "SEND DEVICE-TYPE without TN3270E ends the session", SEND_DEVICE, paper={"terminal": [""], "ends": "N3"})
-    script.session("granted-unasked", "DEVICE-TYPE IS that nobody asked for ends the session", verb(DO, ENHANCED), sub(ENHANCED, [2, 4], "IBM-3278-2"), paper={"terminal": [ASKED[0], ""], "ends": "N3"})
+    script.session("granted-unasked", "DEVICE-TYPE IS that nobody asked for ends the session", verb(DO, ENHANCED), sub(ENHANCED, [2, 4], "IBM-3278-2-E"), paper={"terminal": [ASKED[0], ""], "ends": "N3"})
     script.session("type-unasked", "TERMINAL-TYPE SEND without that option ends the session", SEND_TYPE, paper={"terminal": [""], "ends": "N3"})
 
 
