@@ -37,6 +37,8 @@ def moving(script):
     script.case("at-last-cell", "Program Tab at an unprotected attribute in the last cell goes to 0", erase_write(sba(1919), sf(0x00), sba(1900), pt, MARK), paper={"at": {0: "7B"}})
     script.case("empty-input", "Program Tab goes behind an unprotected attribute also where another attribute stands there", erase_write(sba(5), sf(0x00), sf(0x20), sba(0), pt, MARK),
                 paper={"at": {6: "7B"}})
+    script.case("only-input", "Program Tab at the start of the only input goes to 0", erase_write(sba(10), sf(0x00), text("AB"), sf(0x20), sba(11), pt, MARK), source="own",
+                paper={"at": {0: "7B", 11: "C1C2"}})
     script.case("twice", "a second Program Tab goes on from where the first one went", erase_write(*FORM, sba(0), pt, pt, MARK), paper={"at": {161: "7B", 81: "C1C2C3C4"}})
     script.case("three-times", "Program Tab behind the last input goes to 0, and the next one on from there", erase_write(*FORM, sba(0), pt, pt, pt, pt, MARK),
                 paper={"at": {81: "7B"}})
