@@ -1,0 +1,4 @@
+pub mod Digits
+pub mod Flaw
+pub mod Nearest
+pub mod RecordLine
