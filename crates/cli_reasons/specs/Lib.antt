@@ -1,4 +1,6 @@
 pub mod Digits
 pub mod Flaw
+pub mod KeyLine
 pub mod Nearest
 pub mod RecordLine
+pub mod Text

@@ -1,17 +1,15 @@
 -- Why a line of records is refused.
-use Rattle.std.specs.Prelude.{ℕ, ◌+◌, ◌-◌, ◌/◌, ◌==◌, ◌&&◌, ◌||◌, not, nat_eq, Bool, false, List, [], ◌∷◌, codes, count_by, length, take, slice_index, Option, Some, None, is_none, if◌then◌else◌}
+use Rattle.std.specs.Prelude.{ℕ, ◌+◌, ◌-◌, ◌==◌, ◌&&◌, ◌||◌, nat_eq, Bool, false, List, codes, length, slice_index, Option, Some, None, is_none, if◌then◌else◌}
 use Rattle.std.specs.List.{starts_with}
-use Rattle.std.specs.Str.{bytes_eq, is_utf8}
-use Rattle.std.specs.Str.Lossy.{utf8_valid_len}
+use Rattle.std.specs.Str.{bytes_eq}
 use Rattle.cli_reasons.specs.declared.flaw.Flaw.{Flaw}
 use Rattle.cli_reasons.specs.declared.flaw.Why.{Why}
-use Rattle.cli_reasons.specs.declared.flaw.Why.TheVariants.{NotDigit, OddDigits, NotUtf8, ByteOrderMark, Utf16, Tab, Prefix, Comment, SizesOfLayout, SizesTooLate, NoSizes, Turn}
+use Rattle.cli_reasons.specs.declared.flaw.Why.TheVariants.{NotDigit, OddDigits, ByteOrderMark, Utf16, Tab, Prefix, Comment, SizesOfLayout, SizesTooLate, NoSizes, Turn}
 use Rattle.cli_reasons.specs.declared.record_line.SizesBy.{SizesBy}
 use Rattle.cli_reasons.specs.declared.record_line.SizesBy.TheVariants.{Line, Earlier, Layout}
 use Rattle.cli_reasons.specs.Digits.{first_other, digit_count}
 use Rattle.cli_reasons.specs.Flaw.{flaw_at}
-
--- ---- a line of text
+use Rattle.cli_reasons.specs.Text.{text_or}
 
 abbrev pub is_zero : Option ℕ → Bool
 is_zero None = false
@@ -49,22 +47,5 @@ text_flaw sizes line =
     else if bytes_eq line (codes "turn") then flaw_at 1 Turn
     else flaw_of_digits line
 
--- ---- a line that is no text
-
-abbrev pub begins_character : ℕ → Bool
-begins_character byte = not (byte / 64 == 2)
-
--- the characters before the first byte that is no UTF-8
-abbrev pub characters : List ℕ → ℕ
-characters bytes = count_by begins_character bytes
-
--- a text in UTF-16 begins with its mark
-abbrev pub is_utf16 : List ℕ → Bool
-is_utf16 line = starts_with nat_eq line (0xFF ∷ 0xFE ∷ []) || starts_with nat_eq line (0xFE ∷ 0xFF ∷ [])
-
-abbrev pub no_text_flaw : List ℕ → ℕ → Flaw
-no_text_flaw line valid =
-    if is_utf16 line then flaw_at 1 Utf16 else flaw_at (characters (take valid line) + 1) (NotUtf8 (slice_index line valid))
-
 abbrev pub record_flaw : SizesBy → List ℕ → Flaw
-record_flaw sizes line = if is_utf8 line then text_flaw sizes line else no_text_flaw line (utf8_valid_len line)
+record_flaw sizes line = text_or line (text_flaw sizes line)

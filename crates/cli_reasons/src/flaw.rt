@@ -1,15 +1,15 @@
-//! What is wrong with a line of records.
+//! What is wrong with a line.
 
 ghost use Rattle.std.specs.Prelude.{◌≡◌, ◌<◌, ◌++◌, OnOk};
 ghost use Rattle.std.specs.String.{string_bytes};
 ghost use Rattle.order_lines.specs.Print.{hex_byte};
-ghost use Rattle.cli_reasons.specs.Flaw.{flaw_at, quoted_text, bare_text, byte_text, odd_text, why_words, why_text};
+ghost use Rattle.cli_reasons.specs.Flaw.{flaw_at, quoted_text, bare_text, byte_text, limit_words, odd_text, other_words, why_words, why_text};
 
 use order_lines::push_hex;
 use std::alloc::AllocError;
 use std::fmt::Write;
 
-/// Why a line of records is refused.
+/// Why a line is refused.
 #[derive(Clone, Copy, Debug, PartialEq, Eq)]
 pub enum Why {
     /// A byte that is no hexadecimal digit.
@@ -33,6 +33,51 @@ pub enum Why {
     NoSizes,
     /// A line `turn` outside `talk`.
     Turn,
+    /// `type` without a code that can be typed.
+    NoCode,
+    /// A stroke among keys.
+    NeedsStrokes,
+    /// The line names no key.
+    NoKey,
+    /// The line names no stroke, and no key.
+    NoStroke,
+    /// The line begins with no command and no order.
+    NoOrder,
+    /// The line begins with a command or an order that is written otherwise.
+    OtherForm,
+    /// An order before any command.
+    NoCommand,
+    /// A command in a record that has one.
+    SecondCommand,
+    /// More records or keys than an input has, or more bytes than a record has.
+    TooLong(Limit),
+}
+
+/// A limit of an input.
+#[derive(Clone, Copy, Debug, PartialEq, Eq)]
+pub enum Limit {
+    /// 16,777,216 bytes.
+    Bytes,
+    /// 1,000 records.
+    Records,
+    /// 32,768 bytes of a record.
+    RecordBytes,
+    /// 100,000 keys.
+    Keys,
+}
+
+impl Limit {
+    /// What there is too much of.
+    fn words(self) -> &'static str
+        ensures { result.now ≡ limit_words self }
+    {
+        match self {
+            Limit::Bytes => "more than 16,777,216 bytes",
+            Limit::Records => "more than 1,000 records",
+            Limit::RecordBytes => "a record of more than 32,768 bytes",
+            Limit::Keys => "more than 100,000 keys",
+        }
+    }
 }
 
 /// What is wrong with a line, and where.
@@ -106,6 +151,24 @@ fn push_odd(out: &mut String, count: usize) -> Result<(), AllocError>
 }
 
 impl Why {
+    /// Its words where it is of keys or of orders, or a limit.
+    fn other_words(self) -> &'static str
+        ensures { result.now ≡ other_words self }
+    {
+        match self {
+            Why::NoCode => "'type' takes two hexadecimal digits, from 40 to FE",
+            Why::NeedsStrokes => "a stroke; give the option --strokes",
+            Why::NoKey => " is no key",
+            Why::NoStroke => " is no key and no stroke",
+            Why::NoOrder => " is no command and no order",
+            Why::OtherForm => " is written otherwise, as in ",
+            Why::NoCommand => "an order before its command",
+            Why::SecondCommand => "a second command; an empty line ends a record",
+            Why::TooLong(limit) => limit.words(),
+            _ => "",
+        }
+    }
+
     /// Its words, of which no byte is a part.
     fn words(self) -> &'static str
         ensures { result.now ≡ why_words self }
@@ -123,6 +186,7 @@ impl Why {
             Why::SizesTooLate => "sizes are told once, before the first record",
             Why::NoSizes => "no sizes of a terminal, as in 'size 24x80 43x80'",
             Why::Turn => "only 'talk' takes a line 'turn'",
+            _ => self.other_words(),
         }
     }
 

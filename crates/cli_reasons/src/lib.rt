@@ -3,9 +3,12 @@
 
 mod digits;
 mod flaw;
+mod key_line;
 mod near;
 mod record_line;
+mod text;
 
-pub use flaw::{Flaw, Why};
+pub use flaw::{Flaw, Limit, Why};
+pub use key_line::{Names, key_flaw};
 pub use near::nearest;
 pub use record_line::{SizesBy, record_flaw};

@@ -1,10 +1,11 @@
 //! Why a line of records is refused.
 
-ghost use Rattle.std.specs.Prelude.{◌≡◌, ◌<◌, ◌≤◌, length};
-ghost use Rattle.cli_reasons.specs.RecordLine.{byte_why, byte_before, size_why, flaw_of_digits, text_flaw, characters, is_utf16, no_text_flaw, record_flaw};
+ghost use Rattle.std.specs.Prelude.{◌≡◌, ◌<◌, length};
+ghost use Rattle.cli_reasons.specs.RecordLine.{byte_why, byte_before, size_why, flaw_of_digits, text_flaw, record_flaw};
 
 use crate::digits::{digit_count, first_other};
 use crate::flaw::{Flaw, Why};
+use crate::text::checked;
 
 /// What tells the sizes of the terminal.
 #[derive(Clone, Copy, Debug, PartialEq, Eq)]
@@ -76,38 +77,12 @@ fn text_flaw(sizes: SizesBy, line: &[u8]) -> Flaw
     }
 }
 
-/// How many characters begin in bytes of UTF-8.
-fn characters(bytes: &[u8]) -> usize
-    ensures count { result ≡ characters bytes.now }
-    ensures inside { result ≤ length bytes.now }
-{
-    bytes.iter().filter(|byte| **byte / 64 != 2).count()
-}
-
-/// Whether a text begins with the mark of UTF-16, in either order.
-fn is_utf16(line: &[u8]) -> bool
-    ensures { result ≡ is_utf16 line.now }
-{
-    line.starts_with(b"\xFF\xFE".as_slice()) || line.starts_with(b"\xFE\xFF".as_slice())
-}
-
-/// What is wrong with a line that is UTF-8 up to this place.
-fn no_text_flaw(line: &[u8], valid: usize) -> Flaw
-    requires { valid < length line.now }
-    ensures { result ≡ no_text_flaw line.now valid }
-{
-    if is_utf16(line) {
-        return Flaw::at(1, Why::Utf16);
-    }
-    Flaw::at(characters(&line[..valid]) + 1, Why::NotUtf8(line[valid]))
-}
-
 /// What is wrong with a line of records that is refused.
 pub fn record_flaw(sizes: SizesBy, line: &[u8]) -> Flaw
     ensures { result ≡ record_flaw sizes line.now }
 {
-    match str::from_utf8(line) {
+    match checked(line) {
         Ok(_) => text_flaw(sizes, line),
-        Err(error) => no_text_flaw(line, error.valid_up_to()),
+        Err(flaw) => flaw,
     }
 }
