@@ -9,5 +9,8 @@ is_other byte = not (byte == 0x20) && not (is_hex_digit byte)
 abbrev pub first_other : List ℕ → Option ℕ
 first_other line = position is_other line
 
+abbrev pub first_no_digit : List ℕ → Option ℕ
+first_no_digit digits = position (λ byte. not (is_hex_digit byte)) digits
+
 abbrev pub digit_count : List ℕ → ℕ
 digit_count line = count_by is_hex_digit line

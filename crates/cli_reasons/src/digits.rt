@@ -2,7 +2,7 @@
 
 ghost use Rattle.std.specs.Prelude.{◌≡◌, ◌<◌, ◌≤◌, IfSome, count_by, length, position};
 ghost use Rattle.hex.specs.Hex.{is_hex_digit};
-ghost use Rattle.cli_reasons.specs.Digits.{is_other, first_other, digit_count};
+ghost use Rattle.cli_reasons.specs.Digits.{is_other, first_no_digit, first_other, digit_count};
 
 use ds_codec::byte_of_digits;
 
@@ -26,6 +26,14 @@ pub(crate) fn first_other(line: &[u8]) -> Option<usize>
     ensures inside { IfSome result (λ place. place < length line.now) }
 {
     line.iter().position(|byte| is_other(*byte))
+}
+
+/// Where the first byte stands that is no digit.
+pub(crate) fn first_no_digit(digits: &[u8]) -> Option<usize>
+    ensures first { result ≡ first_no_digit digits.now }
+    ensures inside { IfSome result (λ place. place < length digits.now) }
+{
+    digits.iter().position(|byte| !is_digit(*byte))
 }
 
 /// How many digits a line has.

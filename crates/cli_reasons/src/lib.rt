@@ -5,10 +5,12 @@ mod digits;
 mod flaw;
 mod key_line;
 mod near;
+mod order_line;
 mod record_line;
 mod text;
 
 pub use flaw::{Flaw, Limit, Why};
 pub use key_line::{Names, key_flaw};
 pub use near::nearest;
+pub use order_line::order_flaw;
 pub use record_line::{SizesBy, record_flaw};

@@ -32,7 +32,7 @@ fn byte_why(byte: u8, before: Option<u8>) -> Why
 }
 
 /// Why a line that begins as one of sizes does is refused.
-fn size_why(sizes: SizesBy) -> Why
+pub(crate) fn size_why(sizes: SizesBy) -> Why
     ensures { result ≡ size_why sizes }
 {
     match sizes {
