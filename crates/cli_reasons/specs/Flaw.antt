@@ -33,7 +33,7 @@ limit_words Keys = codes "more than 100,000 keys"
 -- the words for what is of keys or of orders, or a limit
 abbrev pub other_words : Why → List ℕ
 other_words NoCode = codes "'type' takes two hexadecimal digits, from 40 to FE"
-other_words NeedsStrokes = codes "a stroke; give the option --strokes"
+other_words NeedsStrokes = codes " is a stroke; give the option --strokes"
 other_words NoKey = codes " is no key"
 other_words NoStroke = codes " is no key and no stroke"
 other_words NoOrder = codes " is no command and no order"

@@ -1,7 +1,11 @@
 pub mod Digits
 pub mod Flaw
+pub mod Head
 pub mod KeyLine
 pub mod Nearest
 pub mod OrderLine
 pub mod RecordLine
+pub mod Sentence
+pub mod Shown
 pub mod Text
+pub mod Words

@@ -157,7 +157,7 @@ impl Why {
     {
         match self {
             Why::NoCode => "'type' takes two hexadecimal digits, from 40 to FE",
-            Why::NeedsStrokes => "a stroke; give the option --strokes",
+            Why::NeedsStrokes => " is a stroke; give the option --strokes",
             Why::NoKey => " is no key",
             Why::NoStroke => " is no key and no stroke",
             Why::NoOrder => " is no command and no order",

@@ -3,13 +3,18 @@
 
 mod digits;
 mod flaw;
+mod head;
 mod key_line;
 mod near;
 mod order_line;
 mod record_line;
+mod sentence;
+mod shown;
 mod text;
+mod words;
 
 pub use flaw::{Flaw, Limit, Why};
+pub use head::Place;
 pub use key_line::{Names, key_flaw};
 pub use near::nearest;
 pub use order_line::order_flaw;
