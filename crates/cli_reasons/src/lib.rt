@@ -8,8 +8,8 @@ mod key_line;
 mod near;
 mod order_line;
 mod record_line;
-mod sentence;
 mod shown;
+mod telling;
 mod text;
 mod words;
 
@@ -19,3 +19,4 @@ pub use key_line::{Names, key_flaw};
 pub use near::nearest;
 pub use order_line::order_flaw;
 pub use record_line::{SizesBy, record_flaw};
+pub use telling::sentence;

@@ -1,16 +1,18 @@
 //! The sentence of a line that is refused.
 
-ghost use Rattle.std.specs.Prelude.{◌≡◌, ◌++◌, ◌<◌, ◌^◌, length, map, OnOk};
+ghost use Rattle.std.specs.Prelude.{◌≡◌, ◌++◌, ◌<◌, ◌^◌, length, map, IfOk, OnOk};
 ghost use Rattle.std.specs.Option.{option_map};
 ghost use Rattle.std.specs.String.{string_bytes};
 ghost use Rattle.cli_reasons.specs.Flaw.{why_text};
 ghost use Rattle.cli_reasons.specs.Shown.{quoted};
-ghost use Rattle.cli_reasons.specs.Sentence.{near_text, unknown_text, form_text, other_form_text, text_reason};
+ghost use Rattle.cli_reasons.specs.Sentence.{near_text, unknown_text, form_text, other_form_text, text_reason, reason_text, place_of, sentence};
 
-use crate::flaw::Why;
+use crate::flaw::{Flaw, Limit, Why};
+use crate::head::{Place, push_head};
 use crate::near::nearest;
 use crate::order_line::{first_word, form_of};
 use crate::shown::push_quoted;
+use crate::text::checked;
 use crate::words::{key_words, order_words, stroke_words};
 use std::alloc::{AllocError, Global};
 
@@ -95,4 +97,49 @@ fn push_text_reason(alloc: Global, out: &mut String, why: Why, line: &str) -> Re
         Why::OtherForm => push_other_form(out, line, why),
         _ => why.push_text(out),
     }
+}
+
+/// Pushes why a line is refused. Only of one that is text more is said than why.
+fn push_reason(alloc: Global, out: &mut String, why: Why, line: &[u8]) -> Result<(), AllocError>
+    requires { length line.now < 2 ^ 32 }
+    ensures { OnOk result (string_bytes out.new
+        ≡ string_bytes out.old ++ reason_text why line.now) }
+{
+    match checked(line) {
+        Ok(text) => push_text_reason(alloc, out, why, text),
+        Err(_) => why.push_text(out),
+    }
+}
+
+/// Where the line of a number is refused: of a limit the column says nothing, and of all bytes the line neither.
+fn place_of(number: u64, flaw: Flaw) -> Place
+    ensures { result ≡ place_of number flaw }
+{
+    match flaw.why {
+        Why::TooLong(Limit::Bytes) => Place::Whole,
+        Why::TooLong(_) => Place::Line(number),
+        _ => Place::Column(number, flaw.column),
+    }
+}
+
+/// The sentence that says why the line of a number, counted from 1, is refused in the input of this name.
+///
+/// # Errors
+///
+/// Where a request for memory was refused.
+pub fn sentence(
+    alloc: Global,
+    name: &str,
+    number: u64,
+    flaw: Flaw,
+    line: &[u8],
+) -> Result<String, AllocError>
+    requires { length line.now < 2 ^ 32 }
+    ensures { IfOk result (λ text. string_bytes text ≡ sentence name.now number flaw line.now) }
+{
+    let mut out = String::new(alloc);
+    push_head(&mut out, name, place_of(number, flaw))?;
+    push_reason(alloc, &mut out, flaw.why, line)?;
+    out.push_str("\n")?;
+    Ok(out)
 }
