@@ -1,6 +1,8 @@
 pub mod Digits
+pub mod Ear
 pub mod Flaw
 pub mod Head
+pub mod Judged
 pub mod KeyLine
 pub mod Nearest
 pub mod OrderLine

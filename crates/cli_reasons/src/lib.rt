@@ -2,8 +2,11 @@
 #![tactic(auto)]
 
 mod digits;
+mod ear;
 mod flaw;
 mod head;
+mod heard;
+mod judged;
 mod key_line;
 mod near;
 mod order_line;
@@ -13,8 +16,10 @@ mod telling;
 mod text;
 mod words;
 
+pub use ear::{Ear, Lines};
 pub use flaw::{Flaw, Limit, Why};
 pub use head::Place;
+pub use heard::Heard;
 pub use key_line::{Names, key_flaw};
 pub use near::nearest;
 pub use order_line::order_flaw;
