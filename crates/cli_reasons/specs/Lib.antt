@@ -4,6 +4,7 @@ pub mod Flaw
 pub mod Head
 pub mod Judged
 pub mod KeyLine
+pub mod LayoutLine
 pub mod Nearest
 pub mod OrderLine
 pub mod RecordLine

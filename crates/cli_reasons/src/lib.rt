@@ -8,6 +8,7 @@ mod head;
 mod heard;
 mod judged;
 mod key_line;
+mod layout_line;
 mod near;
 mod order_line;
 mod record_line;

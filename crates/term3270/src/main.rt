@@ -6,9 +6,12 @@ mod bad_word;
 mod command_line;
 mod commands;
 mod file;
+mod prompt;
+mod reasons;
 mod sessions;
 mod stream;
 mod tcp;
+mod withheld;
 
 use crate::asked::Asked;
 use crate::bad_word::tell_bad_word;

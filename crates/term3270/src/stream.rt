@@ -1,5 +1,6 @@
 //! Streams that name themselves, with the cause, on standard error where they fail.
 
+use crate::withheld::Withheld;
 use std::io;
 use std::io::{Read, Write};
 
@@ -18,6 +19,17 @@ impl<S> Named<'_, S> {
             let name = self.name;
             let _ = eprintln!(self.rt; "term3270: {name}: {error}");
         }
+    }
+}
+
+impl<S: Write> Named<'_, Withheld<S>> {
+    /// Writes what is withheld, and says what failed.
+    pub(crate) fn release(&mut self) -> io::Result<()> {
+        let released = self.stream.release();
+        if let Err(error) = &released {
+            self.report(error);
+        }
+        released
     }
 }
 
