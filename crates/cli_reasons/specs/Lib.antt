@@ -4,11 +4,14 @@ pub mod Flaw
 pub mod Head
 pub mod Judged
 pub mod KeyLine
+pub mod LayoutFault
 pub mod LayoutLine
+pub mod LayoutWords
 pub mod Nearest
 pub mod OrderLine
 pub mod RecordLine
 pub mod Sentence
 pub mod Shown
 pub mod Text
+pub mod TomlPlace
 pub mod Words

@@ -27,3 +27,12 @@ order_words =
     codes "W" ∷ codes "EW" ∷ codes "EWA" ∷ codes "EAU" ∷ codes "RB" ∷ codes "RM" ∷ codes "RMA" ∷ codes "NOP"
     ∷ codes "SF" ∷ codes "SFE" ∷ codes "SBA" ∷ codes "SA" ∷ codes "MF" ∷ codes "IC" ∷ codes "PT" ∷ codes "RA"
     ∷ codes "EUA" ∷ codes "GE" ∷ codes "TEXT" ∷ []
+
+-- the keys at the top of a layout
+unfoldable pub top_words : List (List ℕ)
+top_words =
+    codes "version" ∷ codes "addresses" ∷ codes "default" ∷ codes "alternate" ∷ codes "screen" ∷ codes "field" ∷ []
+
+-- the keys of a field of a layout
+unfoldable pub field_words : List (List ℕ)
+field_words = codes "name" ∷ codes "row" ∷ codes "col" ∷ codes "length" ∷ codes "kind" ∷ codes "count" ∷ codes "down" ∷ []

@@ -9,6 +9,7 @@ ghost use Rattle.cli_reasons.specs.Ear.{next_number, over_limit};
 use crate::flaw::{Flaw, Limit, Why};
 use crate::judged::{Judged, judged_name, judged_order, judged_record, judged_turn};
 use crate::key_line::Names;
+use crate::layout_reason::layout_sentence;
 use crate::record_line::SizesBy;
 use crate::telling::sentence;
 use cli_commands::{CommandError, without_end};
@@ -39,6 +40,8 @@ pub enum Lines {
     Names(Names),
     /// Commands and orders.
     Orders,
+    /// The text of a layout, which is kept whole.
+    Layout,
 }
 
 /// A line that is refused.
@@ -75,7 +78,7 @@ pub struct Ear {
 fn first_sizes(lines: Lines) -> SizesBy {
     match lines {
         Lines::Records | Lines::Orders => SizesBy::Line,
-        Lines::SizedRecords | Lines::Turns | Lines::Names(_) => SizesBy::Layout,
+        _ => SizesBy::Layout,
     }
 }
 
@@ -115,6 +118,9 @@ impl Ear {
     /// Hears the bytes that come next.
     pub fn hear(&mut self, bytes: &[u8]) {
         self.bytes = self.bytes.saturating_add(bytes.len() as u64);
+        if self.lines == Lines::Layout {
+            return self.keep(bytes);
+        }
         let mut rest = bytes;
         while let Some((line, left)) = split_line(rest) {
             self.end_line(line);
@@ -173,6 +179,7 @@ impl Ear {
             Lines::Turns => judged_turn(self.alloc, line),
             Lines::Names(names) => judged_name(self.alloc, names, line),
             Lines::Orders => judged_order(self.alloc, self.sizes, line),
+            Lines::Layout => Ok(Judged::Nothing),
         }
     }
 
@@ -260,6 +267,16 @@ impl Ear {
         }
     }
 
+    fn layout_sentence(&self, name: &str) -> Option<String> {
+        if self.is_deaf {
+            return None;
+        }
+        match layout_sentence(self.alloc, name, self.open.as_slice()) {
+            Ok(sentence) => sentence,
+            Err(_) => None,
+        }
+    }
+
     /// The input has ended: a line that has begun ends.
     fn end(&mut self) {
         if self.is_done() || self.open.is_empty() {
@@ -269,8 +286,11 @@ impl Ear {
         self.hear_line(line.as_slice());
     }
 
-    /// The sentence of what is refused, in the input of this name, where a line is or the input is too long.
+    /// The sentence of what is refused in the input of this name, where anything is.
     pub fn sentence(&mut self, name: &str) -> Option<String> {
+        if self.lines == Lines::Layout {
+            return self.layout_sentence(name);
+        }
         if MOST_BYTES < self.bytes {
             let flaw = Flaw::at(1, Why::TooLong(Limit::Bytes));
             return sentence(self.alloc, name, 1, flaw, b"").ok();

@@ -33,8 +33,9 @@ fn push_shown(out: &mut String, bytes: &[u8]) -> Result<(), AllocError>
 }
 
 /// So many bytes of a text, or all where there are fewer.
-fn front(bytes: &[u8], most: usize) -> &[u8]
-    ensures { result.now ≡ front_of most bytes.now }
+pub(crate) fn front(bytes: &[u8], most: usize) -> &[u8]
+    ensures front { result.now ≡ front_of most bytes.now }
+    ensures few { length result.now ≤ most }
 {
     if most < bytes.len() {
         &bytes[..most]

@@ -17,12 +17,12 @@ use crate::words::{key_words, order_words, stroke_words};
 use std::alloc::{AllocError, Global};
 
 /// Pushes words, and a text between quotes after them.
-fn push_before(out: &mut String, words: &str, text: &str) -> Result<(), AllocError>
+fn push_before(out: &mut String, words: &str, text: &[u8]) -> Result<(), AllocError>
     ensures { OnOk result (string_bytes out.new
         ≡ string_bytes out.old ++ (words.now ++ quoted text.now)) }
 {
     out.push_str(words)?;
-    push_quoted(out, text.as_bytes())
+    push_quoted(out, text)
 }
 
 /// Pushes the nearest word, where there is one.
@@ -31,9 +31,23 @@ fn push_near(out: &mut String, near: Option<&'static str>) -> Result<(), AllocEr
         ≡ string_bytes out.old ++ near_text (option_map (λ word. word.now) near.entry)) }
 {
     match near {
-        Some(word) => push_before(out, "; the nearest is ", word),
+        Some(word) => push_before(out, "; the nearest is ", word.as_bytes()),
         None => Ok(()),
     }
+}
+
+/// Pushes words, a text between quotes, and the nearest word, where there is one.
+pub(crate) fn push_with_near(
+    out: &mut String,
+    words: &str,
+    text: &[u8],
+    near: Option<&'static str>,
+) -> Result<(), AllocError>
+    ensures { OnOk result (string_bytes out.new ≡ string_bytes out.old
+        ++ ((words.now ++ quoted text.now) ++ near_text (option_map (λ w. w.now) near.entry))) }
+{
+    push_before(out, words, text)?;
+    push_near(out, near)
 }
 
 /// Pushes that a word is none of these, and the nearest of them.

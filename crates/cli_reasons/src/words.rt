@@ -1,7 +1,7 @@
 //! The words of lines.
 
 ghost use Rattle.std.specs.Prelude.{◌≡◌, map};
-ghost use Rattle.cli_reasons.specs.Words.{key_words, stroke_words, order_words};
+ghost use Rattle.cli_reasons.specs.Words.{key_words, stroke_words, order_words, top_words, field_words};
 
 /// The words of keys.
 const KEYS: [&str; 42] = [
@@ -104,6 +104,19 @@ const ORDERS: [&str; 19] = [
     "RA", "EUA", "GE", "TEXT",
 ];
 
+/// The keys at the top of a layout.
+const TOP: [&str; 6] = [
+    "version",
+    "addresses",
+    "default",
+    "alternate",
+    "screen",
+    "field",
+];
+
+/// The keys of a field of a layout.
+const FIELD: [&str; 7] = ["name", "row", "col", "length", "kind", "count", "down"];
+
 /// The words of keys.
 pub(crate) fn key_words() -> &'static [&'static str]
     ensures { map (λ word. word.now) result.now ≡ key_words }
@@ -123,4 +136,18 @@ pub(crate) fn order_words() -> &'static [&'static str]
     ensures { map (λ word. word.now) result.now ≡ order_words }
 {
     &ORDERS
+}
+
+/// The keys at the top of a layout.
+pub(crate) fn top_words() -> &'static [&'static str]
+    ensures { map (λ word. word.now) result.now ≡ top_words }
+{
+    &TOP
+}
+
+/// The keys of a field of a layout.
+pub(crate) fn field_words() -> &'static [&'static str]
+    ensures { map (λ word. word.now) result.now ≡ field_words }
+{
+    &FIELD
 }

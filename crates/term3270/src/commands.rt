@@ -176,13 +176,7 @@ pub(crate) fn draft(rt: &HostRuntime) -> Status {
 pub(crate) fn bind(rt: &HostRuntime, layout: &str, form: Form) -> Status {
     let mut layout = heard_file(rt, Lines::Layout, layout);
     let mut answers = heard_input(rt, Lines::SizedRecords);
-    let status = run_bind(
-        rt.alloc(),
-        &mut layout,
-        &mut answers,
-        &mut output(rt),
-        form,
-    );
+    let status = run_bind(rt.alloc(), &mut layout, &mut answers, &mut output(rt), form);
     told_first(rt, status, &mut layout, &mut answers)
 }
 
