@@ -65,7 +65,7 @@ unknown_in None = UnknownTop
 unknown_in (Some index) = UnknownField
 
 -- the first line of an unknown key, with its number
-abbrev pub unknown_line : List ℕ → Option ℕ → Option (ℕ × List ℕ)
+unfoldable pub unknown_line : List ℕ → Option ℕ → Option (ℕ × List ℕ)
 unknown_line text field =
     if has_long_text text then None else line_where (unknown_in field) 1 (tables_before field) (lines_in text)
 
@@ -83,11 +83,11 @@ abbrev pub word_of : List ℕ → List ℕ
 word_of line = word_or (key_of line) line
 
 -- up to 64 bytes of it
-abbrev pub unknown_word : List ℕ → List ℕ
+unfoldable pub unknown_word : List ℕ → List ℕ
 unknown_word line = front_of 64 (word_of line)
 
 -- an unknown key, and the nearest known one
-abbrev pub unknown_key_text : Option ℕ → List ℕ → List ℕ
+unfoldable pub unknown_key_text : Option ℕ → List ℕ → List ℕ
 unknown_key_text field word = (codes "unknown key " ++ quoted word) ++ near_text (nearest word (known_words field))
 
 abbrev pub place_or : Place → Place → Place

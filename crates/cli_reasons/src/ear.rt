@@ -7,7 +7,9 @@ ghost use Rattle.cli_reasons.specs.Flaw.{flaw_at};
 ghost use Rattle.cli_reasons.specs.Ear.{next_number, over_limit};
 
 use crate::flaw::{Flaw, Limit, Why};
-use crate::judged::{Judged, judged_name, judged_order, judged_record, judged_turn};
+use crate::judged::{
+    Judged, judged_name, judged_order, judged_record, judged_stream, judged_trace, judged_turn,
+};
 use crate::key_line::Names;
 use crate::layout_reason::layout_sentence;
 use crate::record_line::SizesBy;
@@ -21,6 +23,9 @@ use std::mem::replace;
 const MOST_BYTES: u64 = 16_777_216;
 /// The most bytes of a line that is kept.
 const MOST_KEPT: usize = 16_777_219;
+
+/// So many bytes at the front of a line tell whether it is one of a trace.
+const MOST_FRONT: usize = 64;
 
 const MOST_RECORDS: u64 = 1_000;
 
@@ -42,6 +47,10 @@ pub enum Lines {
     Orders,
     /// The text of a layout, which is kept whole.
     Layout,
+    /// A trace, of whose lines no more than the front is kept.
+    Trace,
+    /// Bytes of one side of a session, in hexadecimal.
+    Stream,
 }
 
 /// A line that is refused.
@@ -134,9 +143,17 @@ impl Ear {
         if self.is_done() || bytes.is_empty() {
             return;
         }
+        if self.lines == Lines::Trace && MOST_FRONT < self.open.len() {
+            return;
+        }
         if MOST_KEPT < self.open.len() || self.open.extend_from_slice(bytes).is_err() {
             self.is_deaf = true;
         }
+    }
+
+    /// Whether the input may have any number of bytes.
+    fn is_endless(&self) -> bool {
+        matches!(self.lines, Lines::Trace | Lines::Stream)
     }
 
     fn is_done(&self) -> bool {
@@ -180,6 +197,8 @@ impl Ear {
             Lines::Names(names) => judged_name(self.alloc, names, line),
             Lines::Orders => judged_order(self.alloc, self.sizes, line),
             Lines::Layout => Ok(Judged::Nothing),
+            Lines::Trace => Ok(judged_trace(line)),
+            Lines::Stream => Ok(judged_stream(line)),
         }
     }
 
@@ -196,6 +215,10 @@ impl Ear {
             }
             Judged::Record(bytes) => self.one_record(bytes),
             Judged::Key => self.one_more(MOST_KEYS, Limit::Keys),
+            Judged::Session => {
+                self.count = next_number(self.count);
+                None
+            }
             Judged::Command if self.in_record => Some(Flaw::at(1, Why::SecondCommand)),
             Judged::Command => {
                 self.in_record = true;
@@ -286,12 +309,18 @@ impl Ear {
         self.hear_line(line.as_slice());
     }
 
+    /// Whether no line came that counts.
+    pub fn has_none(&mut self) -> bool {
+        self.end();
+        self.count == 0 && !self.is_deaf
+    }
+
     /// The sentence of what is refused in the input of this name, where anything is.
     pub fn sentence(&mut self, name: &str) -> Option<String> {
         if self.lines == Lines::Layout {
             return self.layout_sentence(name);
         }
-        if MOST_BYTES < self.bytes {
+        if MOST_BYTES < self.bytes && !self.is_endless() {
             let flaw = Flaw::at(1, Why::TooLong(Limit::Bytes));
             return sentence(self.alloc, name, 1, flaw, b"").ok();
         }

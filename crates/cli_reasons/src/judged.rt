@@ -1,9 +1,9 @@
 //! What a line does, as the commands take it.
 
-ghost use Rattle.std.specs.Prelude.{◌≡◌, true, length, ◌<◌, ◌%◌};
-ghost use Rattle.cli_reasons.specs.Judged.{size_line, is_plain};
+ghost use Rattle.std.specs.Prelude.{◌≡◌};
+ghost use Rattle.cli_reasons.specs.Judged.{size_line, is_plain, is_spaced};
 
-use crate::digits::digit_count;
+use crate::digits::{digit_count, first_other};
 use crate::flaw::{Flaw, Limit, Why};
 use crate::key_line::{Names, key_flaw};
 use crate::order_line::order_flaw;
@@ -28,6 +28,8 @@ pub(crate) enum Judged {
     Order,
     /// It ends a record.
     End,
+    /// It has bytes of a session.
+    Session,
     Refused(Flaw),
 }
 
@@ -46,6 +48,13 @@ fn is_plain(line: &[u8]) -> bool
     ensures { result ≡ is_plain line.now }
 {
     !line.is_empty() && line.len() % 2 == 0 && digit_count(line) == line.len()
+}
+
+/// Whether a line is digits, an even number of them, and spaces.
+fn is_spaced(line: &[u8]) -> bool
+    ensures { result ≡ is_spaced line.now }
+{
+    first_other(line).is_none() && digit_count(line) % 2 == 0
 }
 
 /// What the records that a line alone tells show of it.
@@ -134,5 +143,23 @@ pub(crate) fn judged_order(
         Some(Told::Command(_)) => Ok(Judged::Command),
         Some(Told::Order(_)) => Ok(Judged::Order),
         None => judged_other(alloc, sizes, line),
+    }
+}
+
+/// What a line of a trace does: those that have bytes begin with a side.
+pub(crate) fn judged_trace(line: &[u8]) -> Judged {
+    if line.starts_with(b"< 0x".as_slice()) || line.starts_with(b"> 0x".as_slice()) {
+        Judged::Session
+    } else {
+        Judged::Nothing
+    }
+}
+
+/// What a line of a stream does.
+pub(crate) fn judged_stream(line: &[u8]) -> Judged {
+    if is_spaced(line) {
+        Judged::Session
+    } else {
+        Judged::Refused(record_flaw(SizesBy::Layout, line))
     }
 }

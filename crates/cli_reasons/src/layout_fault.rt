@@ -108,6 +108,7 @@ fn unknown_in(field: Option<usize>) -> Wanted
 }
 
 /// The first line of an unknown key, with its number.
+#[tactic(auto, unfolding(crate::specs::LayoutFault::unknown_line))]
 fn unknown_line(text: &[u8], field: Option<usize>) -> Option<(usize, &[u8])>
     requires { length text.now ≤ 16777216 }
     ensures { option_map (λ found. (found.0, found.1.now)) result
@@ -140,6 +141,7 @@ fn word_of(line: &[u8]) -> &[u8]
 }
 
 /// The unknown key of a line, up to 64 bytes of it.
+#[tactic(auto, unfolding(crate::specs::LayoutFault::unknown_word))]
 fn unknown_word(line: &[u8]) -> &[u8]
     ensures word { result.now ≡ unknown_word line.now }
     ensures few { length result.now ≤ 64 }
@@ -165,6 +167,7 @@ fn push_near_known(
 }
 
 /// Pushes an unknown key, and the nearest known one.
+#[tactic(auto, unfolding(crate::specs::LayoutFault::unknown_key_text))]
 fn push_unknown_key(
     alloc: Global,
     out: &mut String,

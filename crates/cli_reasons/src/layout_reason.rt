@@ -1,8 +1,11 @@
 //! Why a layout is refused, in a sentence.
 
-ghost use Rattle.std.specs.Prelude.{◌≡◌, ◌++◌, ◌≤◌, length, OnOk};
+ghost use Rattle.std.specs.Prelude.{◌≡◌, ◌++◌, ◌≤◌, length, IfOk, OnOk};
+ghost use Rattle.std.specs.Option.{option_map};
 ghost use Rattle.std.specs.String.{string_bytes};
 ghost use Rattle.cli_reasons.specs.Head.{column_head};
+ghost use Rattle.cli_commands.specs.LayoutText.{layout_in};
+ghost use Rattle.cli_reasons.specs.SaysLayout.{SaysFault, SaysLayout};
 ghost use Rattle.cli_reasons.specs.TomlPlace.{place_after};
 
 use crate::flaw::{Flaw, Limit, Why};
@@ -68,6 +71,7 @@ fn fault_sentence(
     fault: LayoutFault,
 ) -> Result<String, AllocError>
     requires { length text.now ≤ 16777216 }
+    ensures { IfOk result (λ said. SaysFault name.now text.now fault (string_bytes said)) }
 {
     let mut out = String::new(alloc);
     match fault.which {
@@ -86,11 +90,15 @@ const MOST_BYTES: usize = 16_777_216;
 /// # Errors
 ///
 /// Where a request for memory was refused.
+#[tactic(auto, unfolding(cli_commands::specs::Lines::within_limit))]
 pub fn layout_sentence(
     alloc: Global,
     name: &str,
     text: &[u8],
-) -> Result<Option<String>, CommandError> {
+) -> Result<Option<String>, CommandError>
+    ensures { IfOk result (λ said. SaysLayout name.now text.now
+        (option_map (λ words. string_bytes words) said) (layout_in text.now)) }
+{
     if MOST_BYTES < text.len() {
         let flaw = Flaw::at(1, Why::TooLong(Limit::Bytes));
         return Ok(Some(sentence(alloc, name, 1, flaw, b"")?));

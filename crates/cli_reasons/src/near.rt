@@ -6,7 +6,7 @@ ghost use Rattle.cli_reasons.specs.Nearest.{is_near, nearer, nearest, nearest_fr
 
 use std::alloc::{AllocError, Global};
 
-/// How many characters two words begin with alike.
+/// How many characters two words begin with alike, in either case.
 fn shared_front(a: &[u8], b: &[u8]) -> usize
     ensures value { result ≡ shared_front a.now b.now }
     ensures inside { result ≤ length a.now }
@@ -18,7 +18,7 @@ fn shared_front(a: &[u8], b: &[u8]) -> usize
         let [second, rest @ ..] = right else {
             return count;
         };
-        if *first != *second {
+        if !first.eq_ignore_ascii_case(second) {
             return count;
         }
         count += 1;
@@ -90,7 +90,8 @@ fn is_near(alloc: Global, word: &[u8], other: &str) -> Result<bool, AllocError>
     requires { length word.now < 2 ^ 32 }
     ensures { IfOk result (λ near. near ≡ is_near word.now other.now) }
 {
-    Ok(word.len() <= 2 * shared(alloc, word, other.as_bytes())?)
+    let shared = shared(alloc, word, other.as_bytes())?;
+    Ok(0 < shared && word.len() <= 2 * shared)
 }
 
 /// The nearest of some words, if it shares half of this one. A word isn't its own neighbor where it is empty.

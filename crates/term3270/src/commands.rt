@@ -2,7 +2,7 @@
 
 use crate::asked::{KeyLines, ReportForm, When};
 use crate::file::FileAt;
-use crate::reasons::{HeardFile, HeardInput, heard_file, heard_input, told, told_first, told_last};
+use crate::reasons::{HeardFile, HeardInput, heard_file, heard_input, told, told_first, told_last, told_traces};
 use crate::sessions::{run_attach, run_serve};
 use crate::stream::Named;
 use crate::tcp::Place;
@@ -26,16 +26,12 @@ use cli_traces::{Asked, Source, run_records};
 use std::alloc::AllocError;
 use std::env;
 use std::env::VarError;
-use std::io::{IsTerminal, Read, Stdin, Stdout};
+use std::io::{IsTerminal, Read, Stdout};
 use tn_traces::Side;
 
 /// A stream, and what people call it.
 fn named<'a, S>(rt: &'a HostRuntime, name: &'a str, stream: S) -> Watched<Named<'a, S>> {
     Watched::new(Named { rt, name, stream })
-}
-
-fn input(rt: &HostRuntime) -> Watched<Named<'_, Stdin>> {
-    named(rt, "standard input", rt.stdin())
 }
 
 fn output(rt: &HostRuntime) -> Watched<Named<'_, Stdout>> {
@@ -183,7 +179,17 @@ pub(crate) fn bind(rt: &HostRuntime, layout: &str, form: Form) -> Status {
 /// `records`.
 pub(crate) fn records(rt: &HostRuntime, source: Source, side: Side) -> Status {
     let asked = Asked { source, side };
-    run_records(rt.alloc(), asked, &mut input(rt), &mut output(rt))
+    let mut lines = heard_input(rt, traced_lines(source));
+    let status = run_records(rt.alloc(), asked, &mut lines, &mut output(rt));
+    told_traces(rt, status, &mut lines)
+}
+
+/// What the lines of traces are, or of streams.
+fn traced_lines(source: Source) -> Lines {
+    match source {
+        Source::Trace => Lines::Trace,
+        Source::Stream => Lines::Stream,
+    }
 }
 
 /// `serve`, with the layout of a file.

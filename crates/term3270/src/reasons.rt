@@ -19,6 +19,8 @@ pub(crate) type HeardFile<'a> = Heard<Watched<Named<'a, FileAt<'a>>>>;
 fn asked_for(lines: Lines) -> &'static str {
     match lines {
         Lines::Orders => "commands and orders, one a line",
+        Lines::Trace => "a trace of x3270, s3270 or c3270",
+        Lines::Stream => "bytes of one side in hexadecimal",
         Lines::Turns => "records in hexadecimal, with a line 'turn' between two turns",
         _ => "records in hexadecimal",
     }
@@ -108,4 +110,16 @@ pub(crate) fn told_last(
         }
     }
     told(rt, status, records)
+}
+
+/// Says why traces or streams are refused, or that nothing of a session was found in them, and tells the status.
+pub(crate) fn told_traces(
+    rt: &HostRuntime,
+    status: Status,
+    lines: &mut HeardInput<'_>,
+) -> Status {
+    if matches!(status, Status::Done) && lines.ear.has_none() {
+        let _ = eprintln!(rt; "term3270: {INPUT}: no line of a session was found");
+    }
+    told(rt, status, lines)
 }

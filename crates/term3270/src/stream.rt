@@ -13,9 +13,13 @@ pub(crate) struct Named<'a, S> {
 }
 
 impl<S> Named<'_, S> {
-    /// Says on standard error what failed and why. An interrupted call is made again, and isn't said.
+    /// Says on standard error what failed and why. An interrupted call is made again, and isn't said; nor is that a pipe was
+    /// closed by who reads it.
     fn report(&self, error: &io::Error) {
-        if error.kind() != io::ErrorKind::Interrupted {
+        if !matches!(
+            error.kind(),
+            io::ErrorKind::Interrupted | io::ErrorKind::BrokenPipe
+        ) {
             let name = self.name;
             let _ = eprintln!(self.rt; "term3270: {name}: {error}");
         }
