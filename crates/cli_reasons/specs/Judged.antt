@@ -1,5 +1,5 @@
 -- What a line does, as the commands take it.
-use Rattle.std.specs.Prelude.{ℕ, ◌%◌, ◌==◌, ◌&&◌, not, nat_lt, Bool, List, length, is_none}
+use Rattle.std.specs.Prelude.{ℕ, ◌%◌, ◌==◌, ◌&&◌, not, Bool, List, length, is_none}
 use Rattle.cli_commands.specs.declared.input.sizes.SizeLine.{SizeLine}
 use Rattle.cli_commands.specs.declared.input.sizes.SizeLine.TheVariants.{Allowed, Refused}
 use Rattle.cli_reasons.specs.declared.record_line.SizesBy.{SizesBy}

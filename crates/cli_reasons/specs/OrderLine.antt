@@ -1,8 +1,7 @@
 -- Why a line of orders is refused.
-use Rattle.std.specs.Prelude.{ℕ, ◌+◌, ◌%◌, ◌==◌, min, nat_eq, Bool, List, [], ◌∷◌, codes, drop, length, position, not, slice_index, Option, Some, None, if◌then◌else◌}
+use Rattle.std.specs.Prelude.{ℕ, ◌+◌, ◌%◌, ◌==◌, min, nat_eq, Bool, List, [], ◌∷◌, codes, drop, length, slice_index, Option, Some, None, if◌then◌else◌}
 use Rattle.std.specs.List.{starts_with, list_any, before_first}
 use Rattle.std.specs.Str.{bytes_eq}
-use Rattle.hex.specs.Hex.{is_hex_digit}
 use Rattle.cli_reasons.specs.declared.flaw.Flaw.{Flaw}
 use Rattle.cli_reasons.specs.declared.flaw.Why.TheVariants.{NotDigit, OddDigits, NoOrder, OtherForm}
 use Rattle.cli_reasons.specs.declared.record_line.SizesBy.{SizesBy}

@@ -2,7 +2,9 @@
 
 use crate::asked::{KeyLines, ReportForm, When};
 use crate::file::FileAt;
-use crate::reasons::{HeardFile, HeardInput, heard_file, heard_input, told, told_first, told_last, told_traces};
+use crate::reasons::{
+    HeardFile, HeardInput, heard_file, heard_input, told, told_first, told_last, told_traces,
+};
 use crate::sessions::{run_attach, run_serve};
 use crate::stream::Named;
 use crate::tcp::Place;

@@ -1,11 +1,11 @@
 //! What is said at a terminal, and how places are written.
 
-
 use crate::tcp::Place;
 use std::io::IsTerminal;
 
 /// The names of devices that `attach` takes.
-const DEVICES: &str = "devices: IBM-3278-2, IBM-3278-3, IBM-3278-4, IBM-3278-5, each also with -E, and the same of IBM-3279";
+const DEVICES: &str =
+    "devices: IBM-3278-2, IBM-3278-3, IBM-3278-4, IBM-3278-5, each also with -E, and the same of IBM-3279";
 
 /// A host without the brackets round an address, as `[::1]`.
 pub(crate) fn bare_host(host: &str) -> &str {

@@ -113,11 +113,7 @@ pub(crate) fn told_last(
 }
 
 /// Says why traces or streams are refused, or that nothing of a session was found in them, and tells the status.
-pub(crate) fn told_traces(
-    rt: &HostRuntime,
-    status: Status,
-    lines: &mut HeardInput<'_>,
-) -> Status {
+pub(crate) fn told_traces(rt: &HostRuntime, status: Status, lines: &mut HeardInput<'_>) -> Status {
     if matches!(status, Status::Done) && lines.ear.has_none() {
         let _ = eprintln!(rt; "term3270: {INPUT}: no line of a session was found");
     }

@@ -1,4 +1,4 @@
-use Rattle.std.proofs.Common.{◌≡◌, ℕ, ◌+◌, length}
+use Rattle.std.proofs.Common.{◌≡◌, ◌+◌, length}
 use Rattle.cli_reasons.specs.Nearest.{shared_front}
 use Rattle.cli_reasons.proofs.near.shared_front.Given as goal
 

@@ -1,5 +1,4 @@
-use Rattle.std.proofs.Common.{◌≡◌, true, false, sym, ◌∙◌, ap}
-use Rattle.std.specs.Str.{is_utf8}
+use Rattle.std.proofs.Common.{◌∙◌, ap}
 use Rattle.std.proofs.lemmas.Str.{is_utf8-from_IsUtf8}
 use Rattle.cli_reasons.specs.Text.{no_text_flaw}
 use Rattle.cli_reasons.proofs.Texts.{is_no_text}
