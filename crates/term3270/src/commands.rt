@@ -3,7 +3,8 @@
 use crate::asked::{KeyLines, ReportForm, When};
 use crate::file::FileAt;
 use crate::reasons::{
-    HeardFile, HeardInput, heard_file, heard_input, told, told_first, told_last, told_traces,
+    HeardFile, HeardInput, heard_file, heard_input, says, says_first, told, told_first, told_last,
+    told_traces,
 };
 use crate::sessions::{run_attach, run_serve};
 use crate::stream::Named;
@@ -45,9 +46,18 @@ fn picture(rt: &HostRuntime) -> Watched<Named<'_, Withheld<Stdout>>> {
     named(rt, "standard output", Withheld::new(rt.stdout()))
 }
 
-/// Writes a picture that is withheld, where it was made, and tells the status.
-fn released(status: Status, picture: &mut Watched<Named<'_, Withheld<Stdout>>>) -> Status {
+/// Writes a picture that is withheld, where it was made, and tells the status. Else what stands in its place is said on standard
+/// error, unless more was said already.
+fn released(
+    rt: &HostRuntime,
+    status: Status,
+    is_said: bool,
+    picture: &mut Watched<Named<'_, Withheld<Stdout>>>,
+) -> Status {
     if matches!(status, Status::BadInput) {
+        if !is_said {
+            picture.stream.stream.tell(rt);
+        }
         return status;
     }
     match picture.stream.release() {
@@ -91,8 +101,8 @@ pub(crate) fn draw(rt: &HostRuntime, drawing: Drawing) -> Status {
     let mut records = heard_input(rt, Lines::Records);
     let mut picture = picture(rt);
     let status = run_picture(rt.alloc(), drawing, &mut records, &mut picture);
-    let status = released(status, &mut picture);
-    told(rt, status, &mut records)
+    let is_said = says(rt, status, &mut records);
+    released(rt, status, is_said, &mut picture)
 }
 
 /// `show` with the names of a layout.
@@ -101,8 +111,8 @@ pub(crate) fn annotate(rt: &HostRuntime, layout: &str, form: Annotated) -> Statu
     let mut records = heard_input(rt, Lines::SizedRecords);
     let mut picture = picture(rt);
     let status = run_annotated(rt.alloc(), form, &mut layout, &mut records, &mut picture);
-    let status = released(status, &mut picture);
-    told_first(rt, status, &mut layout, &mut records)
+    let is_said = says_first(rt, status, &mut layout, &mut records);
+    released(rt, status, is_said, &mut picture)
 }
 
 /// `check`, of the records of a file or of standard input.

@@ -67,15 +67,32 @@ fn is_told(rt: &HostRuntime, name: &str, ear: &mut Ear) -> bool {
     }
 }
 
-/// Says why an input is refused, where the status says that one is, and tells the status.
+/// Says why an input is refused, where the status says that one is, and tells whether it said so.
+pub(crate) fn says<S>(
+    rt: &HostRuntime,
+    status: Status,
+    input: &mut Heard<Watched<Named<'_, S>>>,
+) -> bool {
+    matches!(status, Status::BadInput) && is_told(rt, input.stream.stream.name, &mut input.ear)
+}
+
+/// Says why the first of two inputs is refused that is, and tells whether it said so.
+pub(crate) fn says_first<S, T>(
+    rt: &HostRuntime,
+    status: Status,
+    first: &mut Heard<Watched<Named<'_, S>>>,
+    second: &mut Heard<Watched<Named<'_, T>>>,
+) -> bool {
+    says(rt, status, first) || says(rt, status, second)
+}
+
+/// Says why an input is refused, where one is, and tells the status.
 pub(crate) fn told<S>(
     rt: &HostRuntime,
     status: Status,
     input: &mut Heard<Watched<Named<'_, S>>>,
 ) -> Status {
-    if matches!(status, Status::BadInput) {
-        is_told(rt, input.stream.stream.name, &mut input.ear);
-    }
+    says(rt, status, input);
     status
 }
 
@@ -86,11 +103,7 @@ pub(crate) fn told_first<S, T>(
     first: &mut Heard<Watched<Named<'_, S>>>,
     second: &mut Heard<Watched<Named<'_, T>>>,
 ) -> Status {
-    if matches!(status, Status::BadInput)
-        && !is_told(rt, first.stream.stream.name, &mut first.ear)
-    {
-        is_told(rt, second.stream.stream.name, &mut second.ear);
-    }
+    says_first(rt, status, first, second);
     status
 }
 

@@ -26,6 +26,14 @@ impl<S> Withheld<S> {
         }
     }
 
+    /// Says on standard error what is withheld.
+    pub(crate) fn tell(&self, rt: &HostRuntime) {
+        let held = self.held.min(MOST_WITHHELD);
+        if let Ok(text) = str::from_utf8(&self.first[..held]) {
+            let _ = eprint!(rt; "term3270: {text}");
+        }
+    }
+
     /// Keeps bytes, and tells whether there was room for them.
     fn keeps(&mut self, bytes: &[u8]) -> bool {
         if self.is_open || MOST_WITHHELD < bytes.len() {
