@@ -2,13 +2,18 @@
 
 use crate::asked::{KeyLines, ReportForm, When};
 use crate::file::FileAt;
+use crate::reasons::{
+    HeardFile, HeardInput, heard_file, heard_input, says, says_first, told, told_first, told_last,
+    told_traces,
+};
 use crate::sessions::{run_attach, run_serve};
 use crate::stream::Named;
 use crate::tcp::Place;
+use crate::withheld::Withheld;
 use clap::ArgMatches;
 use cli_binds::{Form, run_bind};
 use cli_commands::{
-    Demos, GivesBytes, Status, Watched, run_check, run_check_pen, run_convert, run_convert_back,
+    Demos, Status, Watched, failure, run_check, run_check_pen, run_convert, run_convert_back,
     run_press, run_press_strokes, run_show, run_talk,
 };
 use cli_drafts::run_draft;
@@ -18,12 +23,13 @@ use cli_maps::{
     run_render_map,
 };
 use cli_pictures::{Annotated, Drawing, run_annotated, run_picture};
+use cli_reasons::{Heard, Lines, Names};
 use cli_sessions::Output;
 use cli_traces::{Asked, Source, run_records};
 use std::alloc::AllocError;
 use std::env;
 use std::env::VarError;
-use std::io::{IsTerminal, Stdin, Stdout};
+use std::io::{IsTerminal, Read, Stdout};
 use tn_traces::Side;
 
 /// A stream, and what people call it.
@@ -31,12 +37,43 @@ fn named<'a, S>(rt: &'a HostRuntime, name: &'a str, stream: S) -> Watched<Named<
     Watched::new(Named { rt, name, stream })
 }
 
-fn input(rt: &HostRuntime) -> Watched<Named<'_, Stdin>> {
-    named(rt, "standard input", rt.stdin())
-}
-
 fn output(rt: &HostRuntime) -> Watched<Named<'_, Stdout>> {
     named(rt, "standard output", rt.stdout())
+}
+
+/// Standard output of a picture, of which nothing is written where it can't be made.
+fn picture(rt: &HostRuntime) -> Watched<Named<'_, Withheld<Stdout>>> {
+    named(rt, "standard output", Withheld::new(rt.stdout()))
+}
+
+/// Writes a picture that is withheld, where it was made, and tells the status. Else what stands in its place is said on standard
+/// error, unless more was said already.
+fn released(
+    rt: &HostRuntime,
+    status: Status,
+    is_said: bool,
+    picture: &mut Watched<Named<'_, Withheld<Stdout>>>,
+) -> Status {
+    if matches!(status, Status::BadInput) {
+        if !is_said {
+            picture.stream.stream.tell(rt);
+        }
+        return status;
+    }
+    match picture.stream.release() {
+        Ok(()) => status,
+        Err(error) => failure(&error),
+    }
+}
+
+/// Records on standard input, for the sizes of a layout.
+fn sized_input(rt: &HostRuntime) -> HeardInput<'_> {
+    heard_input(rt, Lines::SizedRecords)
+}
+
+/// Records in a file, for the sizes of a layout.
+fn sized_file<'a>(rt: &'a HostRuntime, path: &'a str) -> HeardFile<'a> {
+    heard_file(rt, Lines::SizedRecords, path)
 }
 
 /// The file of a path, not yet opened.
@@ -54,24 +91,28 @@ pub(crate) fn show(rt: &HostRuntime, color: When) -> Status {
     if is_colored(rt, color) {
         return draw(rt, Drawing::Colored);
     }
-    run_show(rt.alloc(), &mut input(rt), &mut output(rt))
+    let mut records = heard_input(rt, Lines::Records);
+    let status = run_show(rt.alloc(), &mut records, &mut output(rt));
+    told(rt, status, &mut records)
 }
 
 /// `show` in another form.
 pub(crate) fn draw(rt: &HostRuntime, drawing: Drawing) -> Status {
-    run_picture(rt.alloc(), drawing, &mut input(rt), &mut output(rt))
+    let mut records = heard_input(rt, Lines::Records);
+    let mut picture = picture(rt);
+    let status = run_picture(rt.alloc(), drawing, &mut records, &mut picture);
+    let is_said = says(rt, status, &mut records);
+    released(rt, status, is_said, &mut picture)
 }
 
 /// `show` with the names of a layout.
 pub(crate) fn annotate(rt: &HostRuntime, layout: &str, form: Annotated) -> Status {
-    let mut layout = file_at(rt, layout);
-    run_annotated(
-        rt.alloc(),
-        form,
-        &mut layout,
-        &mut input(rt),
-        &mut output(rt),
-    )
+    let mut layout = heard_file(rt, Lines::Layout, layout);
+    let mut records = heard_input(rt, Lines::SizedRecords);
+    let mut picture = picture(rt);
+    let status = run_annotated(rt.alloc(), form, &mut layout, &mut records, &mut picture);
+    let is_said = says_first(rt, status, &mut layout, &mut records);
+    released(rt, status, is_said, &mut picture)
 }
 
 /// `check`, of the records of a file or of standard input.
@@ -83,8 +124,8 @@ pub(crate) fn check(
     pen: Pen,
 ) -> Status {
     match records {
-        Some(path) => check_over(rt, layout, &mut file_at(rt, path), demos, pen),
-        None => check_over(rt, layout, &mut input(rt), demos, pen),
+        Some(path) => check_over(rt, layout, &mut sized_file(rt, path), demos, pen),
+        None => check_over(rt, layout, &mut sized_input(rt), demos, pen),
     }
 }
 
@@ -97,67 +138,85 @@ pub(crate) fn report(
     pen: Pen,
 ) -> Status {
     match records {
-        Some(path) => report_over(rt, layout, path, &mut file_at(rt, path), form, pen),
-        None => report_over(rt, layout, "stdin", &mut input(rt), form, pen),
+        Some(path) => report_over(rt, layout, path, &mut sized_file(rt, path), form, pen),
+        None => report_over(rt, layout, "stdin", &mut sized_input(rt), form, pen),
     }
 }
 
 /// `press`, with the keys of a file.
 pub(crate) fn press(rt: &HostRuntime, keys: &str) -> Status {
-    let mut keys = file_at(rt, keys);
-    run_press(rt.alloc(), &mut input(rt), &mut keys, &mut output(rt))
+    let mut keys = heard_file(rt, Lines::Names(Names::Keys), keys);
+    let mut records = heard_input(rt, Lines::Records);
+    let status = run_press(rt.alloc(), &mut records, &mut keys, &mut output(rt));
+    told_first(rt, status, &mut records, &mut keys)
 }
 
 /// `press --strokes`, with the strokes of a file.
 pub(crate) fn strike(rt: &HostRuntime, strokes: &str) -> Status {
-    let mut strokes = file_at(rt, strokes);
-    run_press_strokes(rt.alloc(), &mut input(rt), &mut strokes, &mut output(rt))
+    let mut strokes = heard_file(rt, Lines::Names(Names::Strokes), strokes);
+    let mut records = heard_input(rt, Lines::Records);
+    let status = run_press_strokes(rt.alloc(), &mut records, &mut strokes, &mut output(rt));
+    told_first(rt, status, &mut records, &mut strokes)
 }
 
 /// `convert`.
 pub(crate) fn convert(rt: &HostRuntime) -> Status {
-    run_convert(rt.alloc(), &mut input(rt), &mut output(rt))
+    let mut records = heard_input(rt, Lines::Records);
+    let status = run_convert(rt.alloc(), &mut records, &mut output(rt));
+    told(rt, status, &mut records)
 }
 
 /// `convert --back`.
 pub(crate) fn convert_back(rt: &HostRuntime) -> Status {
-    run_convert_back(rt.alloc(), &mut input(rt), &mut output(rt))
+    let mut orders = heard_input(rt, Lines::Orders);
+    let status = run_convert_back(rt.alloc(), &mut orders, &mut output(rt));
+    told(rt, status, &mut orders)
 }
 
 /// `draft`.
 pub(crate) fn draft(rt: &HostRuntime) -> Status {
-    run_draft(rt.alloc(), &mut input(rt), &mut output(rt))
+    let mut records = heard_input(rt, Lines::Records);
+    let status = run_draft(rt.alloc(), &mut records, &mut output(rt));
+    told(rt, status, &mut records)
 }
 
 /// `bind`, with the layout of a file.
 pub(crate) fn bind(rt: &HostRuntime, layout: &str, form: Form) -> Status {
-    let mut layout = file_at(rt, layout);
-    run_bind(
-        rt.alloc(),
-        &mut layout,
-        &mut input(rt),
-        &mut output(rt),
-        form,
-    )
+    let mut layout = heard_file(rt, Lines::Layout, layout);
+    let mut answers = heard_input(rt, Lines::SizedRecords);
+    let status = run_bind(rt.alloc(), &mut layout, &mut answers, &mut output(rt), form);
+    told_first(rt, status, &mut layout, &mut answers)
 }
 
 /// `records`.
 pub(crate) fn records(rt: &HostRuntime, source: Source, side: Side) -> Status {
     let asked = Asked { source, side };
-    run_records(rt.alloc(), asked, &mut input(rt), &mut output(rt))
+    let mut lines = heard_input(rt, traced_lines(source));
+    let status = run_records(rt.alloc(), asked, &mut lines, &mut output(rt));
+    told_traces(rt, status, &mut lines)
+}
+
+/// What the lines of traces are, or of streams.
+fn traced_lines(source: Source) -> Lines {
+    match source {
+        Source::Trace => Lines::Trace,
+        Source::Stream => Lines::Stream,
+    }
 }
 
 /// `serve`, with the layout of a file.
 pub(crate) fn serve(rt: &HostRuntime, layout: &str, place: Place<'_>, count: u16) -> Status {
-    let mut layout = file_at(rt, layout);
-    run_serve(
+    let mut layout = heard_file(rt, Lines::Layout, layout);
+    let mut records = sized_input(rt);
+    let status = run_serve(
         rt,
         &mut layout,
-        &mut input(rt),
+        &mut records,
         place,
         count,
         &mut Output::new(output(rt)),
-    )
+    );
+    told_first(rt, status, &mut layout, &mut records)
 }
 
 /// `attach`, with the keys or strokes of a file.
@@ -168,38 +227,48 @@ pub(crate) fn attach(
     lines: KeyLines,
     device: &str,
 ) -> Status {
-    let mut keys = file_at(rt, keys);
-    run_attach(
+    let mut keys = heard_file(rt, names_of(lines), keys);
+    let status = run_attach(
         rt,
         place,
         &mut keys,
         lines,
         device,
         &mut Output::new(output(rt)),
-    )
+    );
+    told(rt, status, &mut keys)
 }
 
-/// Runs `check` on a layout's file and these records.
-fn check_over<R: GivesBytes>(
-    rt: &HostRuntime,
-    layout: &str,
-    records: &mut R,
-    demos: Demos,
-    pen: Pen,
-) -> Status {
-    let mut layout = file_at(rt, layout);
-    match pen {
-        Pen::Ignored => run_check(rt.alloc(), &mut layout, records, &mut output(rt), demos),
-        Pen::Asked => run_check_pen(rt.alloc(), &mut layout, records, &mut output(rt), demos),
+/// What the lines of keys, or of strokes, are.
+fn names_of(lines: KeyLines) -> Lines {
+    match lines {
+        KeyLines::Keys => Lines::Names(Names::Keys),
+        KeyLines::Strokes => Lines::Names(Names::Strokes),
     }
 }
 
+/// Runs `check` on a layout's file and these records.
+fn check_over<R: Read>(
+    rt: &HostRuntime,
+    layout: &str,
+    records: &mut Heard<Watched<Named<'_, R>>>,
+    demos: Demos,
+    pen: Pen,
+) -> Status {
+    let mut layout = heard_file(rt, Lines::Layout, layout);
+    let status = match pen {
+        Pen::Ignored => run_check(rt.alloc(), &mut layout, records, &mut output(rt), demos),
+        Pen::Asked => run_check_pen(rt.alloc(), &mut layout, records, &mut output(rt), demos),
+    };
+    told_first(rt, status, &mut layout, records)
+}
+
 /// Runs `check` for tools on a layout's file and the records of this path.
-fn report_over<R: GivesBytes>(
+fn report_over<R: Read>(
     rt: &HostRuntime,
     layout: &str,
     path: &str,
-    records: &mut R,
+    records: &mut Heard<Watched<Named<'_, R>>>,
     form: ReportForm,
     pen: Pen,
 ) -> Status {
@@ -210,15 +279,16 @@ fn report_over<R: GivesBytes>(
             records: path,
         }),
     };
-    let mut layout = file_at(rt, layout);
-    run_report(
+    let mut layout = heard_file(rt, Lines::Layout, layout);
+    let status = run_report(
         rt.alloc(),
         pen,
         report,
         &mut layout,
         records,
         &mut output(rt),
-    )
+    );
+    told_first(rt, status, &mut layout, records)
 }
 
 /// Says on standard error that a form doesn't draw a layout.
@@ -298,24 +368,28 @@ pub(crate) fn talk(rt: &HostRuntime, matches: &ArgMatches<'_>) -> Status {
 /// Runs `talk` on these files and the standard streams.
 fn talk_over(rt: &HostRuntime, paths: &[&str]) -> Status {
     match files_at(rt, paths) {
-        Ok(mut layouts) => run_talk(
-            rt.alloc(),
-            layouts.as_mut_slice(),
-            &mut input(rt),
-            &mut output(rt),
-        ),
+        Ok(mut layouts) => {
+            let mut records = heard_input(rt, Lines::Turns);
+            let status = run_talk(
+                rt.alloc(),
+                layouts.as_mut_slice(),
+                &mut records,
+                &mut output(rt),
+            );
+            told_last(rt, status, layouts.as_mut_slice(), &mut records)
+        }
         Err(_) => Status::NoMemory,
     }
 }
 
-/// The files of several paths, none yet opened.
+/// The layouts of several paths, none yet opened.
 fn files_at<'a>(
     rt: &'a HostRuntime,
     paths: &'a [&'a str],
-) -> Result<Vec<Watched<Named<'a, FileAt<'a>>>>, AllocError> {
+) -> Result<Vec<HeardFile<'a>>, AllocError> {
     let mut files = Vec::new(rt.alloc());
     for path in paths {
-        files.push(file_at(rt, path))?;
+        files.push(heard_file(rt, Lines::Layout, path))?;
     }
     Ok(files)
 }

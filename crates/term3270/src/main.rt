@@ -6,13 +6,18 @@ mod bad_word;
 mod command_line;
 mod commands;
 mod file;
+mod manners;
+mod prompt;
+mod reasons;
 mod sessions;
 mod stream;
 mod tcp;
+mod withheld;
 
 use crate::asked::Asked;
 use crate::bad_word::tell_bad_word;
 use crate::command_line::parsed;
+use crate::manners::bare_host;
 use crate::tcp::Place;
 use bms_map::Control;
 use clap::ArgMatches;
@@ -60,17 +65,23 @@ fn run(rt: &HostRuntime, asked: Asked<'_>, matches: &ArgMatches<'_>) -> Status {
         Asked::Records { source, side } => commands::records(rt, source, side),
         Asked::Serve {
             layout,
-            address: host,
+            address,
             port,
             count,
-        } => commands::serve(rt, layout, Place { host, port }, count),
+        } => {
+            let host = bare_host(address);
+            commands::serve(rt, layout, Place { host, port }, count)
+        }
         Asked::Attach {
             host,
             keys,
             lines,
             port,
             device,
-        } => commands::attach(rt, Place { host, port }, keys, lines, device),
+        } => {
+            let host = bare_host(host);
+            commands::attach(rt, Place { host, port }, keys, lines, device)
+        }
         Asked::Map {
             source,
             name,

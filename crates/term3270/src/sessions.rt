@@ -13,6 +13,7 @@ ghost use Rattle.cli_sessions.specs.Serve.{ServesAnew};
 ghost use Rattle.term3270.specs.Sessions.{AttachesLines, AttachesNamed, AttachesSocket, HasFailed, ServesPrepared};
 
 use crate::asked::KeyLines;
+use crate::manners::{tell_listening, tell_unknown_device};
 use crate::tcp::{Listening, Place, TcpLine};
 use cli_commands::{GivesBytes, Status, TakesBytes, finish, read_keys, read_strokes};
 use cli_sessions::{Output, Prepared, Screen, Visits, attach_on, prepare_serve, serve_on};
@@ -50,6 +51,7 @@ fn serve_at<W: TakesBytes>(
 {
     match Listening::at(rt, place) {
         Ok(listening) => {
+            tell_listening(rt, place);
             let mut terminals = Visits::new(listening);
             serve_on(rt.alloc(), &mut terminals, screen, count, output)
         }
@@ -74,7 +76,7 @@ pub(crate) fn run_attach<K: GivesBytes, W: TakesBytes>(
         output.new result text) }
 {
     let Some(device) = Device::from_name(device.as_bytes()) else {
-        let _ = eprintln!(rt; "unknown device");
+        tell_unknown_device(rt);
         return Status::BadInput;
     };
     match lines {

@@ -1,5 +1,6 @@
 //! Streams that name themselves, with the cause, on standard error where they fail.
 
+use crate::withheld::Withheld;
 use std::io;
 use std::io::{Read, Write};
 
@@ -12,12 +13,27 @@ pub(crate) struct Named<'a, S> {
 }
 
 impl<S> Named<'_, S> {
-    /// Says on standard error what failed and why. An interrupted call is made again, and isn't said.
+    /// Says on standard error what failed and why. An interrupted call is made again, and isn't said; nor is that a pipe was
+    /// closed by who reads it.
     fn report(&self, error: &io::Error) {
-        if error.kind() != io::ErrorKind::Interrupted {
+        if !matches!(
+            error.kind(),
+            io::ErrorKind::Interrupted | io::ErrorKind::BrokenPipe
+        ) {
             let name = self.name;
             let _ = eprintln!(self.rt; "term3270: {name}: {error}");
         }
+    }
+}
+
+impl<S: Write> Named<'_, Withheld<S>> {
+    /// Writes what is withheld, and says what failed.
+    pub(crate) fn release(&mut self) -> io::Result<()> {
+        let released = self.stream.release();
+        if let Err(error) = &released {
+            self.report(error);
+        }
+        released
     }
 }
 

@@ -1,0 +1,33 @@
+//! Why an input is refused: of a line the column and what stands there, in a sentence for standard error.
+#![tactic(auto)]
+
+mod digits;
+mod ear;
+mod flaw;
+mod head;
+mod heard;
+mod judged;
+mod key_line;
+mod layout_fault;
+mod layout_line;
+mod layout_reason;
+mod layout_words;
+mod near;
+mod order_line;
+mod record_line;
+mod shown;
+mod telling;
+mod text;
+mod toml_place;
+mod words;
+
+pub use ear::{Ear, Lines};
+pub use flaw::{Flaw, Limit, Why};
+pub use head::Place;
+pub use heard::Heard;
+pub use key_line::{Names, key_flaw};
+pub use layout_reason::layout_sentence;
+pub use near::nearest;
+pub use order_line::order_flaw;
+pub use record_line::{SizesBy, record_flaw};
+pub use telling::sentence;

@@ -1,0 +1,134 @@
+//! Why an input is refused, on standard error, beside where on standard output.
+
+use crate::file::FileAt;
+use crate::prompt::Prompt;
+use crate::stream::Named;
+use cli_commands::{Status, Watched};
+use cli_reasons::{Ear, Heard, Lines};
+
+/// What people call standard input.
+const INPUT: &str = "standard input";
+
+/// Standard input, whose lines are heard.
+pub(crate) type HeardInput<'a> = Heard<Watched<Named<'a, Prompt<'a>>>>;
+
+/// A file, whose lines are heard.
+pub(crate) type HeardFile<'a> = Heard<Watched<Named<'a, FileAt<'a>>>>;
+
+/// What people type where lines are read from a terminal.
+fn asked_for(lines: Lines) -> &'static str {
+    match lines {
+        Lines::Orders => "commands and orders, one a line",
+        Lines::Trace => "a trace of x3270, s3270 or c3270",
+        Lines::Stream => "bytes of one side in hexadecimal",
+        Lines::Turns => "records in hexadecimal, with a line 'turn' between two turns",
+        _ => "records in hexadecimal",
+    }
+}
+
+/// Standard input, of such lines.
+pub(crate) fn heard_input(rt: &HostRuntime, lines: Lines) -> HeardInput<'_> {
+    let stream = Named {
+        rt,
+        name: INPUT,
+        stream: Prompt::new(rt, asked_for(lines)),
+    };
+    Heard {
+        stream: Watched::new(stream),
+        ear: Ear::new(rt.alloc(), lines),
+    }
+}
+
+/// The file of a path, of such lines, not yet opened.
+pub(crate) fn heard_file<'a>(rt: &'a HostRuntime, lines: Lines, path: &'a str) -> HeardFile<'a> {
+    let stream = Named {
+        rt,
+        name: path,
+        stream: FileAt {
+            rt,
+            path,
+            file: None,
+        },
+    };
+    Heard {
+        stream: Watched::new(stream),
+        ear: Ear::new(rt.alloc(), lines),
+    }
+}
+
+/// Says why an input of this name is refused, and tells whether it is.
+fn is_told(rt: &HostRuntime, name: &str, ear: &mut Ear) -> bool {
+    match ear.sentence(name) {
+        Some(text) => {
+            let _ = eprint!(rt; "{text}");
+            true
+        }
+        None => false,
+    }
+}
+
+/// Says why an input is refused, where the status says that one is, and tells whether it said so.
+pub(crate) fn says<S>(
+    rt: &HostRuntime,
+    status: Status,
+    input: &mut Heard<Watched<Named<'_, S>>>,
+) -> bool {
+    matches!(status, Status::BadInput) && is_told(rt, input.stream.stream.name, &mut input.ear)
+}
+
+/// Says why the first of two inputs is refused that is, and tells whether it said so.
+pub(crate) fn says_first<S, T>(
+    rt: &HostRuntime,
+    status: Status,
+    first: &mut Heard<Watched<Named<'_, S>>>,
+    second: &mut Heard<Watched<Named<'_, T>>>,
+) -> bool {
+    says(rt, status, first) || says(rt, status, second)
+}
+
+/// Says why an input is refused, where one is, and tells the status.
+pub(crate) fn told<S>(
+    rt: &HostRuntime,
+    status: Status,
+    input: &mut Heard<Watched<Named<'_, S>>>,
+) -> Status {
+    says(rt, status, input);
+    status
+}
+
+/// Says why the first of two inputs is refused that is, and tells the status.
+pub(crate) fn told_first<S, T>(
+    rt: &HostRuntime,
+    status: Status,
+    first: &mut Heard<Watched<Named<'_, S>>>,
+    second: &mut Heard<Watched<Named<'_, T>>>,
+) -> Status {
+    says_first(rt, status, first, second);
+    status
+}
+
+/// Says why the first of some layouts and of records after them is refused that is, and tells the status.
+pub(crate) fn told_last(
+    rt: &HostRuntime,
+    status: Status,
+    layouts: &mut [HeardFile<'_>],
+    records: &mut HeardInput<'_>,
+) -> Status {
+    if !matches!(status, Status::BadInput) {
+        return status;
+    }
+    for layout in layouts {
+        if is_told(rt, layout.stream.stream.name, &mut layout.ear) {
+            return status;
+        }
+    }
+    told(rt, status, records)
+}
+
+/// Says why traces or streams are refused, or that nothing of a session was found in them, and tells the status.
+pub(crate) fn told_traces(rt: &HostRuntime, status: Status, lines: &mut HeardInput<'_>) -> Status {
+    if matches!(status, Status::Done) && lines.ear.has_none() {
+        let _ = eprintln!(rt; "term3270: {INPUT}: no line of a session was found");
+    }
+    told(rt, status, lines)
+}
