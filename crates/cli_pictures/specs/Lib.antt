@@ -2,6 +2,7 @@ pub mod Seen
 pub mod Svg
 pub mod Html
 pub mod Colored
+pub mod Codes
 pub mod Json
 pub mod Picture
 pub mod Pressed

@@ -2,6 +2,7 @@
 #![tactic(auto)]
 
 mod annotated;
+mod codes;
 mod colored;
 mod drawing;
 mod html;
