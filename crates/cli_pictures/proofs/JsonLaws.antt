@@ -56,19 +56,16 @@ none_floats : {X : Type 0} (f : X → Data) → ((x : X) → has_float (f x) ≡
 none_floats f none [] = refl
 none_floats f none (x ∷ xs) = rw (none x) (none_floats f none xs)
 
-no_escape_floats : (c : Cell) (p : ℕ) (rest : List Data) → items_have_float (items_of rest) ≡ false
-    → items_have_float (items_of ((if is_alternate c then count p ∷ [] else []) ++ rest)) ≡ false
-no_escape_floats c p rest none =
-    elim (is_alternate c) [
-      | true ↦ none
-      | false ↦ none
-    ]
+escape_floats : (b : Bool) (p : ℕ) (rest : List Data) → items_have_float (items_of rest) ≡ false
+    → items_have_float (items_of ((if b then count p ∷ [] else []) ++ rest)) ≡ false
+escape_floats true p rest none = none
+escape_floats false p rest none = none
 
 no_escapes_float : (cells : List Cell) (ps : List ℕ) → items_have_float (items_of (flat_map (escape_at cells) ps)) ≡ false
 no_escapes_float cells [] = refl
 no_escapes_float cells (p ∷ ps) =
     ap (λ parts. items_have_float (items_of parts)) (flat_map-cons (escape_at cells) p ps)
-    ∙ no_escape_floats (cell_at cells p) p (flat_map (escape_at cells) ps) (no_escapes_float cells ps)
+    ∙ escape_floats (is_alternate (cell_at cells p)) p (flat_map (escape_at cells) ps) (no_escapes_float cells ps)
 
 no_float : (v : Picture) → has_float (screen_data v) ≡ false
 unfolding screen_data

@@ -22,9 +22,12 @@ abbrev pub character_of : Cell → ℕ
 character_of (Field attribute) = 32
 character_of (Char character) = if character.code == 0 then 32 else text_of character
 
--- the cell so many positions on from p; after the last cell comes the first one
+-- the position so many on from p, of n; after the last one comes the first one
+abbrev pub place_on : ℕ → ℕ → ℕ → ℕ
+place_on n p steps = (p + steps) % n
+
 abbrev pub cell_on : List Cell → ℕ → ℕ → Cell
-cell_on cells p steps = cell_at cells ((p + steps) % length cells)
+cell_on cells p steps = cell_at cells (place_on (length cells) p steps)
 
 abbrev pub code_on : List Cell → ℕ → ℕ → List ℕ
 code_on cells p steps = hex_byte (code_of (cell_on cells p steps))

@@ -4,7 +4,7 @@ ghost use Rattle.std.specs.Prelude.{◌≡◌, ◌+◌, ◌%◌, ◌<◌, ◌++�
 ghost use Rattle.std.specs.List.{flat_map, range_with_len};
 ghost use Rattle.ds_screen.specs.Picture.{cell_at};
 ghost use Rattle.order_lines.specs.Print.{hex_byte};
-ghost use Rattle.cli_pictures.specs.Codes.{code_of, is_alternate, character_of, cell_on, code_on, character_on, codes_on, characters_on};
+ghost use Rattle.cli_pictures.specs.Codes.{code_of, is_alternate, character_of, place_on, cell_on, code_on, character_on, codes_on, characters_on};
 
 use ds_codec::Cell;
 use ds_screen::{PlaneCells, Screen, text_of};
@@ -48,13 +48,21 @@ fn character_of(cell: &Cell) -> u8
     }
 }
 
-/// The cell so many positions on, round the screen's end.
-fn cell_on(screen: &Screen<PlaneCells>, start: u32, steps: u32) -> Cell
-    ensures { result ≡ cell_on screen.now.cells start steps }
+/// The position so many on, round the screen's end.
+pub(crate) fn place_on(screen: &Screen<PlaneCells>, start: u32, steps: u32) -> u32
+    ensures place { result ≡ place_on (length screen.now.cells) start steps }
+    ensures inside { result < length screen.now.cells }
 {
     let cells = u64::from(screen.size().cells());
     let place = (u64::from(start) + u64::from(steps)) % cells;
-    screen.cell(place as u32)
+    place as u32
+}
+
+/// Its cell.
+pub(crate) fn cell_on(screen: &Screen<PlaneCells>, start: u32, steps: u32) -> Cell
+    ensures { result ≡ cell_on screen.now.cells start steps }
+{
+    screen.cell(place_on(screen, start, steps))
 }
 
 fn push_code(

@@ -31,16 +31,16 @@ fn named<'a, S>(rt: &'a HostRuntime, name: &'a str, stream: S) -> Watched<Named<
     Watched::new(Named { rt, name, stream })
 }
 
-fn input(rt: &HostRuntime) -> Watched<Named<'_, Stdin>> {
+pub(crate) fn input(rt: &HostRuntime) -> Watched<Named<'_, Stdin>> {
     named(rt, "standard input", rt.stdin())
 }
 
-fn output(rt: &HostRuntime) -> Watched<Named<'_, Stdout>> {
+pub(crate) fn output(rt: &HostRuntime) -> Watched<Named<'_, Stdout>> {
     named(rt, "standard output", rt.stdout())
 }
 
 /// The file of a path, not yet opened.
-fn file_at<'a>(rt: &'a HostRuntime, path: &'a str) -> Watched<Named<'a, FileAt<'a>>> {
+pub(crate) fn file_at<'a>(rt: &'a HostRuntime, path: &'a str) -> Watched<Named<'a, FileAt<'a>>> {
     let stream = FileAt {
         rt,
         path,
@@ -309,7 +309,7 @@ fn talk_over(rt: &HostRuntime, paths: &[&str]) -> Status {
 }
 
 /// The files of several paths, none yet opened.
-fn files_at<'a>(
+pub(crate) fn files_at<'a>(
     rt: &'a HostRuntime,
     paths: &'a [&'a str],
 ) -> Result<Vec<Watched<Named<'a, FileAt<'a>>>>, AllocError> {

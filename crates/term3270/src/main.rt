@@ -6,6 +6,7 @@ mod bad_word;
 mod command_line;
 mod commands;
 mod file;
+mod reports;
 mod sessions;
 mod stream;
 mod tcp;
@@ -50,7 +51,13 @@ fn run(rt: &HostRuntime, asked: Asked<'_>, matches: &ArgMatches<'_>) -> Status {
             form,
             pen,
         } => commands::report(rt, layout, records, form, pen),
+        Asked::Explain {
+            layout,
+            records,
+            pen,
+        } => reports::explain(rt, layout, records, pen),
         Asked::Talk => commands::talk(rt, matches),
+        Asked::ReportTalk { form } => reports::report_talk(rt, matches, form),
         Asked::Press { keys } => commands::press(rt, keys),
         Asked::Strike { strokes } => commands::strike(rt, strokes),
         Asked::Convert => commands::convert(rt),

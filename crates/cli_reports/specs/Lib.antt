@@ -1,0 +1,9 @@
+pub mod Label
+pub mod Extent
+pub mod Add
+pub mod Explain
+pub mod Explained
+pub mod Numbers
+pub mod Stop
+pub mod TalkJson
+pub mod TalkReport
