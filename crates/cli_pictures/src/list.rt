@@ -18,7 +18,7 @@ use std::alloc::{AllocError, Global};
 
 /// The lines of the list.
 #[derive(Drop)]
-pub(crate) struct Listed {
+pub(crate) struct ListLines {
     pub names: Vec<String>,
     pub findings: Vec<String>,
 }
@@ -101,13 +101,13 @@ pub(crate) fn listed(
     screen: &Screen<PlaneCells>,
     entries: &[Entry],
     findings: &[Finding],
-) -> Result<Listed, AllocError>
+) -> Result<ListLines, AllocError>
     ensures names { IfOk result (λ list. map string_bytes list.names.items
         ≡ names_listed screen.now entries.now 1 entries.now) }
     ensures findings { IfOk result (λ list. map string_bytes list.findings.items
         ≡ findings_listed entries.now 1 findings.now) }
 {
-    Ok(Listed {
+    Ok(ListLines {
         names: names_listed(alloc, screen, entries)?,
         findings: findings_listed(alloc, entries, findings)?,
     })
@@ -148,7 +148,7 @@ fn push_list_begin(out: &mut String, y: u32) -> Result<(), AllocError>
 }
 
 /// The list.
-pub(crate) fn push_list(out: &mut String, size: Size, list: &Listed) -> Result<(), AllocError>
+pub(crate) fn push_list(out: &mut String, size: Size, list: &ListLines) -> Result<(), AllocError>
     ensures { OnOk result (string_bytes out.new ≡ string_bytes out.old
         ++ list_element size (map string_bytes list.now.names.items) (map string_bytes list.now.findings.items)) }
 {
@@ -171,7 +171,7 @@ fn widest(lines: &[String]) -> u32
 }
 
 /// How wide the drawing is.
-pub(crate) fn wide(size: Size, list: &Listed) -> u32
+pub(crate) fn wide(size: Size, list: &ListLines) -> u32
     ensures { result ≡ wide size (map string_bytes list.now.names.items) (map string_bytes list.now.findings.items) }
 {
     let longest = widest(list.names.as_slice()).max(widest(list.findings.as_slice()));
@@ -179,7 +179,7 @@ pub(crate) fn wide(size: Size, list: &Listed) -> u32
 }
 
 /// How high the drawing is.
-pub(crate) fn high(size: Size, list: &Listed) -> u32
+pub(crate) fn high(size: Size, list: &ListLines) -> u32
     ensures { result ≡ high size (map string_bytes list.now.names.items) (map string_bytes list.now.findings.items) }
 {
     let lines = list.names.len().min(100_000) + list.findings.len().min(100_000);

@@ -72,7 +72,7 @@ fn has_place(entries: &[Entry], p: u64, count: u64) -> bool
 }
 
 /// The first position behind a field and the attribute that ends it.
-fn behind(entry: &Entry) -> u64
+pub(crate) fn behind(entry: &Entry) -> u64
     ensures value { result ≡ behind entry.now }
     ensures small { result < 2 ^ 34 }
 {
