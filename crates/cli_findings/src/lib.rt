@@ -33,7 +33,10 @@ pub use object::{Members, listed, put_str, single};
 pub use origins::origins_text;
 pub use paths::Paths;
 pub use record_line::{is_silent, line_of_record};
-pub use region::{Columns, Region};
+pub use region::{Columns, Region, layout_line, line_of_fault};
 pub use report::{Report, report_texts, run_report};
 pub use rule_facts::{meaning_of_finding, rule_count, rule_id_of, rule_index_of};
-pub use sarif::{findings_log, level_value, location_value, log_text, put_message, rules_value};
+pub use sarif::{
+    findings_log, fronted_log, level_value, location_value, log_text, put_message, refusal_log,
+    rules_value,
+};

@@ -7,3 +7,5 @@ pub mod Numbers
 pub mod Stop
 pub mod TalkJson
 pub mod TalkReport
+pub mod Blanked
+pub mod TalkLog

@@ -2,6 +2,7 @@
 #![tactic(auto)]
 
 mod add;
+mod blanked;
 mod explain;
 mod explained;
 mod extent;
@@ -10,6 +11,8 @@ mod numbers;
 mod stop;
 mod talk;
 mod talk_json;
+mod talk_log;
 
 pub use explained::{explained_texts, run_explained};
 pub use talk::{TalkForm, talk_report_texts};
+pub use talk_log::talk_log_texts;
