@@ -21,8 +21,7 @@ _term3270_values() { # OPTION
   case $command$1 in
     show--format) _term3270_offer -W 'text svg html json screen' ;;
     show--color) _term3270_offer -W 'auto always never' ;;
-    check--format) _term3270_offer -W 'text json sarif' ;;
-    talk--format) _term3270_offer -W 'text json' ;;
+    check--format | talk--format) _term3270_offer -W 'text json sarif' ;;
     records--from) _term3270_offer -W 'trace stream' ;;
     attach--device)
       for device in IBM-327{8,9}-{2,3,4,5}{,-E}; do devices="$devices $device"; done

@@ -1,5 +1,5 @@
 -- The texts of a drawing with a layout, counted.
-use Rattle.std.proofs.Common.{◌≡◌, ℕ, suc, ◌+◌, ◌-◌, ◌*◌, ◌%◌, ◌<◌, ◌≤◌, ◌^◌, Bool, true, false, List, [], ◌∷◌, ◌++◌, length, refl, ap, ◌∙◌, arith, append_assoc}
+use Rattle.std.proofs.Common.{◌≡◌, ℕ, zero, suc, ◌+◌, ◌-◌, ◌*◌, ◌%◌, ◌<◌, ◌≤◌, ◌^◌, Bool, true, false, List, [], ◌∷◌, ◌++◌, length, refl, ap, ◌∙◌, arith, append_assoc}
 use Rattle.std.specs.Prelude.{not, ◌==◌, ◌&&◌, codes, nat_lt, nat_le, min, max, Option, Some, None, if◌then◌else◌}
 use Rattle.std.specs.Fmt.{decimal}
 use Rattle.std.specs.List.{flat_map, range_with_len}
@@ -56,7 +56,7 @@ both_first true b e = refl
 both_first false b e = e
 
 -- a name stands behind its field only on the screen
-IsNear : Picture → Declared → Stand → Type 0
+abbrev IsNear : Picture → Declared → Stand → Type 0
 IsNear v entry Above = Unit {0}
 IsNear v entry Behind = behind entry < length v.cells
 IsNear v entry Numbered = Unit {0}
@@ -164,7 +164,7 @@ part_skips v p count words steps rest narrow lt =
 
 parts_skip : (v : Picture) (p count : ℕ) (words : List ℕ) (n a : ℕ) (rest : List ℕ) → v.size.cols ≤ 255 → ((steps : ℕ) → place_on (length v.cells) p steps < 2 ^ 32)
     → texts_in (flat_map (part_element v p count words) (range_with_len a n) ++ rest) ≡ texts_in rest
-parts_skip v p count words 0 a rest narrow lt = refl
+parts_skip v p count words zero a rest narrow lt = refl
 parts_skip v p count words (suc n) a rest narrow lt =
     ap texts_in (append_assoc (part_element v p count words a) (flat_map (part_element v p count words) (range_with_len (a + 1) n)) rest)
     ∙ part_skips v p count words a _ narrow (lt a) ∙ parts_skip v p count words n (a + 1) rest narrow lt
@@ -173,7 +173,7 @@ mark_counts : (cols p number : ℕ) (rest : List ℕ) → p < 2 ^ 32 → texts_i
 mark_counts cols p number rest lt =
     note_counts (codes "mark") (left_of cols p) (top_of cols p + 18) (mark_words number) rest refl (omega (arith, left_small cols p lt)) (omega (arith, top_small cols p lt))
 
-IsNearPlace : Picture → Option ℕ → Type 0
+abbrev IsNearPlace : Picture → Option ℕ → Type 0
 IsNearPlace v None = Unit {0}
 IsNearPlace v (Some p) = p < length v.cells
 

@@ -19,7 +19,7 @@ use Rattle.term3270.specs.declared.asked.KeyLines.TheVariants as key_lines
 use Rattle.term3270.specs.declared.asked.ReportForm.{ReportForm}
 use Rattle.term3270.specs.declared.asked.ReportForm.TheVariants.{Json, Sarif}
 use Rattle.term3270.specs.declared.asked.Asked.{Asked}
-use Rattle.term3270.specs.declared.asked.Asked.TheVariants.{Show, Draw, Annotate, Undrawn, Check, Report, Explain, Talk, ReportTalk, Press, Strike, Convert, ConvertBack, Draft, Bind, Records, Serve, Attach, Map, CheckMap, RenderMap, NoLayout}
+use Rattle.term3270.specs.declared.asked.Asked.TheVariants.{Show, Draw, Annotate, Undrawn, Check, Report, Explain, Talk, ReportTalk, LogTalk, Press, Strike, Convert, ConvertBack, Draft, Bind, Records, Serve, Attach, Map, CheckMap, RenderMap, NoLayout}
 use Rattle.cli_findings.specs.declared.found.Pen.{Pen}
 use Rattle.cli_findings.specs.declared.found.Pen.TheVariants as pens
 use Rattle.cli_pictures.specs.declared.annotated.Annotated.{Annotated}
@@ -175,6 +175,7 @@ IsTextTalk rows _ = ⊥
 abbrev pub IsTalk : List Row → Asked → Type 0
 IsTalk rows asked = (first_of (codes "format") rows ≡ Some (codes "text") → IsTextTalk rows asked)
     × (first_of (codes "format") rows ≡ Some (codes "json") → asked ≡ ReportTalk talks.Json)
+    × (first_of (codes "format") rows ≡ Some (codes "sarif") → asked ≡ LogTalk)
 
 abbrev pub IsPress : List Row → Asked → Type 0
 IsPress rows (Press keys) = IsText (codes "KEYS") rows keys × IsOption (codes "strokes") rows false

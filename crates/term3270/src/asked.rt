@@ -77,6 +77,8 @@ pub(crate) enum Asked<'a> {
     ReportTalk {
         form: TalkForm,
     },
+    /// `talk` as a log.
+    LogTalk,
     Press {
         keys: &'a str,
     },
@@ -435,6 +437,7 @@ fn talk_of<'a>(words: &ArgMatches<'a>) -> Asked<'a>
         "json" => Asked::ReportTalk {
             form: TalkForm::Json,
         },
+        "sarif" => Asked::LogTalk,
         _ => text_talk_of(words),
     }
 }

@@ -73,7 +73,8 @@ Output:
 
 Forms:
   --explain prints under each finding where its field is on the screen, what it means, and what mends it. json is an
-  object a line for each finding, with its turn, and one with the verdict (docs/FINDINGS.md).
+  object a line for each finding, with its turn, and one with the verdict; sarif is a log of SARIF 2.1.0, whose messages
+  begin with the turn (docs/FINDINGS.md).
 
 Example:
   $ term3270 talk examples/signon.toml examples/menu.toml < examples/signon_menu.hex
@@ -179,8 +180,6 @@ const SCREEN_FORMS: &[&str] = &["text", "svg", "html", "json", "screen"];
 const WHEN: &[&str] = &["auto", "always", "never"];
 
 const FINDING_FORMS: &[&str] = &["text", "json", "sarif"];
-
-const TALK_FORMS: &[&str] = &["text", "json"];
 
 const SOURCES: &[&str] = &["trace", "stream"];
 
@@ -427,7 +426,7 @@ const SCREENS: &[Described<'_>] = &[
             },
             Argument {
                 name: "format",
-                takes: Takes::OneOf("FORM", TALK_FORMS, "text"),
+                takes: Takes::OneOf("FORM", FINDING_FORMS, "text"),
                 help: "How the findings are printed",
             },
         ],

@@ -58,6 +58,7 @@ fn run(rt: &HostRuntime, asked: Asked<'_>, matches: &ArgMatches<'_>) -> Status {
         } => reports::explain(rt, layout, records, pen),
         Asked::Talk => commands::talk(rt, matches),
         Asked::ReportTalk { form } => reports::report_talk(rt, matches, form),
+        Asked::LogTalk => reports::log_talk(rt, matches),
         Asked::Press { keys } => commands::press(rt, keys),
         Asked::Strike { strokes } => commands::strike(rt, strokes),
         Asked::Convert => commands::convert(rt),
