@@ -27,11 +27,15 @@ use Rattle.cli_pictures.specs.Notes.{notes_style, names_from, findings_from, nam
 abbrev pub notes : List Declared → List Finding → Picture → List ℕ
 notes entries findings v = notes_style ++ (names_from v entries 1 entries ++ findings_from v entries 1 findings)
 
--- with the list of these lines below it, for which it has room
+-- and with the list of these lines below it
+abbrev pub below : List Declared → List Finding → Picture → List (List ℕ) → List (List ℕ) → List ℕ
+below entries findings v names words = notes entries findings v ++ (list_element v.size names words ++ codes "</svg>\n")
+
+-- the drawing, which has room for that list
 abbrev pub listed_svg : List Declared → List Finding → Picture → List (List ℕ) → List (List ℕ) → List ℕ
 listed_svg entries findings v names words =
     sized_head v (wide v.size names words) (high v.size names words) ++ (flat_map (line_at v) (places v) ++ (flat_map (text_at v) (places v)
-    ++ (cursor_element v.size.cols v.cursor ++ (notes entries findings v ++ (list_element v.size names words ++ codes "</svg>\n")))))
+    ++ (cursor_element v.size.cols v.cursor ++ below entries findings v names words)))
 
 -- ---- the forms
 

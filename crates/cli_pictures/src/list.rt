@@ -5,7 +5,7 @@ ghost use Rattle.std.specs.List.{flat_map};
 ghost use Rattle.std.specs.Fmt.{decimal};
 ghost use Rattle.scr_check.specs.FindingText.{finding_text};
 ghost use Rattle.cli_pictures.specs.Notes.{is_listed, names_listed, findings_listed, line_begin, list_line, list_lines, list_begin, list_element, widest, wide, high, mark_words};
-ghost use Rattle.cli_pictures.specs.Annotated.{notes, annotated_svg};
+ghost use Rattle.cli_pictures.specs.Annotated.{notes, below, listed_svg, annotated_svg};
 
 use crate::notes::{mark_text, push_findings, push_names, push_style, push_words, words_of};
 use crate::room::{Stand, stand_of};
@@ -201,8 +201,45 @@ fn push_notes(
     push_findings(alloc, out, screen, entries, findings)
 }
 
+/// What comes after the screen: what is written on it, and the list.
+fn push_below(
+    alloc: Global,
+    out: &mut String,
+    screen: &Screen<PlaneCells>,
+    entries: &[Entry],
+    findings: &[Finding],
+    list: &ListLines,
+) -> Result<(), AllocError>
+    ensures { OnOk result (string_bytes out.new ≡ string_bytes out.old
+        ++ below entries.now findings.now screen.now (map string_bytes list.now.names.items) (map string_bytes list.now.findings.items)) }
+{
+    push_notes(alloc, out, screen, entries, findings)?;
+    push_list(out, screen.size(), list)?;
+    out.push_str("</svg>\n")
+}
+
+/// The drawing with these lines in its list.
+fn push_listed(
+    alloc: Global,
+    out: &mut String,
+    screen: &Screen<PlaneCells>,
+    entries: &[Entry],
+    findings: &[Finding],
+    list: &ListLines,
+) -> Result<(), AllocError>
+    ensures { OnOk result (string_bytes out.new ≡ string_bytes out.old
+        ++ listed_svg entries.now findings.now screen.now (map string_bytes list.now.names.items) (map string_bytes list.now.findings.items)) }
+{
+    let size = screen.size();
+    push_sized_head(out, screen, wide(size, list), high(size, list))?;
+    push_lines(out, screen)?;
+    push_texts(out, screen)?;
+    push_cursor(out, size.cols, screen.cursor())?;
+    push_below(alloc, out, screen, entries, findings, list)
+}
+
 /// The drawing with the names of entries and with findings.
-#[tactic(auto, unfolding(crate::specs::Annotated::annotated_svg))]
+#[tactic(auto, using(crate::proofs::ListLaws::same_list), unfolding(crate::specs::Annotated::annotated_svg))]
 pub(crate) fn push_annotated_svg(
     alloc: Global,
     out: &mut String,
@@ -214,12 +251,5 @@ pub(crate) fn push_annotated_svg(
         ≡ string_bytes out.old ++ annotated_svg entries.now findings.now screen.now) }
 {
     let list = listed(alloc, screen, entries, findings)?;
-    let size = screen.size();
-    push_sized_head(out, screen, wide(size, &list), high(size, &list))?;
-    push_lines(out, screen)?;
-    push_texts(out, screen)?;
-    push_cursor(out, size.cols, screen.cursor())?;
-    push_notes(alloc, out, screen, entries, findings)?;
-    push_list(out, size, &list)?;
-    out.push_str("</svg>\n")
+    push_listed(alloc, out, screen, entries, findings, &list)
 }
