@@ -5,7 +5,7 @@ ghost use Rattle.ds_codec.specs.Geometry.{cells_of};
 ghost use Rattle.ds_screen.specs.Fields.{attribute_of, fields_of};
 ghost use Rattle.ds_screen.specs.Picture.{cell_at};
 ghost use Rattle.cli_findings.specs.Help.{names_in};
-ghost use Rattle.cli_reports.specs.Add.{undeclared, kind_line, entry_block, entry_lines, amended, write_begin, write_end, amended_line, write_line, added};
+ghost use Rattle.cli_reports.specs.Add.{undeclared, kind_line, entry_block, entry_lines, amended, amended_line, write_line, added};
 ghost use Rattle.cli_reports.specs.Extent.{length_in};
 
 use crate::extent::length_at;

@@ -1,6 +1,6 @@
 //! The text that an operator sees before a field on its row.
 
-ghost use Rattle.std.specs.Prelude.{◌≡◌, ◌≤◌, ◌<◌, ◌-◌, ◌%◌, ◌++◌, ◌∷◌, [], length, OnOk, string_bytes};
+ghost use Rattle.std.specs.Prelude.{◌≡◌, ◌≤◌, ◌<◌, ◌+◌, ◌-◌, ◌^◌, ◌%◌, ◌++◌, ◌∷◌, [], length, OnOk, string_bytes};
 ghost use Rattle.std.specs.List.{range_with_len};
 ghost use Rattle.cli_reports.specs.Label.{label_after, label_in, label_of, label_text, label_words};
 
@@ -20,7 +20,8 @@ pub(crate) struct Label {
 
 /// The label once a further position is looked at.
 fn label_after(screen: &Screen<PlaneCells>, at: u32, label: Label) -> Label
-    requires { at < length screen.now.cells }
+    requires inside { at < length screen.now.cells }
+    requires small { at + 1 < 2 ^ 32 }
     ensures { result ≡ label_after screen.now.cells at label }
 {
     if let Cell::Field(_) = screen.cell(at) {

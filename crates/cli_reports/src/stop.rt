@@ -13,9 +13,9 @@ use scr_layout::Layout;
 use std::alloc::{AllocError, Global};
 
 /// So many turns, or all where there are no more.
-#[tactic(auto, using(crate::proofs::Turns::all_taken))]
+#[tactic(auto, using(crate::proofs::Turns::all_held, crate::proofs::Turns::some_held))]
 pub(crate) fn first_turns(turns: &[Vec<Vec<u8>>], count: usize) -> &[Vec<Vec<u8>>]
-    ensures { result.now ≡ take count turns.now }
+    ensures { turns_held result.now ≡ take count (turns_held turns.now) }
 {
     if count < turns.len() {
         &turns[..count]
@@ -25,9 +25,9 @@ pub(crate) fn first_turns(turns: &[Vec<Vec<u8>>], count: usize) -> &[Vec<Vec<u8>
 }
 
 /// The turns up to one and with it, or all where there are no more.
-#[tactic(auto, using(crate::proofs::Turns::all_taken))]
+#[tactic(auto, using(crate::proofs::Turns::all_held, crate::proofs::Turns::some_held))]
 pub(crate) fn turns_to(turns: &[Vec<Vec<u8>>], turn: usize) -> &[Vec<Vec<u8>>]
-    ensures { result.now ≡ take (turn + 1) turns.now }
+    ensures { turns_held result.now ≡ take (turn + 1) (turns_held turns.now) }
 {
     if turn < turns.len() {
         &turns[..turn + 1]
@@ -36,13 +36,26 @@ pub(crate) fn turns_to(turns: &[Vec<Vec<u8>>], turn: usize) -> &[Vec<Vec<u8>>]
     }
 }
 
+/// The bytes of a record.
+fn copied(alloc: Global, bytes: &[u8]) -> Result<Vec<u8>, AllocError>
+    ensures { IfOk result (λ copy. copy.items ≡ bytes.now) }
+{
+    let mut copy = Vec::new(alloc);
+    copy.extend_from_slice(bytes)?;
+    Ok(copy)
+}
+
 /// Adds the records of a turn.
-fn push_records(all: &mut Vec<Vec<u8>>, records: &[Vec<u8>]) -> Result<(), AllocError>
+fn push_records(
+    alloc: Global,
+    all: &mut Vec<Vec<u8>>,
+    records: &[Vec<u8>],
+) -> Result<(), AllocError>
     ensures { OnOk result (records_held all.new.items
         ≡ records_held all.old.items ++ records_held records.now) }
 {
     for bytes in records {
-        all.push(bytes.clone()?)?;
+        all.push(copied(alloc, bytes.as_slice())?)?;
     }
     Ok(())
 }
@@ -53,7 +66,7 @@ pub(crate) fn all_records(alloc: Global, turns: &[Vec<Vec<u8>>]) -> Result<Vec<V
 {
     let mut all = Vec::new(alloc);
     for records in turns {
-        push_records(&mut all, records.as_slice())?;
+        push_records(alloc, &mut all, records.as_slice())?;
     }
     Ok(all)
 }

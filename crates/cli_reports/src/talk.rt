@@ -31,6 +31,7 @@ pub enum TalkForm {
 }
 
 /// The line of a turn's number.
+#[tactic(auto, unfolding(crate::specs::TalkReport::turn_begin))]
 fn turn_begin(alloc: Global, turn: usize) -> Result<String, AllocError>
     ensures { IfOk result (λ text. string_bytes text ≡ turn_begin turn) }
 {
