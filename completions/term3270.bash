@@ -19,9 +19,9 @@ _term3270_files() { # [PATTERN]
 _term3270_values() { # OPTION
   local device devices=
   case $command$1 in
-    show--format) _term3270_offer -W 'text svg html json' ;;
+    show--format) _term3270_offer -W 'text svg html json screen' ;;
     show--color) _term3270_offer -W 'auto always never' ;;
-    check--format) _term3270_offer -W 'text json sarif' ;;
+    check--format | talk--format) _term3270_offer -W 'text json sarif' ;;
     records--from) _term3270_offer -W 'trace stream' ;;
     attach--device)
       for device in IBM-327{8,9}-{2,3,4,5}{,-E}; do devices="$devices $device"; done
@@ -52,7 +52,8 @@ _term3270_options() {
   local options=
   case $command in
     show) options='--format --color --layout --map --map-name --freekb --frset' ;;
-    check) options='--demo --pen --records --format --map --map-name --freekb --frset' ;;
+    check) options='--demo --pen --explain --records --format --map --map-name --freekb --frset' ;;
+    talk) options='--explain --format' ;;
     press) options='--strokes' ;;
     convert) options='--back' ;;
     draft) options='--map --map-name --freekb --frset' ;;

@@ -334,7 +334,7 @@ class Page {
     const { columns } = screen;
     const parts = [`place ${place}, row ${Math.floor(place / columns) + 1}, column ${(place % columns) + 1}`];
     if (field) parts.push(field.at === place ? `the attribute ${field.attribute}` : this.fieldWords(field));
-    parts.push(this.originWords(place));
+    parts.push(this.codeWords(screen, place), this.originWords(place));
     at("place").textContent = parts.filter((part) => part !== "").join(" · ");
   }
 
@@ -343,6 +343,17 @@ class Page {
     const kind = field.protected ? (field.numeric ? "protected, skipped" : "protected") : field.numeric ? "input, numeric" : "input";
     const looks = [kind, field.hidden && "hidden", field.intensified && "intensified", field.modified && "modified"];
     return `field at ${field.place}, ${field.length} cells, ${looks.filter(Boolean).join(", ")}`;
+  }
+
+  /**
+   * The code of the character at a place, a hidden one's too; nothing of an attribute.
+   * @param {import("./work.mjs").Screen} screen @param {number} place
+   */
+  codeWords(screen, place) {
+    const code = screen.codes.join("").slice(2 * place, 2 * place + 2);
+    if (code === "1D") return "";
+    if (code === "00") return "a null";
+    return screen.graphic_escapes.includes(place) ? `code ${code} of the alternate set` : `code ${code}`;
   }
 
   /**

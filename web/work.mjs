@@ -3,8 +3,8 @@
 import { dialogue, front, recordsIn } from "./inputs.mjs";
 
 /** @typedef {import("./takvorn.mjs").Takvorn} Library */
-/** @typedef {{at: number, attribute: string, place: number, length: number, hidden: boolean, intensified: boolean, modified: boolean, numeric: boolean, protected: boolean}} Field */
-/** @typedef {{aid: string, columns: number, cursor: number, fields: Field[], keyboard: string, rows: number, text: string[]}} Screen */
+/** @typedef {{at: number, attribute: string, characters: string, codes: string, place: number, length: number, hidden: boolean, intensified: boolean, modified: boolean, numeric: boolean, protected: boolean}} Field */
+/** @typedef {{aid: string, codes: string[], columns: number, cursor: number, fields: Field[], graphic_escapes: number[], keyboard: string, rows: number, text: string[]}} Screen */
 /** @typedef {{number: number, name: string, words: string, help?: string, place?: number, length?: number, declared?: number, entry?: string, record?: number, line?: number, byte?: number, keys?: {key: string, times: number}[], sends?: string}} Finding */
 
 const SIZED = /^size (\d+x\d+)(?: (\d+x\d+))?( 16)?\s*$/;

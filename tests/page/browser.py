@@ -135,6 +135,7 @@ def try_dialogue(trial):
     trial.compare("the first turn is told", True, "turn 1 of 2" in trial.text("#step-label"))
     trial.browser.run("takvornPage.place(30)")
     trial.compare("a place tells its order", True, "written by record 0, byte" in trial.text("#place"))
+    trial.compare("a place tells its code", True, " · code E2 · " in trial.text("#place"))
     trial.picture("dialogue")
 
 

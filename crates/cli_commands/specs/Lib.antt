@@ -32,3 +32,5 @@ pub mod OwnStrokes
 pub mod Turns
 pub mod TurnsHeld
 pub mod Talk
+pub mod Talked
+pub mod TalkedHeld

@@ -9,6 +9,7 @@ mod press;
 mod show;
 mod strokes;
 mod talk;
+mod talked;
 
 pub use back::{convert_back_text, run_convert_back};
 pub use check::{check_answer, check_texts, lent, run_check};
@@ -18,3 +19,4 @@ pub use press::{press_texts, run_press};
 pub use show::{run_show, show_text};
 pub use strokes::{press_strokes_texts, run_press_strokes};
 pub use talk::{run_talk, talk_texts};
+pub use talked::{Talked, judge_talk};

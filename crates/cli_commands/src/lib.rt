@@ -12,9 +12,9 @@ mod status;
 mod streams;
 
 pub use commands::{
-    check_answer, check_texts, convert_back_text, convert_text, lent, press_strokes_texts,
-    press_texts, run_check, run_check_pen, run_convert, run_convert_back, run_press,
-    run_press_strokes, run_show, run_talk, show_text, talk_texts,
+    Talked, check_answer, check_texts, convert_back_text, convert_text, judge_talk, lent,
+    press_strokes_texts, press_texts, run_check, run_check_pen, run_convert, run_convert_back,
+    run_press, run_press_strokes, run_show, run_talk, show_text, talk_texts,
 };
 pub use fault::{CommandError, Fault, failure};
 pub use input::ahead::ReadAhead;

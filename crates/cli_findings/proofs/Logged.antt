@@ -90,23 +90,23 @@ ended_nests : (rule : Rule) (path : List ℕ) (region : Region) (text : List ℕ
 ended_nests rule path region text standing None = result_nests rule path region text
 ended_nests rule path region text standing (Some origin) = related_nests rule path region text (order_region standing origin)
 
-finding_is_plain : (path : List ℕ) (layout : Declaration) (standing : Standing) (traced : Traced) → has_float (finding_result path layout standing traced) ≡ false
-finding_is_plain path layout standing traced =
-    ended_plain (rule_of traced.finding) path (finding_region standing traced) (message_of layout traced) standing traced.end
+finding_is_plain : (front path : List ℕ) (layout : Declaration) (standing : Standing) (traced : Traced) → has_float (finding_result front path layout standing traced) ≡ false
+finding_is_plain front path layout standing traced =
+    ended_plain (rule_of traced.finding) path (finding_region standing traced) (message_of front layout traced) standing traced.end
 
-finding_is_flat : (path : List ℕ) (layout : Declaration) (standing : Standing) (traced : Traced) → depth (finding_result path layout standing traced) ≤ 6
-finding_is_flat path layout standing traced =
-    ended_nests (rule_of traced.finding) path (finding_region standing traced) (message_of layout traced) standing traced.end
+finding_is_flat : (front path : List ℕ) (layout : Declaration) (standing : Standing) (traced : Traced) → depth (finding_result front path layout standing traced) ≤ 6
+finding_is_flat front path layout standing traced =
+    ended_nests (rule_of traced.finding) path (finding_region standing traced) (message_of front layout traced) standing traced.end
 
-pub findings_plain : (path : List ℕ) (layout : Declaration) (standing : Standing) (findings : List Traced)
-    → has_float (findings_data path layout standing findings) ≡ false
-findings_plain path layout standing findings = none_floats (finding_result path layout standing) (finding_is_plain path layout standing) findings
+pub findings_plain : (front path : List ℕ) (layout : Declaration) (standing : Standing) (findings : List Traced)
+    → has_float (findings_data front path layout standing findings) ≡ false
+findings_plain front path layout standing findings = none_floats (finding_result front path layout standing) (finding_is_plain front path layout standing) findings
 
-pub findings_nest : (path : List ℕ) (layout : Declaration) (standing : Standing) (findings : List Traced)
-    → depth (findings_data path layout standing findings) ≤ 8
-findings_nest path layout standing findings =
-    let few : items_depth (items_of (map (finding_result path layout standing) findings)) ≤ 6 =
-    all_nest (finding_result path layout standing) 6 (finding_is_flat path layout standing) findings
+pub findings_nest : (front path : List ℕ) (layout : Declaration) (standing : Standing) (findings : List Traced)
+    → depth (findings_data front path layout standing findings) ≤ 8
+findings_nest front path layout standing findings =
+    let few : items_depth (items_of (map (finding_result front path layout standing) findings)) ≤ 6 =
+    all_nest (finding_result front path layout standing) 6 (finding_is_flat front path layout standing) findings
     in omega (arith, few)
 
 pub refusal_plain : (path : List ℕ) (line : ℕ) (fault : Fault) → has_float (refusal_results path line fault) ≡ false

@@ -16,7 +16,7 @@ use Rattle.scr_check.specs.FindingText.{demo_of, finding_number, finding_text}
 use Rattle.cli_findings.specs.Facts.{record_of, byte_of, entry_of, place_of, row_at, column_at, length_of, sizes_of, size_text, sent_from}
 use Rattle.cli_findings.specs.Help.{help_of}
 use Rattle.cli_findings.specs.Name.{name_of}
-use Rattle.cli_findings.specs.Members.{with_some, with_count, with_text, with_words, with_spot, with_end, with_place, with_entry, with_sizes, with_keys, with_help, spot_data, key_data, pressed, keys_data, finding_data}
+use Rattle.cli_findings.specs.Members.{with_some, with_count, with_text, with_words, with_spot, with_end, with_place, with_entry, with_sizes, with_keys, with_help, spot_data, key_data, pressed, keys_data, finding_members, finding_data}
 
 neither : (a b : Bool) → (a || b) ≡ false → (a ≡ false) × (b ≡ false)
 neither false b none = (refl, none)
@@ -68,7 +68,7 @@ text_plain n k (Some text) ms old = put_both n k (string text) ms refl (omega ar
 
 -- ---- orders
 
-spot_plain : (n : ℕ) (numbers : List ℕ) (index byte : Option ℕ) (ms : Members) → IsPlain n ms → IsPlain n (with_spot numbers index byte ms)
+pub spot_plain : (n : ℕ) (numbers : List ℕ) (index byte : Option ℕ) (ms : Members) → IsPlain n ms → IsPlain n (with_spot numbers index byte ms)
 spot_plain n numbers index byte ms old =
     let indexed = count_plain n (codes "record") index ms old in
     let with_line = count_plain n (codes "line") (option_and_then (slice_get numbers) index) _ indexed in
@@ -110,14 +110,7 @@ keys_plain (Some demo) ms old =
 
 -- ---- the object
 
-abbrev members_of : Declaration → List ℕ → Option Picture → Traced → Members
-members_of layout numbers opened traced =
-    with_help layout traced (with_keys opened (demo_of traced.finding)
-    (with_sizes (sizes_of traced.finding)
-    (with_entry layout.entries traced.finding (with_place layout.size (place_of layout.entries traced.finding)
-    (with_end numbers traced.end (with_spot numbers (record_of traced) (byte_of traced) (with_words layout.entries traced.finding no_members)))))))
-
-plain_finding : (layout : Declaration) (numbers : List ℕ) (opened : Option Picture) (traced : Traced) → IsPlain 2 (members_of layout numbers opened traced)
+pub plain_finding : (layout : Declaration) (numbers : List ℕ) (opened : Option Picture) (traced : Traced) → IsPlain 2 (finding_members layout numbers opened traced)
 plain_finding layout numbers opened traced =
     let finding = traced.finding in
     let numbered = count_plain 2 (codes "number") (Some (finding_number finding)) no_members (record { none = refl; flat = omega arith }) in

@@ -89,10 +89,13 @@ with_help layout traced members = with_text (codes "help") (help_of layout trace
 
 -- ---- the object
 
--- a finding of records on these lines that leave this picture
-abbrev pub finding_data : Declaration → List ℕ → Option Picture → Traced → Data
-finding_data layout numbers opened traced =
-    object (with_help layout traced (with_keys opened (demo_of traced.finding)
+-- what is told of a finding of records on these lines that leave this picture
+abbrev pub finding_members : Declaration → List ℕ → Option Picture → Traced → Members
+finding_members layout numbers opened traced =
+    with_help layout traced (with_keys opened (demo_of traced.finding)
     (with_sizes (sizes_of traced.finding)
     (with_entry layout.entries traced.finding (with_place layout.size (place_of layout.entries traced.finding)
-    (with_end numbers traced.end (with_spot numbers (record_of traced) (byte_of traced) (with_words layout.entries traced.finding no_members))))))))
+    (with_end numbers traced.end (with_spot numbers (record_of traced) (byte_of traced) (with_words layout.entries traced.finding no_members)))))))
+
+abbrev pub finding_data : Declaration → List ℕ → Option Picture → Traced → Data
+finding_data layout numbers opened traced = object (finding_members layout numbers opened traced)

@@ -105,20 +105,20 @@ abbrev pub help_end : Option (List ℕ) → List ℕ
 help_end None = []
 help_end (Some help) = codes ": " ++ help
 
--- the words of a finding, and what to do
-abbrev pub message_of : Declaration → Traced → List ℕ
-message_of layout traced = finding_text layout.entries traced.finding ++ help_end (help_of layout traced)
+-- the words of a finding behind others, and what to do
+abbrev pub message_of : List ℕ → Declaration → Traced → List ℕ
+message_of front layout traced = front ++ (finding_text layout.entries traced.finding ++ help_end (help_of layout traced))
 
 abbrev pub end_of : List ℕ → Standing → Option Origin → Option Data
 end_of path standing end = option_map (λ origin. end_data path (order_region standing origin)) end
 
 -- a finding of records that stand so, of the file of this path
-abbrev pub finding_result : List ℕ → Declaration → Standing → Traced → Data
-finding_result path layout standing traced =
-    result_data (rule_of traced.finding) path (finding_region standing traced) (message_of layout traced) (end_of path standing traced.end)
+abbrev pub finding_result : List ℕ → List ℕ → Declaration → Standing → Traced → Data
+finding_result front path layout standing traced =
+    result_data (rule_of traced.finding) path (finding_region standing traced) (message_of front layout traced) (end_of path standing traced.end)
 
-abbrev pub findings_data : List ℕ → Declaration → Standing → List Traced → Data
-findings_data path layout standing findings = array (items_of (map (finding_result path layout standing) findings))
+abbrev pub findings_data : List ℕ → List ℕ → Declaration → Standing → List Traced → Data
+findings_data front path layout standing findings = array (items_of (map (finding_result front path layout standing) findings))
 
 -- what is wrong with the input of this path, at a line
 abbrev pub refusal_results : List ℕ → ℕ → Fault → Data
@@ -134,8 +134,12 @@ log_data rules results =
     object (member (codes "$schema") (string (codes "https://json.schemastore.org/sarif-2.1.0.json"))
     (member (codes "runs") (array (item (run_data rules results) no_items)) (member (codes "version") (string (codes "2.1.0")) no_members)))
 
+-- the log of findings, each told behind these words
+abbrev pub fronted_log_data : Pen → List ℕ → List ℕ → Declaration → List ℕ → List Traced → Data
+fronted_log_data pen front path layout input findings = log_data (rules_data_for pen) (findings_data front path layout (standing_in input) findings)
+
 abbrev pub findings_log_data : Pen → List ℕ → Declaration → List ℕ → List Traced → Data
-findings_log_data pen path layout input findings = log_data (rules_data_for pen) (findings_data path layout (standing_in input) findings)
+findings_log_data pen path layout input findings = fronted_log_data pen [] path layout input findings
 
 abbrev pub refusal_log_data : Pen → List ℕ → ℕ → Fault → Data
 refusal_log_data pen path line fault = log_data (rules_data_for pen) (refusal_results path line fault)

@@ -10,7 +10,7 @@ use scr_layout::Entry;
 use std::alloc::{AllocError, Global};
 
 /// The record that a finding tells by itself, counted from 0.
-fn record_told(finding: &Finding) -> Option<usize>
+pub fn record_told(finding: &Finding) -> Option<usize>
     ensures { result ≡ record_told finding.now }
 {
     match finding {
@@ -43,7 +43,7 @@ pub(crate) fn record_of(traced: &Traced) -> Option<usize>
 }
 
 /// The byte of that record, counted from 0: the one that it tells, or the order's first.
-pub(crate) fn byte_of(traced: &Traced) -> Option<usize>
+pub fn byte_of(traced: &Traced) -> Option<usize>
     ensures { result ≡ byte_of traced.now }
 {
     match byte_told(&traced.finding) {
@@ -93,7 +93,7 @@ pub fn place_of(entries: &[Entry], finding: &Finding) -> Option<u32>
 }
 
 /// The row of a buffer address, counted from 1.
-pub(crate) fn row_at(size: Size, place: u32) -> u64
+pub fn row_at(size: Size, place: u32) -> u64
     requires { 1 ≤ size.cols }
     ensures { result ≡ row_at size place }
 {
@@ -101,7 +101,7 @@ pub(crate) fn row_at(size: Size, place: u32) -> u64
 }
 
 /// The column of a buffer address, counted from 1.
-pub(crate) fn column_at(size: Size, place: u32) -> u64
+pub fn column_at(size: Size, place: u32) -> u64
     requires { 1 ≤ size.cols }
     ensures { result ≡ column_at size place }
 {

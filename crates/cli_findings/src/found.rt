@@ -51,7 +51,11 @@ fn trace_verdict(
 }
 
 /// What is found of records, each with the orders that it comes from; nothing where the verdict is yes.
-pub(crate) fn find(
+///
+/// # Errors
+///
+/// Where a request for memory was refused.
+pub fn find(
     alloc: Global,
     pen: Pen,
     layout: &Layout,

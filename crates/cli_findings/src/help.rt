@@ -7,7 +7,7 @@ ghost use Rattle.scr_check.specs.FindingText.{name_at};
 ghost use Rattle.cli_findings.specs.Help.{attribute_place, entry_keys, undeclared_help, modified_help, selectable_help, undeclared_fixed_help, address_digits, missing_text, missing_help, no_cell_text, absent_help, too_long_help, kind_words, other_kind_help, leave_out_help, begin_help, entry_help, field_help, help_for, help_of};
 
 use crate::facts::{column_at, row_at};
-use crate::field_name::field_name;
+use crate::free_name::field_name;
 use ds_codec::{Geometry, Size, encode_address};
 use ds_screen::ring::previous;
 use order_lines::push_bytes;
@@ -93,8 +93,12 @@ fn undeclared_fixed_help(
     Ok(text)
 }
 
-/// An address as Set Buffer Address spells it.
-fn address_text(
+/// An address as Set Buffer Address spells it, in hexadecimal.
+///
+/// # Errors
+///
+/// Where a request for memory was refused.
+pub fn address_text(
     alloc: Global,
     geometry: Geometry,
     size: Size,

@@ -181,7 +181,11 @@ fn refusal_value(alloc: Global, fault: Fault) -> Result<Value, AllocError>
 }
 
 /// The report of an input that is refused.
-pub(crate) fn refusal_answer(alloc: Global, fault: Fault) -> Result<Answer, AllocError>
+///
+/// # Errors
+///
+/// Where a request for memory was refused.
+pub fn refusal_answer(alloc: Global, fault: Fault) -> Result<Answer, AllocError>
     ensures { IfOk result (λ answer. answer_seen answer
         ≡ printed (data_line (refusal_data fault)) BadInput) }
 {

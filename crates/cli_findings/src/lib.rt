@@ -2,8 +2,8 @@
 #![tactic(auto)]
 
 mod facts;
-mod field_name;
 mod found;
+mod free_name;
 mod help;
 mod json;
 mod log;
@@ -20,17 +20,23 @@ mod rule_facts;
 mod sarif;
 mod uri;
 
-pub use facts::place_of;
-pub use found::Pen;
-pub use help::help_text;
-pub use json::{finding_json, push_line};
-pub use members::{put_entry, put_keys, put_number, put_place, put_text};
+pub use facts::{byte_of, column_at, place_of, record_told, row_at};
+pub use found::{Pen, find};
+pub use free_name::field_name;
+pub use help::{address_text, help_text};
+pub use json::{finding_json, push_line, refusal_answer};
+pub use members::{
+    finding_members, put_entry, put_keys, put_number, put_place, put_spot, put_text,
+};
 pub use names::name_of;
 pub use object::{Members, listed, put_str, single};
 pub use origins::origins_text;
 pub use paths::Paths;
-pub use record_line::line_of_record;
-pub use region::{Columns, Region};
+pub use record_line::{is_silent, line_of_record};
+pub use region::{Columns, Region, layout_line, line_of_fault};
 pub use report::{Report, report_texts, run_report};
-pub use rule_facts::{rule_count, rule_id_of, rule_index_of};
-pub use sarif::{findings_log, level_value, location_value, log_text, put_message, rules_value};
+pub use rule_facts::{meaning_of_finding, rule_count, rule_id_of, rule_index_of};
+pub use sarif::{
+    findings_log, fronted_log, level_value, location_value, log_text, put_message, refusal_log,
+    rules_value,
+};

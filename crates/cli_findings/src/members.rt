@@ -5,7 +5,7 @@ ghost use Rattle.std.specs.String.{string_bytes};
 ghost use Rattle.hex.specs.Hex.{encode_upper};
 ghost use Rattle.serde_json.specs.View.{view, members_view};
 ghost use Rattle.cli_findings.specs.Facts.{sent_from};
-ghost use Rattle.cli_findings.specs.Members.{with_count, with_text, with_words, with_spot, with_end, with_place, with_entry, with_sizes, with_keys, with_help, spot_data, key_data, pressed, keys_data, finding_data};
+ghost use Rattle.cli_findings.specs.Members.{with_count, with_text, with_words, with_spot, with_end, with_place, with_entry, with_sizes, with_keys, with_help, spot_data, key_data, pressed, keys_data, finding_members, finding_data};
 
 use crate::facts::{
     byte_of, column_at, entry_of, length_of, place_of, record_of, row_at, size_text, sizes_of,
@@ -99,8 +99,12 @@ fn line_of(numbers: &[usize], index: Option<usize>) -> Option<usize>
     numbers.get(index?).copied()
 }
 
-/// A record, its line and a byte of it, where there are such.
-fn put_spot(
+/// A record, its line, of those on which records stand, and a byte of it, where there are such.
+///
+/// # Errors
+///
+/// Where a request for memory was refused.
+pub fn put_spot(
     alloc: Global,
     members: &mut Members,
     numbers: &[usize],
@@ -294,18 +298,22 @@ fn put_help(
     }
 }
 
-/// A finding of records on these lines as a JSON object: its number, its name and its words, and each of the others that it has: `record`, `line` and
-/// `byte`, `end`, `place`, `row` and `column`, `length`, `declared` and `entry`, `size` and `layout`, `keys` and `sends`,
+/// The members of a finding of records on these lines: its number, its name and its words, and each of the others that it has: `record`,
+/// `line` and `byte`, `end`, `place`, `row` and `column`, `length`, `declared` and `entry`, `size` and `layout`, `keys` and `sends`,
 /// and `help`.
-pub(crate) fn finding_value(
+///
+/// # Errors
+///
+/// Where a request for memory was refused.
+pub fn finding_members(
     alloc: Global,
     layout: &Layout,
     numbers: &[usize],
     terminal: Option<&Terminal<PlaneCells>>,
     traced: &Traced,
-) -> Result<Value, AllocError>
-    ensures { IfOk result (λ value. view value
-        ≡ finding_data layout.now numbers.now (option_map (λ t. t.now) terminal.entry) traced.now) }
+) -> Result<Members, AllocError>
+    ensures { IfOk result (λ members. members_view members.entries
+        ≡ finding_members layout.now numbers.now (option_map (λ t. t.now) terminal.entry) traced.now) }
 {
     let entries = layout.entries();
     let finding = &traced.finding;
@@ -325,5 +333,20 @@ pub(crate) fn finding_value(
     put_sizes(alloc, &mut members, sizes_of(finding))?;
     put_keys(alloc, &mut members, terminal, finding.demo())?;
     put_help(alloc, &mut members, layout, traced)?;
+    Ok(members)
+}
+
+/// The same as a JSON object.
+pub(crate) fn finding_value(
+    alloc: Global,
+    layout: &Layout,
+    numbers: &[usize],
+    terminal: Option<&Terminal<PlaneCells>>,
+    traced: &Traced,
+) -> Result<Value, AllocError>
+    ensures { IfOk result (λ value. view value
+        ≡ finding_data layout.now numbers.now (option_map (λ t. t.now) terminal.entry) traced.now) }
+{
+    let members = finding_members(alloc, layout, numbers, terminal, traced)?;
     Ok(Value::Object(members))
 }

@@ -32,7 +32,7 @@ fn is_text(line: &[u8]) -> bool
 }
 
 /// Whether a line tells no record.
-pub(crate) fn is_silent(line: &[u8]) -> bool
+pub fn is_silent(line: &[u8]) -> bool
     ensures { result ≡ is_silent line.now }
 {
     is_text(line) && is_ignored(line)

@@ -222,7 +222,7 @@ fn table_line_of(text: &[u8], fault: Fault) -> usize
 
 /// The line of a layout at which it is refused: where the table of its field begins, or the first.
 #[tactic(auto, using(crate::proofs::Limited::line_short, crate::proofs::Limited::line_long))]
-pub(crate) fn layout_line(text: &[u8], fault: Fault) -> usize
+pub fn layout_line(text: &[u8], fault: Fault) -> usize
     ensures { result ≡ line_in (within_limit text.now) fault }
 {
     if text.len() <= MOST_BYTES {
@@ -233,7 +233,7 @@ pub(crate) fn layout_line(text: &[u8], fault: Fault) -> usize
 }
 
 /// The line of records at which they are refused, or the first.
-pub(crate) fn line_of_fault(fault: Fault) -> usize
+pub fn line_of_fault(fault: Fault) -> usize
     ensures { result ≡ line_of_fault fault }
 {
     match fault {

@@ -1,7 +1,7 @@
 //! By what services know a finding: the rule in the logs.
 
 ghost use Rattle.std.specs.Prelude.{◌≡◌, length};
-ghost use Rattle.cli_findings.specs.Rule.{all_rules, rule_of, rule_id, rule_index};
+ghost use Rattle.cli_findings.specs.Rule.{all_rules, rule_of, rule_id, rule_index, meaning_of};
 
 use crate::rule::{all_rules, rule_of};
 use scr_check::Finding;
@@ -11,6 +11,13 @@ pub fn rule_id_of(finding: &Finding) -> &'static str
     ensures { result.now ≡ rule_id (rule_of finding.now) }
 {
     rule_of(finding).id()
+}
+
+/// What it means, in a sentence.
+pub fn meaning_of_finding(finding: &Finding) -> &'static str
+    ensures { result.now ≡ meaning_of (rule_of finding.now) }
+{
+    rule_of(finding).meaning()
 }
 
 /// Where its rule stands among all rules, counted from 0.

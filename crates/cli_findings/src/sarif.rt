@@ -9,7 +9,7 @@ ghost use Rattle.serde_json.specs.Written.{compact_text, has_float, items_have_f
 ghost use Rattle.cli_commands.specs.Fault.{fault_text};
 ghost use Rattle.cli_findings.specs.Region.{standing_in};
 ghost use Rattle.cli_findings.specs.Rule.{rule_help};
-ghost use Rattle.cli_findings.specs.Sarif.{message_data, level_data, rule_data, rules_data, rules_data_for, driver_data, tool_data, columns_region, region_data, artifact_data, physical_data, location_data, end_data, result_members, result_data, help_end, message_of, end_of, finding_result, findings_data, refusal_results, refusal_log_data, run_data, log_data, findings_log_data};
+ghost use Rattle.cli_findings.specs.Sarif.{message_data, level_data, rule_data, rules_data, rules_data_for, driver_data, tool_data, columns_region, region_data, artifact_data, physical_data, location_data, end_data, result_members, result_data, help_end, message_of, end_of, finding_result, findings_data, refusal_results, refusal_log_data, run_data, log_data, fronted_log_data, findings_log_data};
 
 use crate::found::Pen;
 use crate::help::help_text;
@@ -291,11 +291,17 @@ fn push_help(out: &mut String, help: Option<String>) -> Result<(), AllocError>
     }
 }
 
-/// The words of a finding, and what to do.
-fn message_of(alloc: Global, layout: &Layout, traced: &Traced) -> Result<String, AllocError>
-    ensures { IfOk result (λ text. string_bytes text ≡ message_of layout.now traced.now) }
+/// The words of a finding behind others, and what to do.
+fn message_of(
+    alloc: Global,
+    front: &str,
+    layout: &Layout,
+    traced: &Traced,
+) -> Result<String, AllocError>
+    ensures { IfOk result (λ text. string_bytes text
+        ≡ message_of front.now layout.now traced.now) }
 {
-    let mut text = String::new(alloc);
+    let mut text = String::from_str(alloc, front)?;
     traced.finding.push_text(&mut text, layout.entries())?;
     push_help(&mut text, help_text(alloc, layout, traced)?)?;
     Ok(text)
@@ -318,16 +324,17 @@ fn end_of(
 
 fn finding_result(
     alloc: Global,
+    front: &str,
     path: &str,
     layout: &Layout,
     standing: &Standing,
     traced: &Traced,
 ) -> Result<Value, AllocError>
     ensures { IfOk result (λ value. view value
-        ≡ finding_result path.now layout.now standing.now traced.now) }
+        ≡ finding_result front.now path.now layout.now standing.now traced.now) }
 {
     let finding = &traced.finding;
-    let text = message_of(alloc, layout, traced)?;
+    let text = message_of(alloc, front, layout, traced)?;
     let end = end_of(alloc, path, standing, traced.end)?;
     let region = finding_region(standing, traced);
     result_value(alloc, rule_of(finding), path, region, text.as_str(), end)
@@ -335,17 +342,18 @@ fn finding_result(
 
 fn findings_value(
     alloc: Global,
+    front: &str,
     path: &str,
     layout: &Layout,
     standing: &Standing,
     findings: &[Traced],
 ) -> Result<Value, AllocError>
     ensures { IfOk result (λ value. view value
-        ≡ findings_data path.now layout.now standing.now findings.now) }
+        ≡ findings_data front.now path.now layout.now standing.now findings.now) }
 {
     let mut values = Vec::new(alloc);
     for finding in findings {
-        values.push(finding_result(alloc, path, layout, standing, finding)?)?;
+        values.push(finding_result(alloc, front, path, layout, standing, finding)?)?;
     }
     Ok(Value::Array(values))
 }
@@ -353,19 +361,20 @@ fn findings_value(
 /// The results of findings of records in their text, which isn't looked at where there is none.
 fn results_value(
     alloc: Global,
+    front: &str,
     path: &str,
     layout: &Layout,
     input: &[u8],
     findings: &[Traced],
 ) -> Result<Value, AllocError>
     ensures { IfOk result (λ value. view value
-        ≡ findings_data path.now layout.now (standing_in input.now) findings.now) }
+        ≡ findings_data front.now path.now layout.now (standing_in input.now) findings.now) }
 {
     if findings.is_empty() {
         return Ok(Value::Array(Vec::new(alloc)));
     }
     let standing = standing_in(alloc, input)?;
-    findings_value(alloc, path, layout, &standing, findings)
+    findings_value(alloc, front, path, layout, &standing, findings)
 }
 
 /// A run with these rules and results.
@@ -427,7 +436,6 @@ pub fn log_text(alloc: Global, rules: Vec<Value>, results: Value) -> Result<Stri
 /// # Errors
 ///
 /// Where a request for memory was refused.
-#[tactic(auto, using(crate::proofs::Logged::rules_plain, crate::proofs::Logged::rules_nest, crate::proofs::Logged::findings_plain, crate::proofs::Logged::findings_nest))]
 pub fn findings_log(
     alloc: Global,
     pen: Pen,
@@ -441,7 +449,30 @@ pub fn findings_log(
     ensures again { IfOk result (λ text. read (string_bytes text)
         ≡ Some (findings_log_data pen path.now layout.now input.now findings.now)) }
 {
-    let results = results_value(alloc, path, layout, input, findings)?;
+    fronted_log(alloc, pen, "", path, layout, input, findings)
+}
+
+/// The same, where the words of each finding stand behind others.
+///
+/// # Errors
+///
+/// Where a request for memory was refused.
+#[tactic(auto, using(crate::proofs::Logged::rules_plain, crate::proofs::Logged::rules_nest, crate::proofs::Logged::findings_plain, crate::proofs::Logged::findings_nest))]
+pub fn fronted_log(
+    alloc: Global,
+    pen: Pen,
+    front: &str,
+    path: &str,
+    layout: &Layout,
+    input: &[u8],
+    findings: &[Traced],
+) -> Result<String, AllocError>
+    ensures text { IfOk result (λ text. string_bytes text
+        ≡ compact_text (fronted_log_data pen front.now path.now layout.now input.now findings.now)) }
+    ensures again { IfOk result (λ text. read (string_bytes text)
+        ≡ Some (fronted_log_data pen front.now path.now layout.now input.now findings.now)) }
+{
+    let results = results_value(alloc, front, path, layout, input, findings)?;
     log_text(alloc, rules_value_for(alloc, pen)?, results)
 }
 
@@ -464,8 +495,12 @@ fn refusal_results(
 }
 
 /// What is wrong with the input of this path, at a line, as a log of SARIF 2.1.0.
+///
+/// # Errors
+///
+/// Where a request for memory was refused.
 #[tactic(auto, using(crate::proofs::Logged::rules_plain, crate::proofs::Logged::rules_nest, crate::proofs::Logged::refusal_plain, crate::proofs::Logged::refusal_nests))]
-pub(crate) fn refusal_log(
+pub fn refusal_log(
     alloc: Global,
     pen: Pen,
     path: &str,

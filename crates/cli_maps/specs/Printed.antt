@@ -110,6 +110,7 @@ sized_record it bytes =
 abbrev pub rendered : Rendering → Sheet → List ℕ → Result Printed Fault
 rendered renderings.Text it bytes = show (sized_record it bytes)
 rendered renderings.Json it bytes = pictured drawings.Json (sized_record it bytes)
+rendered renderings.Rows it bytes = pictured drawings.Rows (sized_record it bytes)
 rendered renderings.Svg it bytes = annotated annotations.Svg (layout_text it) (record_line bytes)
 rendered renderings.Html it bytes = annotated annotations.Html (layout_text it) (record_line bytes)
 rendered renderings.Draft it bytes = draft (sized_record it bytes)

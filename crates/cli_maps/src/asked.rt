@@ -18,6 +18,8 @@ pub enum Rendering {
     Text,
     /// The same in JSON.
     Json,
+    /// The rows alone, as an operator sees them.
+    Rows,
     /// A drawing, SVG 1.1, with the names of the fields and what `check` finds.
     Svg,
     /// A page with that drawing.

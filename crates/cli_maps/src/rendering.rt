@@ -72,6 +72,13 @@ fn pictured(alloc: Global, map: &Map, bytes: &[u8]) -> Result<Answer, CommandErr
     picture_text(alloc, Drawing::Json, text.as_bytes())
 }
 
+fn seen(alloc: Global, map: &Map, bytes: &[u8]) -> Result<Answer, CommandError>
+    ensures { Gives answer_seen result (rendered Rendering.Rows map.now bytes.now) }
+{
+    let text = sized_record(alloc, map, bytes)?;
+    picture_text(alloc, Drawing::Rows, text.as_bytes())
+}
+
 fn shown(alloc: Global, map: &Map, bytes: &[u8]) -> Result<Answer, CommandError>
     ensures { Gives answer_seen result (rendered Rendering.Text map.now bytes.now) }
 {
@@ -98,6 +105,7 @@ fn rendered(
     match rendering {
         Rendering::Text => shown(alloc, map, bytes),
         Rendering::Json => pictured(alloc, map, bytes),
+        Rendering::Rows => seen(alloc, map, bytes),
         Rendering::Svg => annotated(alloc, Annotated::Svg, map, bytes),
         Rendering::Html => annotated(alloc, Annotated::Html, map, bytes),
         Rendering::Draft => drafted(alloc, map, bytes),

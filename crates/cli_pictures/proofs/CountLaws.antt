@@ -13,7 +13,7 @@ use Rattle.ds_screen.proofs.RingLaws.{search_cases, least_found, least_none}
 use Rattle.cli_commands.specs.Screen.{lock_word}
 use Rattle.cli_pictures.specs.Laws.{texts_in, is_some, seen_places, DrawsSeen}
 use Rattle.cli_pictures.specs.Seen.{seen_at, open_length}
-use Rattle.cli_pictures.specs.Svg.{places, seen_text, text_at, line_element, begins_line, line_at, size_words, cursor_words, cursor_place, keyboard_words, title, title_line, root_line, style_lines, head_lines, cursor_element, svg_element}
+use Rattle.cli_pictures.specs.Svg.{places, seen_text, text_at, line_element, begins_line, line_at, size_words, cursor_words, cursor_place, keyboard_words, title, title_line, root_line, style_lines, sized_head, cursor_element, svg_element}
 use Rattle.cli_pictures.proofs.RowLaws.{few_cells}
 use Rattle.cli_pictures.proofs.TagLaws.{are_bare, both_bare, decimal_bare}
 use Rattle.cli_pictures.proofs.ElementLaws.{skip_on, text_counts, line_skips, cursor_skips, root_skips, style_skips}
@@ -105,10 +105,11 @@ title_skips : (v : Picture) (rest : List ℕ) → v.size.rows < 2 ^ 32 → v.siz
 unfolding title_line
 title_skips v rest low narrow inside = skip_on (title v) _ rest (title_bare v low narrow inside)
 
-head_skips : (v : Picture) (rest : List ℕ) → v.size.rows ≤ 255 → v.size.cols ≤ 255 → v.cursor < 2 ^ 32 → texts_in (head_lines v ++ rest) ≡ texts_in rest
-head_skips v rest low narrow inside =
-    ap texts_in (append_assoc (root_line (10 * v.size.cols + 20) (20 * v.size.rows + 20)) (title_line v ++ style_lines) rest)
-    ∙ root_skips (10 * v.size.cols + 20) (20 * v.size.rows + 20) ((title_line v ++ style_lines) ++ rest) (omega arith) (omega arith)
+head_skips : (v : Picture) (x y : ℕ) (rest : List ℕ) → v.size.rows ≤ 255 → v.size.cols ≤ 255 → v.cursor < 2 ^ 32 → x < 2 ^ 32 → y < 2 ^ 32
+    → texts_in (sized_head v x y ++ rest) ≡ texts_in rest
+head_skips v x y rest low narrow inside wide high =
+    ap texts_in (append_assoc (root_line x y) (title_line v ++ style_lines) rest)
+    ∙ root_skips x y ((title_line v ++ style_lines) ++ rest) wide high
     ∙ ap texts_in (append_assoc (title_line v) style_lines rest)
     ∙ title_skips v (style_lines ++ rest) (omega arith) (omega arith) inside ∙ style_skips rest
 
@@ -121,19 +122,21 @@ size_good v sound =
       | inr same ↦ rw same sound.alternate_good
     ]
 
--- up to the cursor as many texts as characters are seen
-pub screen_counts : (v : Picture) (rest : List ℕ) → IsSound v
-    → texts_in (head_lines v ++ (flat_map (line_at v) (places v) ++ (flat_map (text_at v) (places v) ++ (cursor_element v.size.cols v.cursor ++ rest))))
+-- up to the cursor as many texts as characters are seen, in a drawing of any size
+pub sized_counts : (v : Picture) (x y : ℕ) (rest : List ℕ) → IsSound v → x < 2 ^ 32 → y < 2 ^ 32
+    → texts_in (sized_head v x y ++ (flat_map (line_at v) (places v) ++ (flat_map (text_at v) (places v) ++ (cursor_element v.size.cols v.cursor ++ rest))))
     ≡ length (seen_places v) + texts_in rest
-screen_counts v rest sound =
+sized_counts v x y rest sound wide high =
     let good = size_good v sound in
     let few : length v.cells ≤ 65025 = omega (arith, sound.whole, few_cells v.size.rows v.size.cols good.few_rows good.few_cols) in
     let inside : v.cursor < 2 ^ 32 = omega (arith, sound.cursor_inside, few_cells v.size.rows v.size.cols good.few_rows good.few_cols) in
-    head_skips v _ good.few_rows good.few_cols inside
+    head_skips v x y _ good.few_rows good.few_cols inside wide high
     ∙ lines_skip v (length v.cells) 0 _ (omega (arith, good.few_cols)) (omega (arith, few))
     ∙ texts_count v (length v.cells) 0 _ (omega (arith, few))
     ∙ ap (λ n. length (seen_places v) + n) (cursor_skips v.size.cols v.cursor rest inside)
 
 pub draws_seen : DrawsSeen
 unfolding svg_element
-draws_seen v sound = screen_counts v (codes "</svg>\n") sound ∙ omega arith
+draws_seen v sound =
+    let good = size_good v sound in
+    sized_counts v (10 * v.size.cols + 20) (20 * v.size.rows + 20) (codes "</svg>\n") sound (omega (arith, good.few_cols)) (omega (arith, good.few_rows)) ∙ omega arith

@@ -6,3 +6,4 @@ mod CountLaws
 mod JsonLaws
 mod LookLaws
 mod NameLaws
+mod ListLaws

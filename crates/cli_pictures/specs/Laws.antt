@@ -35,7 +35,7 @@ DrawsSeen = (v : Picture) → IsSound v → texts_in (svg_element v) ≡ length 
 abbrev pub entries_on : Picture → List Declared → List Declared
 entries_on v entries = filter (λ entry. nat_lt entry.place (length v.cells)) entries
 
--- in the drawing with a layout, besides these, as many as entries are on the screen
+-- in the drawing with a layout, besides these, one for each entry on the screen, one for each finding, and the list
 abbrev pub NamesEach : Type 0
 NamesEach = (v : Picture) (entries : List Declared) (findings : List Finding) → IsSound v
-    → texts_in (annotated_svg entries findings v) ≡ length (seen_places v) + length (entries_on v entries)
+    → texts_in (annotated_svg entries findings v) ≡ length (seen_places v) + (length (entries_on v entries) + (length findings + 1))

@@ -2,10 +2,14 @@ pub mod Seen
 pub mod Svg
 pub mod Html
 pub mod Colored
+pub mod Codes
 pub mod Json
+pub mod Rows
 pub mod Picture
 pub mod Pressed
 pub mod Marks
+pub mod Room
+pub mod Notes
 pub mod Annotated
 pub mod Laws
 pub mod Unwrapped

@@ -10,11 +10,12 @@ use Rattle.cli_commands.specs.Printed.{Printed, printed, printed_or_fault}
 use Rattle.cli_commands.specs.Records.{Records, records_in}
 use Rattle.cli_commands.specs.Shown.{shown_from}
 use Rattle.cli_pictures.specs.declared.drawing.Drawing.{Drawing}
-use Rattle.cli_pictures.specs.declared.drawing.Drawing.TheVariants.{Svg, Html, Colored, Json}
+use Rattle.cli_pictures.specs.declared.drawing.Drawing.TheVariants.{Svg, Html, Colored, Json, Rows}
 use Rattle.cli_pictures.specs.Svg.{svg_element}
 use Rattle.cli_pictures.specs.Html.{html_page}
 use Rattle.cli_pictures.specs.Colored.{colored_text}
 use Rattle.cli_pictures.specs.Json.{json_line}
+use Rattle.cli_pictures.specs.Rows.{screen_text}
 
 -- the text of a screen in each form
 abbrev pub drawn : Drawing → Picture → List ℕ
@@ -22,6 +23,7 @@ drawn Svg v = svg_element v
 drawn Html v = html_page v
 drawn Colored v = colored_text v
 drawn Json v = json_line v
+drawn Rows v = screen_text v
 
 -- the screen that records leave of a picture
 abbrev pub pictured_from : Drawing → Picture → List (List ℕ) → Result Printed Fault

@@ -30,6 +30,10 @@ seen_under bits (Char character) =
 abbrev pub seen_at : List Cell → ℕ → Option ℕ
 seen_at cells p = seen_under (ruling_bits cells p) (cell_at cells p)
 
+-- a space where nothing is seen
+abbrev pub shown_at : List Cell → ℕ → ℕ
+shown_at cells p = unwrap_or (seen_at cells p) 32
+
 -- how many of so many positions from p on may be typed over, up to the first that may not
 abbrev pub open_length : List Cell → ℕ → ℕ → ℕ
 open_length cells p most = unwrap_or (least most (λ d. not (is_open cells (p + d)))) most

@@ -101,8 +101,12 @@ unfoldable pub style_lines : List ℕ
 style_lines =
     codes "<style>\ntext { fill: lime; font: 16px monospace }\ntext.bright { fill: white }\nline { stroke: lime }\nrect.cursor { fill: none; stroke: white }\n</style>\n<rect width=\"100%\" height=\"100%\"/>\n"
 
+-- the head of a drawing that is so wide and so high
+abbrev pub sized_head : Picture → ℕ → ℕ → List ℕ
+sized_head v width height = root_line width height ++ (title_line v ++ style_lines)
+
 abbrev pub head_lines : Picture → List ℕ
-head_lines v = root_line (10 * v.size.cols + 20) (20 * v.size.rows + 20) ++ (title_line v ++ style_lines)
+head_lines v = sized_head v (10 * v.size.cols + 20) (20 * v.size.rows + 20)
 
 -- a hollow rectangle round a cell
 unfoldable pub box_element : ℕ → ℕ → List ℕ

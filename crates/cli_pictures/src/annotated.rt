@@ -12,7 +12,7 @@ ghost use Rattle.cli_commands.specs.declared.status.Status.TheVariants.{Done};
 ghost use Rattle.cli_pictures.specs.Annotated.{annotated_drawn, annotated_from, annotated_told, annotated_records, annotated, printed_annotated};
 
 use crate::html::push_annotated_page;
-use crate::notes::push_annotated_svg;
+use crate::list::push_annotated_svg;
 use cli_commands::{
     Answer, CommandError, GivesBytes, SizeLine, Status, TakesBytes, finish, layout_in, lent,
     read_layout, read_records, records_in, show_all,

@@ -11,4 +11,6 @@ pub enum Drawing {
     Colored,
     /// One line of JSON.
     Json,
+    /// The rows alone, as an operator sees them.
+    Rows,
 }

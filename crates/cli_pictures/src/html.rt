@@ -4,7 +4,7 @@ ghost use Rattle.std.specs.Prelude.{◌≡◌, ◌++◌, OnOk, string_bytes};
 ghost use Rattle.cli_pictures.specs.Html.{top_lines, body_lines, end_lines, html_page};
 ghost use Rattle.cli_pictures.specs.Annotated.{annotated_page};
 
-use crate::notes::push_annotated_svg;
+use crate::list::push_annotated_svg;
 use crate::svg::{push_svg, push_title_line};
 use ds_screen::{PlaneCells, Screen};
 use scr_check::Finding;

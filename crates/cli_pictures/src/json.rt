@@ -1,14 +1,16 @@
 //! A screen as one line of JSON.
 
-ghost use Rattle.std.specs.Prelude.{◌≡◌, ◌<◌, ◌++◌, map, IfOk, OnOk, string_bytes};
+ghost use Rattle.std.specs.Prelude.{◌≡◌, ◌<◌, ◌++◌, map, length, IfOk, OnOk, string_bytes};
 ghost use Rattle.std.specs.List.{range_with_len};
 ghost use Rattle.order_lines.specs.Print.{hex_byte};
 ghost use Rattle.serde_json.specs.Data.{string};
 ghost use Rattle.serde_json.specs.View.{view};
 ghost use Rattle.cli_commands.specs.Screen.{lock_word};
 ghost use Rattle.cli_pictures.specs.Seen.{is_numeric};
-ghost use Rattle.cli_pictures.specs.Json.{field_data, fields_data, row_data, rows_data, screen_data, json_text, json_line};
+ghost use Rattle.cli_pictures.specs.Codes.{codes_on, characters_on};
+ghost use Rattle.cli_pictures.specs.Json.{field_data, fields_data, row_data, rows_data, code_row_data, code_rows_data, escape_at, escapes_data, screen_data, json_text, json_line};
 
+use crate::codes::{characters_text, codes_text, is_alternate};
 use crate::seen::is_intensified;
 use cli_commands::lock_word;
 use ds_codec::{Attr, Size};
@@ -33,8 +35,36 @@ fn hex_value(alloc: Global, byte: u8) -> Result<Value, AllocError>
     Ok(Value::String(text))
 }
 
-fn field_value(alloc: Global, field: FieldAt) -> Result<Value, AllocError>
-    ensures { IfOk result (λ value. view value ≡ field_data field) }
+/// The cells of a field, by their characters.
+fn characters_value(
+    alloc: Global,
+    screen: &Screen<PlaneCells>,
+    field: FieldAt,
+) -> Result<Value, AllocError>
+    ensures { IfOk result (λ value. view value
+        ≡ string (characters_on screen.now.cells field.place field.length)) }
+{
+    Ok(Value::String(characters_text(alloc, screen, field.place, field.length)?))
+}
+
+/// The cells from a position on, by their codes.
+fn codes_value(
+    alloc: Global,
+    screen: &Screen<PlaneCells>,
+    start: u32,
+    count: u32,
+) -> Result<Value, AllocError>
+    ensures { IfOk result (λ value. view value ≡ string (codes_on screen.now.cells start count)) }
+{
+    Ok(Value::String(codes_text(alloc, screen, start, count)?))
+}
+
+fn field_value(
+    alloc: Global,
+    screen: &Screen<PlaneCells>,
+    field: FieldAt,
+) -> Result<Value, AllocError>
+    ensures { IfOk result (λ value. view value ≡ field_data screen.now field) }
 {
     let attr = field.attr;
     let mut members = Map::new(alloc);
@@ -44,6 +74,18 @@ fn field_value(alloc: Global, field: FieldAt) -> Result<Value, AllocError>
         alloc,
         "attribute",
         hex_value(alloc, attr.bits())?,
+    )?;
+    put(
+        &mut members,
+        alloc,
+        "characters",
+        characters_value(alloc, screen, field)?,
+    )?;
+    put(
+        &mut members,
+        alloc,
+        "codes",
+        codes_value(alloc, screen, field.place, field.length)?,
     )?;
     put(&mut members, alloc, "hidden", Value::from(attr.hidden()))?;
     put(
@@ -80,7 +122,7 @@ fn fields_value(alloc: Global, screen: &Screen<PlaneCells>) -> Result<Value, All
 {
     let mut fields = Vec::new(alloc);
     for field in screen.fields() {
-        fields.push(field_value(alloc, field)?)?;
+        fields.push(field_value(alloc, screen, field)?)?;
     }
     Ok(Value::Array(fields))
 }
@@ -102,6 +144,51 @@ fn rows_value(alloc: Global, screen: &Screen<PlaneCells>) -> Result<Value, Alloc
     Ok(Value::Array(rows))
 }
 
+fn code_row_value(alloc: Global, screen: &Screen<PlaneCells>, row: u16) -> Result<Value, AllocError>
+    requires { row < screen.now.size.rows }
+    ensures { IfOk result (λ value. view value ≡ code_row_data screen.now row) }
+{
+    let columns = u32::from(screen.size().cols);
+    codes_value(alloc, screen, u32::from(row) * columns, columns)
+}
+
+fn code_rows_value(alloc: Global, screen: &Screen<PlaneCells>) -> Result<Value, AllocError>
+    ensures { IfOk result (λ value. view value ≡ code_rows_data screen.now) }
+{
+    let mut rows = Vec::new(alloc);
+    for row in 0..screen.size().rows {
+        rows.push(code_row_value(alloc, screen, row)?)?;
+    }
+    Ok(Value::Array(rows))
+}
+
+/// Adds a position, if a character of the alternate set stands there.
+fn push_escape(
+    places: &mut Vec<Value>,
+    screen: &Screen<PlaneCells>,
+    p: u32,
+) -> Result<(), AllocError>
+    requires { p < length screen.now.cells }
+    ensures { OnOk result (map view places.new.items
+        ≡ map view places.old.items ++ escape_at screen.now.cells p) }
+{
+    if is_alternate(&screen.cell(p)) {
+        places.push(Value::from(p))?;
+    }
+    Ok(())
+}
+
+/// The positions of the characters of the alternate set.
+fn escapes_value(alloc: Global, screen: &Screen<PlaneCells>) -> Result<Value, AllocError>
+    ensures { IfOk result (λ value. view value ≡ escapes_data screen.now) }
+{
+    let mut places = Vec::new(alloc);
+    for p in 0..screen.size().cells() {
+        push_escape(&mut places, screen, p)?;
+    }
+    Ok(Value::Array(places))
+}
+
 fn keyboard_value(alloc: Global, lock: Lock) -> Result<Value, AllocError>
     ensures { IfOk result (λ value. view value ≡ string (lock_word lock)) }
 {
@@ -120,9 +207,21 @@ fn screen_value(alloc: Global, screen: &Screen<PlaneCells>) -> Result<Value, All
         "aid",
         hex_value(alloc, screen.aid().byte())?,
     )?;
+    put(
+        &mut members,
+        alloc,
+        "codes",
+        code_rows_value(alloc, screen)?,
+    )?;
     put(&mut members, alloc, "columns", Value::from(cols))?;
     put(&mut members, alloc, "cursor", Value::from(screen.cursor()))?;
     put(&mut members, alloc, "fields", fields_value(alloc, screen)?)?;
+    put(
+        &mut members,
+        alloc,
+        "graphic_escapes",
+        escapes_value(alloc, screen)?,
+    )?;
     put(
         &mut members,
         alloc,

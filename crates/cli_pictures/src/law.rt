@@ -8,8 +8,8 @@ pub fn drawing_law()
     ensures { DrawsSeen }
 {}
 
-/// In the drawing with a layout stand, besides these, as many as entries are on the screen. It does nothing: its contract is the
-/// law.
+/// In the drawing with a layout stand, besides these, one for each entry on the screen, one for each finding, and the list. It does
+/// nothing: its contract is the law.
 pub fn names_law()
     ensures { NamesEach }
 {}

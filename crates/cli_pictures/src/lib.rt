@@ -2,16 +2,20 @@
 #![tactic(auto)]
 
 mod annotated;
+mod codes;
 mod colored;
 mod drawing;
 mod html;
 mod json;
 mod law;
+mod list;
 mod look;
 mod marks;
 mod notes;
 mod picture;
 mod pressed;
+mod room;
+mod rows;
 mod seen;
 mod svg;
 
@@ -20,3 +24,4 @@ pub use drawing::Drawing;
 pub use law::{drawing_law, looks_law, names_law};
 pub use picture::{picture_text, run_picture};
 pub use pressed::pressed_text;
+pub use seen::{seen_at, shown_at};

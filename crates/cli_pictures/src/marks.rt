@@ -1,8 +1,9 @@
 //! Where findings are marked in a drawing.
 
 ghost use Rattle.std.specs.Prelude.{◌≡◌, ◌<◌, ◌≤◌, ◌+◌, IfSome, length};
-ghost use Rattle.cli_pictures.specs.Marks.{entry_place, place_of, field_length, at_least_one, field_frame, screen_frame, frame_at};
+ghost use Rattle.cli_pictures.specs.Marks.{declared_length, entry_place, place_of, run_length, field_length, at_least_one, marked_length, begins_part, part_frame, screen_frame};
 
+use crate::codes::{cell_on, place_on};
 use crate::colored::is_character;
 use crate::svg::corner_of;
 use ds_codec::Size;
@@ -40,48 +41,82 @@ pub(crate) fn place_of(entries: &[Entry], finding: &Finding) -> Option<u32>
     }
 }
 
-/// How many of so many cells hold characters, up to the first that doesn't.
-fn field_length(screen: &Screen<PlaneCells>, p: u32, most: u32) -> u32
-    requires inside { p + most ≤ length screen.now.cells }
-    requires small { p + most ≤ 65025 }
-    ensures length { result ≡ field_length screen.now.cells p most }
-    ensures few { result ≤ most }
+/// How many cells an entry declares that has no field; none of another finding.
+fn declared_length(entries: &[Entry], finding: &Finding) -> Option<u32>
+    ensures { result ≡ declared_length entries.now finding.now }
+{
+    match finding {
+        Finding::Missing(index) => Some(entries.get(*index)?.length),
+        _ => None,
+    }
+}
+
+/// How many of so many cells from a position on, round the screen's end, hold characters, up to the first that doesn't.
+fn run_length(screen: &Screen<PlaneCells>, p: u32, most: u32) -> u32
+    ensures { result ≡ run_length screen.now.cells p most }
 {
     for count in 0..most {
-        if !is_character(&screen.cell(p + count)) {
+        if !is_character(&cell_on(screen, p, count)) {
             return count;
         }
     }
     most
 }
 
+/// How many cells the field has whose first cell is there.
+fn field_length(screen: &Screen<PlaneCells>, p: u32) -> u32
+    ensures { result ≡ field_length screen.now.cells p }
+{
+    run_length(screen, p, screen.size().cells())
+}
+
 fn at_least_one(count: u32) -> u32
-    ensures value { result ≡ at_least_one count }
-    ensures few { result ≤ count + 1 }
+    ensures { result ≡ at_least_one count }
 {
     if count == 0 { 1 } else { count }
 }
 
-/// The frame round a field's cells in its first row.
-#[tactic(auto, using(crate::proofs::RowLaws::row_fits, crate::proofs::RowLaws::few_cells))]
-fn field_frame(screen: &Screen<PlaneCells>, p: u32) -> Frame
-    requires { p < length screen.now.cells }
-    ensures { result ≡ field_frame screen.now p }
+/// How many cells are marked of a finding at a place: those of its field, or those that its entry declares; one at least.
+pub(crate) fn marked_length(
+    screen: &Screen<PlaneCells>,
+    entries: &[Entry],
+    finding: &Finding,
+    p: u32,
+) -> u32
+    ensures { result ≡ marked_length screen.now.cells entries.now finding.now p }
+{
+    match declared_length(entries, finding) {
+        Some(length) => at_least_one(length),
+        None => at_least_one(field_length(screen, p)),
+    }
+}
+
+/// Whether a part of a row begins so many positions behind the first of some cells.
+pub(crate) fn begins_part(screen: &Screen<PlaneCells>, p: u32, steps: u32) -> bool
+    ensures { result ≡ begins_part screen.now p steps }
+{
+    steps == 0 || place_on(screen, p, steps) % u32::from(screen.size().cols) == 0
+}
+
+/// The frame round what is left of so many cells in the row of that position.
+pub(crate) fn part_frame(screen: &Screen<PlaneCells>, p: u32, count: u32, steps: u32) -> Frame
+    requires { steps < count }
+    ensures { result ≡ part_frame screen.now p count steps }
 {
     let columns = screen.size().cols;
-    let corner = corner_of(columns, p);
-    let most = u32::from(columns) - p % u32::from(columns);
-    let count = at_least_one(field_length(screen, p, most));
+    let place = place_on(screen, p, steps);
+    let corner = corner_of(columns, place);
+    let most = u32::from(columns) - place % u32::from(columns);
     Frame {
         left: corner.left,
         top: corner.top,
-        width: 10 * count,
+        width: 10 * (count - steps).min(most),
         height: 20,
     }
 }
 
 /// The frame round all cells.
-fn screen_frame(size: Size) -> Frame
+pub(crate) fn screen_frame(size: Size) -> Frame
     ensures { result ≡ screen_frame size }
 {
     Frame {
@@ -89,21 +124,5 @@ fn screen_frame(size: Size) -> Frame
         top: 5,
         width: 10 * u32::from(size.cols) + 10,
         height: 20 * u32::from(size.rows) + 10,
-    }
-}
-
-/// The frame at a place, or round the screen where there is none on it.
-pub(crate) fn frame_at(screen: &Screen<PlaneCells>, place: Option<u32>) -> Frame
-    ensures { result ≡ frame_at screen.now place }
-{
-    match place {
-        Some(p) => {
-            if p < screen.size().cells() {
-                field_frame(screen, p)
-            } else {
-                screen_frame(screen.size())
-            }
-        }
-        None => screen_frame(screen.size()),
     }
 }

@@ -13,6 +13,7 @@ use crate::colored::push_colored;
 use crate::drawing::Drawing;
 use crate::html::push_page;
 use crate::json::push_json;
+use crate::rows::push_rows;
 use crate::svg::push_svg;
 use cli_commands::{
     Answer, CommandError, GivesBytes, Records, SizeLine, Status, TakesBytes, finish, read_records,
@@ -32,6 +33,7 @@ fn drawn(alloc: Global, drawing: Drawing, screen: &Screen<PlaneCells>) -> Result
         Drawing::Html => push_page(&mut out, screen)?,
         Drawing::Colored => push_colored(&mut out, screen)?,
         Drawing::Json => push_json(alloc, &mut out, screen)?,
+        Drawing::Rows => push_rows(&mut out, screen)?,
     }
     Ok(out)
 }

@@ -2,7 +2,7 @@
 
 ghost use Rattle.std.specs.Prelude.{◌≡◌, ◌<◌, ◌≤◌, ◌+◌, length, IfSome};
 ghost use Rattle.ds_screen.specs.Fields.{ruling_bits};
-ghost use Rattle.cli_pictures.specs.Seen.{is_intensified, inked, seen_under, seen_at, open_length};
+ghost use Rattle.cli_pictures.specs.Seen.{is_intensified, inked, seen_under, seen_at, shown_at, open_length};
 
 use ds_codec::{Attr, Cell};
 use ds_screen::{PlaneCells, Screen, text_of};
@@ -58,13 +58,25 @@ fn seen_under(ruling: Attr, cell: &Cell) -> Option<u8>
     }
 }
 
-/// The character that is seen at a position.
-pub(crate) fn seen_at(screen: &Screen<PlaneCells>, p: u32) -> Option<u8>
+/// The character that is seen at a position, in ASCII: none of an attribute, a null, a space or a hidden character.
+pub fn seen_at(screen: &Screen<PlaneCells>, p: u32) -> Option<u8>
     requires { p < length screen.now.cells }
     ensures value { result ≡ seen_at screen.now.cells p }
     ensures ascii { IfSome result (λ seen. seen < 128) }
 {
     seen_under(ruling(screen, p), &screen.cell(p))
+}
+
+/// What is seen at a position, in ASCII: a space where nothing is.
+pub fn shown_at(screen: &Screen<PlaneCells>, p: u32) -> u8
+    requires { p < length screen.now.cells }
+    ensures value { result ≡ shown_at screen.now.cells p }
+    ensures ascii { result < 128 }
+{
+    match seen_at(screen, p) {
+        Some(character) => character,
+        None => b' ',
+    }
 }
 
 /// How many of so many positions may be typed over, up to the first that may not.

@@ -1,9 +1,9 @@
 //! A screen as a drawing in SVG. A cell has 10 by 20 units, and round all of them is a margin of 10.
 
-ghost use Rattle.std.specs.Prelude.{◌≡◌, ◌<◌, ◌≤◌, ◌+◌, ◌*◌, ◌%◌, ◌++◌, length, OnOk, if◌then◌else◌, string_bytes};
+ghost use Rattle.std.specs.Prelude.{◌≡◌, ◌<◌, ◌≤◌, ◌+◌, ◌*◌, ◌%◌, ◌^◌, ◌++◌, length, OnOk, if◌then◌else◌, string_bytes};
 ghost use Rattle.std.specs.List.{flat_map};
 ghost use Rattle.cli_pictures.specs.Seen.{seen_at};
-ghost use Rattle.cli_pictures.specs.Svg.{left_of, top_of, places, escaped, class_of, text_element, seen_text, text_at, line_element, begins_line, line_at, size_words, cursor_words, cursor_place, keyboard_words, title, title_line, root_line, style_lines, head_lines, box_element, cursor_element, svg_element};
+ghost use Rattle.cli_pictures.specs.Svg.{left_of, top_of, places, escaped, class_of, text_element, seen_text, text_at, line_element, begins_line, line_at, size_words, cursor_words, cursor_place, keyboard_words, title, title_line, root_line, style_lines, sized_head, head_lines, box_element, cursor_element, svg_element};
 
 use crate::seen::{is_intensified, open_length, ruling, seen_at};
 use cli_commands::lock_word;
@@ -20,6 +20,24 @@ const STYLE: &str =
 pub(crate) struct Corner {
     pub left: u32,
     pub top: u32,
+}
+
+/// The left edge of the cell at a position, on a screen of so many columns.
+pub(crate) fn left_of(columns: u16, p: u64) -> u64
+    requires some { 0 < columns }
+    ensures value { result ≡ left_of columns p }
+    ensures narrow { result ≤ 655360 }
+{
+    10 * (p % u64::from(columns)) + 10
+}
+
+/// Its upper edge.
+pub(crate) fn top_of(columns: u16, p: u64) -> u64
+    requires some { 0 < columns }
+    requires inside { p < 2 ^ 40 }
+    ensures { result ≡ top_of columns p }
+{
+    20 * (p / u64::from(columns)) + 10
 }
 
 /// The corner of the cell at a position, on a screen of so many columns.
@@ -239,17 +257,31 @@ fn push_style(out: &mut String) -> Result<(), AllocError>
     out.push_str(STYLE)
 }
 
+/// The head of a drawing of this size.
+pub(crate) fn push_sized_head(
+    out: &mut String,
+    screen: &Screen<PlaneCells>,
+    width: u32,
+    height: u32,
+) -> Result<(), AllocError>
+    ensures { OnOk result (string_bytes out.new
+        ≡ string_bytes out.old ++ sized_head screen.now width height) }
+{
+    push_root(out, width, height)?;
+    push_title_line(out, screen)?;
+    push_style(out)
+}
+
 pub(crate) fn push_head(out: &mut String, screen: &Screen<PlaneCells>) -> Result<(), AllocError>
     ensures { OnOk result (string_bytes out.new ≡ string_bytes out.old ++ head_lines screen.now) }
 {
     let size = screen.size();
-    push_root(
+    push_sized_head(
         out,
+        screen,
         10 * u32::from(size.cols) + 20,
         20 * u32::from(size.rows) + 20,
-    )?;
-    push_title_line(out, screen)?;
-    push_style(out)
+    )
 }
 
 /// A hollow rectangle round the cell with this corner.

@@ -19,12 +19,13 @@ use Rattle.term3270.specs.declared.asked.KeyLines.TheVariants as key_lines
 use Rattle.term3270.specs.declared.asked.ReportForm.{ReportForm}
 use Rattle.term3270.specs.declared.asked.ReportForm.TheVariants.{Json, Sarif}
 use Rattle.term3270.specs.declared.asked.Asked.{Asked}
-use Rattle.term3270.specs.declared.asked.Asked.TheVariants.{Show, Draw, Annotate, Undrawn, Check, Report, Talk, Press, Strike, Convert, ConvertBack, Draft, Bind, Records, Serve, Attach, Map, CheckMap, RenderMap, NoLayout}
+use Rattle.term3270.specs.declared.asked.Asked.TheVariants.{Show, Draw, Annotate, Undrawn, Check, Report, Explain, Talk, ReportTalk, LogTalk, Press, Strike, Convert, ConvertBack, Draft, Bind, Records, Serve, Attach, Map, CheckMap, RenderMap, NoLayout}
 use Rattle.cli_findings.specs.declared.found.Pen.{Pen}
 use Rattle.cli_findings.specs.declared.found.Pen.TheVariants as pens
 use Rattle.cli_pictures.specs.declared.annotated.Annotated.{Annotated}
 use Rattle.cli_pictures.specs.declared.annotated.Annotated.TheVariants as annotated
 use Rattle.cli_pictures.specs.declared.drawing.Drawing.TheVariants as drawings
+use Rattle.cli_reports.specs.declared.talk.TalkForm.TheVariants as talks
 use Rattle.cli_traces.specs.declared.asked.Source.{Source}
 use Rattle.cli_traces.specs.declared.asked.Source.TheVariants.{Trace, Stream}
 use Rattle.tn_traces.specs.declared.line.Side.{Side}
@@ -67,6 +68,7 @@ IsDrawn rows asked = (first_of (codes "format") rows ≡ Some (codes "text") →
     × (first_of (codes "format") rows ≡ Some (codes "svg") → asked ≡ Draw drawings.Svg)
     × (first_of (codes "format") rows ≡ Some (codes "html") → asked ≡ Draw drawings.Html)
     × (first_of (codes "format") rows ≡ Some (codes "json") → asked ≡ Draw drawings.Json)
+    × (first_of (codes "format") rows ≡ Some (codes "screen") → asked ≡ Draw drawings.Rows)
 
 abbrev pub IsAnnotated : List Row → Annotated → Asked → Type 0
 IsAnnotated rows form (Annotate layout given) = IsText (codes "layout") rows layout × (given ≡ form)
@@ -78,15 +80,20 @@ IsWithLayout rows asked = (first_of (codes "format") rows ≡ Some (codes "svg")
     × (first_of (codes "format") rows ≡ Some (codes "html") → IsAnnotated rows annotated.Html asked)
     × (first_of (codes "format") rows ≡ Some (codes "text") → asked ≡ Undrawn)
     × (first_of (codes "format") rows ≡ Some (codes "json") → asked ≡ Undrawn)
+    × (first_of (codes "format") rows ≡ Some (codes "screen") → asked ≡ Undrawn)
 
 -- the path that was given for an option, where it was
 abbrev pub IsPath : Text → List Row → Option (Bor Text) → Type 0
 IsPath option rows given = option_map (λ path. path.now) given ≡ first_of option rows
 
-abbrev pub IsPlainCheck : List Row → Asked → Type 0
-IsPlainCheck rows (Check layout records demos pen) =
+-- with lines under each finding where they are asked for, else with what keys send where that is
+abbrev pub IsTextCheck : List Row → Asked → Type 0
+IsTextCheck rows (Check layout records demos pen) =
     IsText (codes "LAYOUT") rows layout × IsPath (codes "records") rows records × AreDemos rows demos × IsPen rows pen
-IsPlainCheck rows _ = ⊥
+    × IsOption (codes "explain") rows false
+IsTextCheck rows (Explain layout records pen) =
+    IsText (codes "LAYOUT") rows layout × IsPath (codes "records") rows records × IsPen rows pen × IsOption (codes "explain") rows true
+IsTextCheck rows _ = ⊥
 
 abbrev pub IsReport : List Row → ReportForm → Asked → Type 0
 IsReport rows due (Report layout records form pen) =
@@ -123,6 +130,7 @@ IsRendering rows rendering = (first_of (codes "format") rows ≡ Some (codes "te
     × (first_of (codes "format") rows ≡ Some (codes "svg") → rendering ≡ renderings.Svg)
     × (first_of (codes "format") rows ≡ Some (codes "html") → rendering ≡ renderings.Html)
     × (first_of (codes "format") rows ≡ Some (codes "json") → rendering ≡ renderings.Json)
+    × (first_of (codes "format") rows ≡ Some (codes "screen") → rendering ≡ renderings.Rows)
 
 -- a map's screen, in the form that is named
 abbrev pub IsShownMap : List Row → Asked → Type 0
@@ -148,7 +156,7 @@ IsDraft rows asked = (is_some (first_of (codes "map") rows) ≡ true → IsDraft
 
 -- the verdict with a layout, in the form that is named
 abbrev pub IsLayoutCheck : List Row → Asked → Type 0
-IsLayoutCheck rows asked = (first_of (codes "format") rows ≡ Some (codes "text") → IsPlainCheck rows asked)
+IsLayoutCheck rows asked = (first_of (codes "format") rows ≡ Some (codes "text") → IsTextCheck rows asked)
     × (first_of (codes "format") rows ≡ Some (codes "json") → IsReport rows Json asked)
     × (first_of (codes "format") rows ≡ Some (codes "sarif") → IsReport rows Sarif asked)
 
@@ -157,6 +165,17 @@ abbrev pub IsCheck : List Row → Asked → Type 0
 IsCheck rows asked = (is_some (first_of (codes "map") rows) ≡ true → IsMapCheck rows asked)
     × (is_some (first_of (codes "map") rows) ≡ false → is_some (first_of (codes "LAYOUT") rows) ≡ true → IsLayoutCheck rows asked)
     × (is_some (first_of (codes "map") rows) ≡ false → is_some (first_of (codes "LAYOUT") rows) ≡ false → asked ≡ NoLayout)
+
+abbrev pub IsTextTalk : List Row → Asked → Type 0
+IsTextTalk rows Talk = IsOption (codes "explain") rows false
+IsTextTalk rows (ReportTalk form) = (form ≡ talks.Explained) × IsOption (codes "explain") rows true
+IsTextTalk rows _ = ⊥
+
+-- a dialogue, in the form that is named
+abbrev pub IsTalk : List Row → Asked → Type 0
+IsTalk rows asked = (first_of (codes "format") rows ≡ Some (codes "text") → IsTextTalk rows asked)
+    × (first_of (codes "format") rows ≡ Some (codes "json") → asked ≡ ReportTalk talks.Json)
+    × (first_of (codes "format") rows ≡ Some (codes "sarif") → asked ≡ LogTalk)
 
 abbrev pub IsPress : List Row → Asked → Type 0
 IsPress rows (Press keys) = IsText (codes "KEYS") rows keys × IsOption (codes "strokes") rows false
@@ -208,7 +227,7 @@ IsAttach rows _ = ⊥
 pub record AsksFor (name : Text) (rows : List Row) (asked : Asked) : Type 0 where
   pub show : name ≡ codes "show" → IsShow rows asked
   pub check : name ≡ codes "check" → IsCheck rows asked
-  pub talk : name ≡ codes "talk" → asked ≡ Talk
+  pub talk : name ≡ codes "talk" → IsTalk rows asked
   pub press : name ≡ codes "press" → IsPress rows asked
   pub convert : name ≡ codes "convert" → IsConvert rows asked
   pub draft : name ≡ codes "draft" → IsDraft rows asked

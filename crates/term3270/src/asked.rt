@@ -2,7 +2,7 @@
 
 ghost use Rattle.std.specs.Prelude.{◌≡◌, is_some, option_map};
 ghost use Rattle.clap.specs.Words.{first_of, found_of, rows_of, subcommand_rows_of};
-ghost use Rattle.term3270.specs.Asked.{AreDemos, AreKeyLines, AsksFor, IsCheck, IsDrawn, IsForm, IsConvert, IsNumber, IsOption, IsPath, IsPen, IsPress, IsShow, IsDraft, IsDraftedMap, IsRendering, IsShownMap, IsReportForm, IsSide, IsSource, IsText, IsWhen, IsWithLayout, IsMap, IsMapForm, IsMapCheck, IsLayoutCheck, AreControls};
+ghost use Rattle.term3270.specs.Asked.{AreDemos, AreKeyLines, AsksFor, IsCheck, IsDrawn, IsForm, IsConvert, IsNumber, IsOption, IsPath, IsPen, IsPress, IsShow, IsDraft, IsDraftedMap, IsRendering, IsShownMap, IsReportForm, IsSide, IsSource, IsText, IsWhen, IsWithLayout, IsMap, IsMapForm, IsMapCheck, IsLayoutCheck, IsTextCheck, IsTextTalk, IsTalk, AreControls};
 
 use bms_map::Control;
 use clap::ArgMatches;
@@ -11,6 +11,7 @@ use cli_commands::Demos;
 use cli_findings::Pen;
 use cli_maps::{Form as MapForm, Rendering};
 use cli_pictures::{Annotated, Drawing};
+use cli_reports::TalkForm;
 use cli_traces::Source;
 use tn_traces::Side;
 
@@ -65,7 +66,19 @@ pub(crate) enum Asked<'a> {
         form: ReportForm,
         pen: Pen,
     },
+    /// `check`, with lines under each finding.
+    Explain {
+        layout: &'a str,
+        records: Option<&'a str>,
+        pen: Pen,
+    },
     Talk,
+    /// `talk` for tools, or with lines under each finding.
+    ReportTalk {
+        form: TalkForm,
+    },
+    /// `talk` as a log.
+    LogTalk,
     Press {
         keys: &'a str,
     },
@@ -148,7 +161,7 @@ fn command_of<'a>(name: &str, words: &ArgMatches<'a>) -> Asked<'a>
     match name {
         "show" => show_of(words),
         "check" => check_of(words),
-        "talk" => Asked::Talk,
+        "talk" => talk_of(words),
         "press" => press_of(words),
         "convert" => convert_of(words),
         "draft" => draft_of(words),
@@ -186,6 +199,7 @@ fn rendering_in(words: &ArgMatches<'_>) -> Rendering
         "svg" => Rendering::Svg,
         "html" => Rendering::Html,
         "json" => Rendering::Json,
+        "screen" => Rendering::Rows,
         _ => Rendering::Text,
     }
 }
@@ -269,6 +283,9 @@ fn draw_of<'a>(words: &ArgMatches<'a>) -> Asked<'a>
         },
         "json" => Asked::Draw {
             drawing: Drawing::Json,
+        },
+        "screen" => Asked::Draw {
+            drawing: Drawing::Rows,
         },
         _ => Asked::Show {
             color: when_in(words),
@@ -372,12 +389,56 @@ fn layout_check_of<'a>(words: &ArgMatches<'a>) -> Asked<'a>
             form: ReportForm::Sarif,
             pen: pen_in(words),
         },
-        _ => Asked::Check {
+        _ => text_check_of(words),
+    }
+}
+
+/// `check` with a layout, as text.
+fn text_check_of<'a>(words: &ArgMatches<'a>) -> Asked<'a>
+    ensures { IsTextCheck (rows_of (found_of words.now)) result }
+{
+    let layout = text_in(words, "LAYOUT");
+    let records = path_in(words, "records");
+    let pen = pen_in(words);
+    if is_given(words, "explain") {
+        Asked::Explain {
+            layout,
+            records,
+            pen,
+        }
+    } else {
+        Asked::Check {
             layout,
             records,
             demos: demos_in(words),
-            pen: pen_in(words),
+            pen,
+        }
+    }
+}
+
+/// `talk` as text.
+fn text_talk_of<'a>(words: &ArgMatches<'a>) -> Asked<'a>
+    ensures { IsTextTalk (rows_of (found_of words.now)) result }
+{
+    if is_given(words, "explain") {
+        Asked::ReportTalk {
+            form: TalkForm::Explained,
+        }
+    } else {
+        Asked::Talk
+    }
+}
+
+/// `talk`, in the form that is named.
+fn talk_of<'a>(words: &ArgMatches<'a>) -> Asked<'a>
+    ensures { IsTalk (rows_of (found_of words.now)) result }
+{
+    match text_in(words, "format") {
+        "json" => Asked::ReportTalk {
+            form: TalkForm::Json,
         },
+        "sarif" => Asked::LogTalk,
+        _ => text_talk_of(words),
     }
 }
 

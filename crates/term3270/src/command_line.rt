@@ -31,8 +31,9 @@ Example:
   |..........|
 
 Forms:
-  svg and html are a picture of the screen as a terminal shows it, json is one object (docs/PICTURES.md). Text
-  has the looks of its cells where standard output is a terminal and the environment doesn't say NO_COLOR.
+  svg and html are a picture of the screen as a terminal shows it, json is one object, screen is the rows alone, as
+  an operator sees them (docs/PICTURES.md). Text has the looks of its cells where standard output is a terminal and
+  the environment doesn't say NO_COLOR.
 
   With --layout svg and html have the name of each field of the layout at its place, and a red frame at each
   finding of check, which tells its words. The sizes are the layout's.
@@ -52,6 +53,8 @@ Example:
   yes
 
 Forms:
+  --explain prints under each finding where its field is on the screen, what it means, and what mends it.
+
   json is an object a line for each finding, with what its keys send, and one with the verdict; sarif is a log
   of SARIF 2.1.0, with the lines of the files at which findings stand (docs/FINDINGS.md). With --map they tell the
   map, the field, and the line and the column of its macro, and what to write (docs/MAPS.md).
@@ -67,6 +70,11 @@ const TALK: &str = "Input:
 Output:
   'yes', or 'turn K', counted from 0, for the first turn with findings, and a line for each, as check prints
   them. After turn 0 the keys of a finding are 0 and 0.
+
+Forms:
+  --explain prints under each finding where its field is on the screen, what it means, and what mends it. json is an
+  object a line for each finding, with its turn, and one with the verdict; sarif is a log of SARIF 2.1.0, whose messages
+  begin with the turn (docs/FINDINGS.md).
 
 Example:
   $ term3270 talk examples/signon.toml examples/menu.toml < examples/signon_menu.hex
@@ -164,7 +172,10 @@ const WITH_FREEKB_HELP: &str =
 const WITH_FRSET_HELP: &str =
     "With --map: SEND MAP says FRSET: modified data tags are reset, whatever CTRL says";
 
-const SCREEN_FORMS: &[&str] = &["text", "svg", "html", "json"];
+const EXPLAIN_HELP: &str =
+    "Print under each finding where its field is, what it means, and what mends it";
+
+const SCREEN_FORMS: &[&str] = &["text", "svg", "html", "json", "screen"];
 
 const WHEN: &[&str] = &["auto", "always", "never"];
 
@@ -244,6 +255,8 @@ enum Takes<'a> {
     FileAlone(&'a [&'a str]),
     /// A value of this name, which may be given where an option of this name is, and none of these.
     ValueWith(&'a str, &'a str, &'a [&'a str]),
+    /// Nothing: the option may be there where none of these is.
+    NothingWithout(&'a [&'a str]),
     /// Nothing: the option may be there where one of this name is, and none of these.
     NothingWith(&'a str, &'a [&'a str]),
 }
@@ -328,6 +341,11 @@ const SCREENS: &[Described<'_>] = &[
                 help: "Find too what Cursor Select or a light pen may not select, F15",
             },
             Argument {
+                name: "explain",
+                takes: Takes::NothingWithout(&["demo", "format", "map"]),
+                help: EXPLAIN_HELP,
+            },
+            Argument {
                 name: "records",
                 takes: Takes::File,
                 help: "The file of the records, in place of standard input",
@@ -395,11 +413,23 @@ const SCREENS: &[Described<'_>] = &[
         name: "talk",
         about: "Print yes, or the findings of a dialogue: several screens, and an operator between them",
         after_help: TALK,
-        arguments: &[Argument {
-            name: "LAYOUT",
-            takes: Takes::Operands,
-            help: "The files of the layouts, one for each turn, in TOML",
-        }],
+        arguments: &[
+            Argument {
+                name: "LAYOUT",
+                takes: Takes::Operands,
+                help: "The files of the layouts, one for each turn, in TOML",
+            },
+            Argument {
+                name: "explain",
+                takes: Takes::NothingWithout(&["format"]),
+                help: EXPLAIN_HELP,
+            },
+            Argument {
+                name: "format",
+                takes: Takes::OneOf("FORM", FINDING_FORMS, "text"),
+                help: "How the findings are printed",
+            },
+        ],
     },
     Described {
         name: "press",
@@ -608,6 +638,7 @@ fn bare<'a>(alloc: Global, name: &'a str, takes: Takes<'a>) -> Result<Arg<'a>, A
         Takes::ValueWith(value, other, others) => {
             alone(option(alloc, name, value).requires_arg(other)?, others)
         }
+        Takes::NothingWithout(others) => alone(flag(alloc, name), others),
         Takes::NothingWith(other, others) => alone(flag(alloc, name).requires_arg(other)?, others),
     }
 }

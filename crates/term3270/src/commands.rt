@@ -37,7 +37,7 @@ fn named<'a, S>(rt: &'a HostRuntime, name: &'a str, stream: S) -> Watched<Named<
     Watched::new(Named { rt, name, stream })
 }
 
-fn output(rt: &HostRuntime) -> Watched<Named<'_, Stdout>> {
+pub(crate) fn output(rt: &HostRuntime) -> Watched<Named<'_, Stdout>> {
     named(rt, "standard output", rt.stdout())
 }
 
@@ -67,12 +67,12 @@ fn released(
 }
 
 /// Records on standard input, for the sizes of a layout.
-fn sized_input(rt: &HostRuntime) -> HeardInput<'_> {
+pub(crate) fn sized_input(rt: &HostRuntime) -> HeardInput<'_> {
     heard_input(rt, Lines::SizedRecords)
 }
 
 /// Records in a file, for the sizes of a layout.
-fn sized_file<'a>(rt: &'a HostRuntime, path: &'a str) -> HeardFile<'a> {
+pub(crate) fn sized_file<'a>(rt: &'a HostRuntime, path: &'a str) -> HeardFile<'a> {
     heard_file(rt, Lines::SizedRecords, path)
 }
 
@@ -383,7 +383,7 @@ fn talk_over(rt: &HostRuntime, paths: &[&str]) -> Status {
 }
 
 /// The layouts of several paths, none yet opened.
-fn files_at<'a>(
+pub(crate) fn files_at<'a>(
     rt: &'a HostRuntime,
     paths: &'a [&'a str],
 ) -> Result<Vec<HeardFile<'a>>, AllocError> {

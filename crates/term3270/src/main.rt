@@ -9,6 +9,7 @@ mod file;
 mod manners;
 mod prompt;
 mod reasons;
+mod reports;
 mod sessions;
 mod stream;
 mod tcp;
@@ -55,7 +56,14 @@ fn run(rt: &HostRuntime, asked: Asked<'_>, matches: &ArgMatches<'_>) -> Status {
             form,
             pen,
         } => commands::report(rt, layout, records, form, pen),
+        Asked::Explain {
+            layout,
+            records,
+            pen,
+        } => reports::explain(rt, layout, records, pen),
         Asked::Talk => commands::talk(rt, matches),
+        Asked::ReportTalk { form } => reports::report_talk(rt, matches, form),
+        Asked::LogTalk => reports::log_talk(rt, matches),
         Asked::Press { keys } => commands::press(rt, keys),
         Asked::Strike { strokes } => commands::strike(rt, strokes),
         Asked::Convert => commands::convert(rt),

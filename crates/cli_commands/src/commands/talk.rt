@@ -76,7 +76,7 @@ fn first_other(layouts: &[Layout]) -> Option<usize>
 }
 
 /// Refuses layouts for terminals of other geometries than the first's.
-fn one_geometry(layouts: &[Layout]) -> Result<(), Fault>
+pub(crate) fn one_geometry(layouts: &[Layout]) -> Result<(), Fault>
     ensures exact { result ≡ unless_other (first_other layouts.now) }
     ensures same { IfOk result (λ done. first_other layouts.now ≡ None) }
 {
@@ -179,6 +179,22 @@ fn verdict_text(
     }
 }
 
+/// The verdict on layouts of one geometry, and on as many turns.
+pub(crate) fn turns_verdict(
+    alloc: Global,
+    layouts: &[Layout],
+    turns: &[Vec<Vec<u8>>],
+) -> Result<TalkVerdict, AllocError>
+    requires same { first_other layouts.now ≡ None }
+    requires as_many { length turns.now ≡ length layouts.now }
+    ensures { IfOk result (λ verdict. stop_in verdict
+        ≡ walk_of (rounds (turns_held turns.now) layouts.now)) }
+{
+    let records = lent_turns(alloc, turns)?;
+    let rounds = with_layouts(alloc, records.as_slice(), layouts)?;
+    check_talk(alloc, rounds.as_slice())
+}
+
 /// What `talk` answers to layouts of one geometry, and to as many turns.
 fn turns_answer(
     alloc: Global,
@@ -190,9 +206,7 @@ fn turns_answer(
     ensures { IfOk result (λ answer. answer_seen answer
         ≡ printed_stop layouts.now (walk_of (rounds (turns_held turns.now) layouts.now))) }
 {
-    let records = lent_turns(alloc, turns)?;
-    let rounds = with_layouts(alloc, records.as_slice(), layouts)?;
-    let verdict = check_talk(alloc, rounds.as_slice())?;
+    let verdict = turns_verdict(alloc, layouts, turns)?;
     verdict_text(alloc, layouts, &verdict)
 }
 

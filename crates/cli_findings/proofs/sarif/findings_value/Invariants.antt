@@ -5,5 +5,5 @@ use Rattle.cli_findings.proofs.sarif.findings_value.Given as goal
 
 abbrev pub invariant-loop-finding : goal.invariant-loop-finding
 invariant-loop-finding l =
-    map view l.values.items ++ map (finding_result l.path l.layout l.standing) (drop l.finding-index l.findings)
-    ≡ map (finding_result l.fn.path l.fn.layout l.fn.standing) l.fn.findings
+    map view l.values.items ++ map (finding_result l.front l.path l.layout l.standing) (drop l.finding-index l.findings)
+    ≡ map (finding_result l.fn.front l.fn.path l.fn.layout l.fn.standing) l.fn.findings

@@ -5,4 +5,4 @@ use Rattle.cli_pictures.specs.Json.{field_data}
 use Rattle.cli_pictures.proofs.json.fields_value.Given as goal
 
 abbrev pub invariant-loop-field : goal.invariant-loop-field
-invariant-loop-field l = map view l.fields.items ++ map field_data l.field-iterator ≡ map field_data (fields_of l.screen.cells)
+invariant-loop-field l = map view l.fields.items ++ map (field_data l.screen) l.field-iterator ≡ map (field_data l.screen) (fields_of l.screen.cells)

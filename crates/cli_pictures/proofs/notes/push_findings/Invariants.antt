@@ -1,10 +1,9 @@
-use Rattle.std.proofs.Common.{◌≡◌, ◌++◌, drop}
+use Rattle.std.proofs.Common.{◌≡◌, ◌+◌, ◌++◌, drop}
 use Rattle.std.specs.String.{string_bytes}
-use Rattle.std.specs.List.{flat_map}
-use Rattle.cli_pictures.specs.Annotated.{finding_element}
+use Rattle.cli_pictures.specs.Notes.{findings_from}
 use Rattle.cli_pictures.proofs.notes.push_findings.Given as goal
 
-abbrev pub invariant-loop-finding : goal.invariant-loop-finding
-invariant-loop-finding l =
-    string_bytes l.out ++ flat_map (finding_element l.entries l.screen) (drop l.finding-index l.findings)
-    ≡ string_bytes l.fn.out ++ flat_map (finding_element l.entries l.screen) l.findings
+abbrev pub invariant-loop-index : goal.invariant-loop-index
+invariant-loop-index l =
+    string_bytes l.out ++ findings_from l.screen l.entries (l.index + 1) (drop l.index l.findings)
+    ≡ string_bytes l.fn.out ++ findings_from l.screen l.entries 1 l.findings

@@ -1,9 +1,8 @@
-use Rattle.std.proofs.Common.{◌≡◌, ◌++◌, drop}
+use Rattle.std.proofs.Common.{◌≡◌, ◌+◌, ◌++◌, drop}
 use Rattle.std.specs.String.{string_bytes}
-use Rattle.std.specs.List.{flat_map}
-use Rattle.cli_pictures.specs.Annotated.{name_on}
+use Rattle.cli_pictures.specs.Notes.{names_from}
 use Rattle.cli_pictures.proofs.notes.push_names.Given as goal
 
-abbrev pub invariant-loop-entry : goal.invariant-loop-entry
-invariant-loop-entry l =
-    string_bytes l.out ++ flat_map (name_on l.screen) (drop l.entry-index l.entries) ≡ string_bytes l.fn.out ++ flat_map (name_on l.screen) l.entries
+abbrev pub invariant-loop-index : goal.invariant-loop-index
+invariant-loop-index l =
+    string_bytes l.out ++ names_from l.screen l.entries (l.index + 1) (drop l.index l.entries) ≡ string_bytes l.fn.out ++ names_from l.screen l.entries 1 l.entries

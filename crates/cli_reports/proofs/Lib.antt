@@ -1,0 +1,4 @@
+mod Steps
+mod Numbered
+mod Turns
+mod TurnPlain

@@ -1,0 +1,11 @@
+use Rattle.std.proofs.Common.{◌≡◌, ◌++◌, drop}
+use Rattle.std.specs.Prelude.{option_map}
+use Rattle.std.specs.String.{string_bytes}
+use Rattle.std.specs.List.{flat_map}
+use Rattle.cli_reports.specs.Explain.{explained_lines}
+use Rattle.cli_reports.proofs.explain.push_findings.Given as goal
+
+abbrev pub invariant-loop-finding : goal.invariant-loop-finding
+invariant-loop-finding l =
+    string_bytes l.out ++ flat_map (explained_lines l.layout (option_map (λ t. t.now) l.terminal)) (drop l.finding-index l.findings)
+    ≡ string_bytes l.fn.out ++ flat_map (explained_lines l.layout (option_map (λ t. t.now) l.terminal)) l.findings

@@ -1,0 +1,11 @@
+pub mod Label
+pub mod Extent
+pub mod Add
+pub mod Explain
+pub mod Explained
+pub mod Numbers
+pub mod Stop
+pub mod TalkJson
+pub mod TalkReport
+pub mod Blanked
+pub mod TalkLog
