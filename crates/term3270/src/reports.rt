@@ -53,7 +53,13 @@ fn talk_over(rt: &HostRuntime, paths: &[&str], form: Option<TalkForm>) -> Status
     match files_at(rt, paths) {
         Ok(mut layouts) => {
             let mut records = heard_input(rt, Lines::Turns);
-            let answer = talk_read(rt.alloc(), paths, form, layouts.as_mut_slice(), &mut records);
+            let answer = talk_read(
+                rt.alloc(),
+                paths,
+                form,
+                layouts.as_mut_slice(),
+                &mut records,
+            );
             let status = finish(rt.alloc(), &mut output(rt), answer);
             told_last(rt, status, layouts.as_mut_slice(), &mut records)
         }
