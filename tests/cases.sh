@@ -2,7 +2,8 @@
 # Runs each case, a folder tests/cases/COMMAND/NAME: the program with the words of `args` (one a line) and
 # `stdin`, in a folder with the case's other files. Standard output is compared with `stdout`, standard error
 # with `stderr` where that file is there, and the exit status with `status` (0 where there is none). Where
-# status 2 goes with no output, the fault is one of the command line, and standard error must say it. A script
+# status 2 goes with no output, standard error must say why. What the libraries answer in place of output that the program
+# has not stands in `answer`, for their tests. A script
 # `make-stdin` prints an input that is too large to store, or that the program, which it knows as PROGRAM, prints itself.
 program=$(cd "$(dirname "$1")" && pwd)/$(basename "$1")
 cases=$(cd "$(dirname "$0")/cases" && pwd)

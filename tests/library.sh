@@ -68,6 +68,8 @@ for folder in "$root"/tests/cases/show "$root"/tests/cases/check "$root"/tests/c
     wanted=0
     [ -f "$work/in/status" ] && wanted=$(cat "$work/in/status")
     [ -f "$work/in/stdout" ] || : > "$work/in/stdout"
+    # The line in place of a picture, of which the program says on standard error why there is none.
+    [ -f "$work/in/answer" ] && cp "$work/in/answer" "$work/in/stdout"
     (cd "$work/in" && "$work/library" answer "$@" < "$work/stdin" > "$work/stdout" 2> "$work/stderr")
     status=$?
     # A fault of the command line, or a file that is missing, is the program's alone.

@@ -74,6 +74,17 @@ compare 'long texts as lines, and the lines as records' "$(records | cksum)" "$(
 compare 'the lines of a long text' 24200 "$(records | "$program" convert | wc -l)"
 compare 'a long text that is not written' 'term3270: standard output: No space left on device (os error 28) 3' \
   "$(records | { "$program" convert 2>&1 > /dev/full; echo " $?"; })"
+# Of a pipe that is closed nothing is said.
+closed=$(mktemp)
+records | { "$program" convert 2> "$closed"; echo "$?" >> "$closed"; } | head -c 1 > /dev/null
+compare 'a pipe that is closed' 3 "$(cat "$closed")"
+rm "$closed"
+compare 'an address in brackets' 'term3270: ::1 port 1:' \
+  "$("$program" attach '[::1]' /dev/null --port 1 2>&1 | sed 's/\( port 1:\) .*/\1/')"
+compare 'a file of records behind a layout' "tip: records come on standard input, or from the file after '--records'" \
+  "$("$program" check a.toml a.hex 2>&1 | grep '^tip: records')"
+compare 'a file of records where none is wanted' 'tip: records come on standard input' \
+  "$("$program" show a.hex 2>&1 | grep '^tip: records')"
 # The golden logs of SARIF have what services ask for, and the version that the program prints. Findings come from where
 # a reading of their records by another program says. The golden cases of a form have in common what each of the form has.
 # What bash and zsh offer for an option's value is what --help says.
@@ -87,6 +98,7 @@ if command -v python3 > /dev/null; then
   compare 'map sources cut at every byte' '0 failed' "$(PYTHONDONTWRITEBYTECODE=1 python3 "$root/tests/cuts.py" "$program" | tail -n 1 | sed 's/.*, //')"
   compare 'where findings come from' '300 passed, 0 failed' "$(PYTHONDONTWRITEBYTECODE=1 python3 "$root/tests/origins.py" "$program" | tail -n 1)"
   compare 'what a help says ends its finding' '300 passed, 0 failed' "$(PYTHONDONTWRITEBYTECODE=1 python3 "$root/tests/helps.py" "$program" | tail -n 1)"
+  compare 'why lines are refused' '0 failed' "$(PYTHONDONTWRITEBYTECODE=1 python3 "$root/tests/reasons.py" "$program" | tail -n 1 | sed 's/.*, //')"
   compare 'what the golden cases have in common' '0 failed' "$(PYTHONDONTWRITEBYTECODE=1 python3 "$root/tests/forms.py" "$program" | tail -n 1 | sed 's/.*, //')"
 fi
 echo "$passed passed, $failed failed"

@@ -11,7 +11,7 @@ const KEYS_HELP: &str = "The file of the keys, one a line";
 
 const STATUSES: &str = "Statuses:
   0  done, or yes
-  1  check or talk has findings
+  1  check, talk, draft or serve has findings
   2  bad input, or a fault of the command line
   3  a file, a read, a write, a connection or a session failed
   4  out of memory";

@@ -89,14 +89,21 @@ fn file_at<'a>(rt: &'a HostRuntime, path: &'a str) -> Watched<Named<'a, FileAt<'
 /// `show` as text, with looks where they are asked for.
 pub(crate) fn show(rt: &HostRuntime, color: When) -> Status {
     if is_colored(rt, color) {
-        return draw(rt, Drawing::Colored);
+        return color_screen(rt);
     }
     let mut records = heard_input(rt, Lines::Records);
     let status = run_show(rt.alloc(), &mut records, &mut output(rt));
     told(rt, status, &mut records)
 }
 
-/// `show` in another form.
+/// `show` as text with looks.
+fn color_screen(rt: &HostRuntime) -> Status {
+    let mut records = heard_input(rt, Lines::Records);
+    let status = run_picture(rt.alloc(), Drawing::Colored, &mut records, &mut output(rt));
+    told(rt, status, &mut records)
+}
+
+/// `show` as a picture or as JSON.
 pub(crate) fn draw(rt: &HostRuntime, drawing: Drawing) -> Status {
     let mut records = heard_input(rt, Lines::Records);
     let mut picture = picture(rt);

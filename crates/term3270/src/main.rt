@@ -18,7 +18,7 @@ mod withheld;
 use crate::asked::Asked;
 use crate::bad_word::tell_bad_word;
 use crate::command_line::parsed;
-use crate::manners::bare_host;
+use crate::manners::{bare_host, tell_records_place};
 use crate::tcp::Place;
 use bms_map::Control;
 use clap::ArgMatches;
@@ -119,6 +119,9 @@ fn respond(rt: &HostRuntime) -> io::Result<Status> {
         Ok(matches) => Ok(run(rt, Asked::from_matches(&matches), &matches)),
         Err(error) => {
             error.print(rt)?;
+            if matches!(error.kind(), ErrorKind::UnknownArgument) {
+                tell_records_place(rt, words.as_slice());
+            }
             Ok(match error.kind() {
                 ErrorKind::OutOfMemory => Status::NoMemory,
                 _ if error.use_stderr() => Status::BadInput,
