@@ -172,7 +172,8 @@ fn widest(lines: &[String]) -> u32
 
 /// How wide the drawing is.
 pub(crate) fn wide(size: Size, list: &ListLines) -> u32
-    ensures { result ≡ wide size (map string_bytes list.now.names.items) (map string_bytes list.now.findings.items) }
+    ensures { result
+        ≡ wide size (map string_bytes list.now.names.items) (map string_bytes list.now.findings.items) }
 {
     let longest = widest(list.names.as_slice()).max(widest(list.findings.as_slice()));
     (10 * u32::from(size.cols) + 20).max(8 * longest + 20)
@@ -180,7 +181,8 @@ pub(crate) fn wide(size: Size, list: &ListLines) -> u32
 
 /// How high the drawing is.
 pub(crate) fn high(size: Size, list: &ListLines) -> u32
-    ensures { result ≡ high size (map string_bytes list.now.names.items) (map string_bytes list.now.findings.items) }
+    ensures { result
+        ≡ high size (map string_bytes list.now.names.items) (map string_bytes list.now.findings.items) }
 {
     let lines = list.names.len().min(100_000) + list.findings.len().min(100_000);
     20 * u32::from(size.rows) + 20 + 16 * lines as u32

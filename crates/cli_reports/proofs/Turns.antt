@@ -1,6 +1,6 @@
 -- The first turns of a dialogue.
 use Rattle.std.proofs.Common.{◌≡◌, ℕ, zero, suc, ◌≤◌, List, [], ◌∷◌, length, take, map, refl, sym, ap, ◌∙◌, arith}
-use Rattle.std.proofs.lemmas.List.{take-map}
+use Rattle.std.proofs.lemmas.List.{length-map, take-map}
 use Rattle.std.specs.Global.{Vec}
 use Rattle.cli_commands.specs.Held.{records_held}
 use Rattle.cli_commands.specs.TurnsHeld.{turns_held}
@@ -17,3 +17,9 @@ some_held turns count = sym (take-map (λ (records : Vec (Vec ℕ)). records_hel
 
 pub all_held : (turns : List (Vec (Vec ℕ))) (count : ℕ) → length turns ≤ count → turns_held turns ≡ take count (turns_held turns)
 all_held turns count le = sym (ap turns_held (all_taken turns count le)) ∙ some_held turns count
+
+pub turns_count : (turns : List (Vec (Vec ℕ))) → length (turns_held turns) ≡ length turns
+turns_count turns = length-map turns (λ (records : Vec (Vec ℕ)). records_held records.items)
+
+pub records_count : (records : List (Vec ℕ)) → length (records_held records) ≡ length records
+records_count records = length-map records (λ (bytes : Vec ℕ). bytes.items)

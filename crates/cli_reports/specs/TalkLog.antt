@@ -21,7 +21,7 @@ use Rattle.cli_findings.specs.Sarif.{fronted_log_data, refusal_log_data}
 use Rattle.cli_reports.specs.declared.blanked.Kept.{Kept}
 use Rattle.cli_reports.specs.declared.blanked.Kept.TheVariants.{All, Own}
 use Rattle.cli_reports.specs.Blanked.{turn_text}
-use Rattle.cli_reports.specs.TalkReport.{traced_in}
+use Rattle.cli_reports.specs.Stop.{traced_in}
 
 -- ---- the findings of a turn
 

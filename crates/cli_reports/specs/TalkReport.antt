@@ -1,12 +1,11 @@
 -- What `talk` reports, as a function of its layouts' texts and its records, and its status.
-use Rattle.std.specs.Prelude.{ℕ, ◌+◌, List, [], ◌∷◌, ◌++◌, codes, length, map, take, slice_get, Option, Some, None, Result, Ok, Err}
+use Rattle.std.specs.Prelude.{ℕ, ◌+◌, List, [], ◌∷◌, ◌++◌, codes, length, take, slice_get, Option, Some, None, Result, Ok, Err}
 use Rattle.std.specs.Fmt.{decimal}
 use Rattle.std.specs.List.{flat_map}
 use Rattle.ds_codec.specs.Reading.{◌>>=◌}
 use Rattle.scr_layout.specs.Layout.{Declaration}
 use Rattle.scr_check.specs.declared.finding.Finding.{Finding}
 use Rattle.scr_check.specs.declared.traced.Traced.{Traced}
-use Rattle.scr_check.specs.Traced.{traced_of}
 use Rattle.scr_check.specs.Walk.{Stop}
 use Rattle.cli_commands.specs.declared.fault.Fault.{Fault}
 use Rattle.cli_commands.specs.declared.output.demo.Demos.TheVariants.{Printed as Pressed}
@@ -21,7 +20,7 @@ use Rattle.cli_reports.specs.declared.talk.TalkForm.TheVariants.{Json, Explained
 use Rattle.cli_reports.specs.declared.talk_json.Span.{Span}
 use Rattle.cli_reports.specs.Explain.{explained_lines}
 use Rattle.cli_reports.specs.Numbers.{turn_numbers}
-use Rattle.cli_reports.specs.Stop.{all_records}
+use Rattle.cli_reports.specs.Stop.{all_records, span_of, traced_in}
 use Rattle.cli_reports.specs.TalkJson.{turn_line, yes_data, no_data}
 
 -- ---- the findings of a turn
@@ -38,15 +37,6 @@ found_json layout input turns span findings =
 abbrev pub found_explained : Declaration → List (List ℕ) → ℕ → List Traced → List ℕ
 found_explained layout records turn findings =
     turn_begin turn ++ flat_map (explained_lines layout (asked Pressed (shown_on layout records))) findings
-
--- where the records of a turn stand, with those of the turns before
-abbrev pub span_of : List (List (List ℕ)) → ℕ → Span
-span_of turns turn =
-    record { turn = turn; before = length (all_records (take turn turns)); all = length (all_records (take (turn + 1) turns)) }
-
--- the findings come from orders of all records up to their turn
-abbrev pub traced_in : Declaration → List (List (List ℕ)) → ℕ → List Finding → List Traced
-traced_in layout turns turn findings = map (traced_of layout (all_records (take (turn + 1) turns))) findings
 
 abbrev pub found_report : TalkForm → Declaration → List ℕ → List (List (List ℕ)) → ℕ → List Finding → List ℕ
 found_report Json layout input turns turn findings =

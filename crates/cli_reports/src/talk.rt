@@ -1,6 +1,6 @@
 //! `talk`, as JSON, and with each finding explained.
 
-ghost use Rattle.std.specs.Prelude.{◌≡◌, ◌++◌, map, length, slice_get, take, IfOk};
+ghost use Rattle.std.specs.Prelude.{◌≡◌, ◌+◌, ◌++◌, map, length, slice_get, take, IfOk};
 ghost use Rattle.std.specs.Fmt.{decimal};
 ghost use Rattle.std.specs.String.{string_bytes};
 ghost use Rattle.scr_check.specs.TalkSeen.{stop_in};
@@ -9,11 +9,12 @@ ghost use Rattle.cli_commands.specs.Held.{answer_seen, records_held};
 ghost use Rattle.cli_commands.specs.Talked.{judged_talk};
 ghost use Rattle.cli_commands.specs.TalkedHeld.{talked_seen};
 ghost use Rattle.cli_commands.specs.TurnsHeld.{turns_held};
+ghost use Rattle.cli_reports.specs.Stop.{all_records, span_of};
 ghost use Rattle.cli_reports.specs.TalkReport.{turn_begin, found_json, found_explained, found_report, stop_report, stopped_report, yes_report, judged_report, told_report, talk_report};
 
 use crate::explain::push_findings;
 use crate::numbers::turn_numbers;
-use crate::stop::{all_records, first_turns, traced, turns_to};
+use crate::stop::{records_to, span_of, traced_in};
 use crate::talk_json::{Span, push_no, push_turns, push_yes};
 use cli_commands::{Answer, CommandError, Demos, Status, Talked, demo_terminal, judge_talk};
 use cli_findings::refusal_answer;
@@ -74,6 +75,38 @@ fn found_explained(
     Ok(text)
 }
 
+/// The report of a turn's findings as JSON.
+#[tactic(auto, using(crate::proofs::Turns::turns_count))]
+fn json_report(
+    alloc: Global,
+    layout: &Layout,
+    input: &[u8],
+    turns: &[Vec<Vec<u8>>],
+    turn: usize,
+    findings: &[Traced],
+) -> Result<String, AllocError>
+    ensures { IfOk result (λ text. string_bytes text ≡ found_json layout.now input.now
+        (length (turns_held turns.now)) (span_of (turns_held turns.now) turn) findings.now) }
+{
+    let span = span_of(alloc, turns, turn)?;
+    found_json(alloc, layout, input, turns.len(), span, findings)
+}
+
+/// The same, explained.
+fn explained_report(
+    alloc: Global,
+    layout: &Layout,
+    turns: &[Vec<Vec<u8>>],
+    turn: usize,
+    findings: &[Traced],
+) -> Result<String, AllocError>
+    ensures { IfOk result (λ text. string_bytes text ≡ found_explained layout.now
+        (all_records (take (turn + 1) (turns_held turns.now))) turn findings.now) }
+{
+    let records = records_to(alloc, turns, turn)?;
+    found_explained(alloc, layout, records.as_slice(), turn, findings)
+}
+
 /// The report of a turn's findings, in a form.
 fn found_report(
     alloc: Global,
@@ -87,19 +120,11 @@ fn found_report(
     ensures { IfOk result (λ text. string_bytes text
         ≡ found_report form layout.now input.now (turns_held turns.now) turn findings.now) }
 {
-    let before = all_records(alloc, first_turns(turns, turn))?;
-    let records = all_records(alloc, turns_to(turns, turn))?;
-    let found = traced(alloc, layout, records.as_slice(), findings)?;
-    let span = Span {
-        turn,
-        before: before.len(),
-        all: records.len(),
-    };
+    let found = traced_in(alloc, layout, turns, turn, findings)?;
+    let found = found.as_slice();
     match form {
-        TalkForm::Json => found_json(alloc, layout, input, turns.len(), span, found.as_slice()),
-        TalkForm::Explained => {
-            found_explained(alloc, layout, records.as_slice(), turn, found.as_slice())
-        }
+        TalkForm::Json => json_report(alloc, layout, input, turns, turn, found),
+        TalkForm::Explained => explained_report(alloc, layout, turns, turn, found),
     }
 }
 
@@ -137,6 +162,7 @@ fn yes_report(alloc: Global, form: TalkForm, turns: usize) -> Result<String, All
 }
 
 /// The report of a dialogue that was judged.
+#[tactic(auto, using(crate::proofs::Turns::turns_count))]
 fn judged_report(
     alloc: Global,
     form: TalkForm,

@@ -9,7 +9,7 @@ ghost use Rattle.cli_commands.specs.TurnsHeld.{turns_held};
 ghost use Rattle.cli_reports.specs.TalkLog.{front_of, kept_for, turn_log, stop_log, yes_log, ended_log, judged_log, named, refusal_path, refusal_line, refused_log, printed_talk_log};
 
 use crate::blanked::{Kept, turn_text};
-use crate::stop::{all_records, traced, turns_to};
+use crate::stop::traced_in;
 use cli_commands::{Answer, CommandError, Fault, Status, Talked, judge_talk};
 use cli_findings::{Pen, fronted_log, layout_line, line_of_fault, record_told, refusal_log};
 use scr_check::{Finding, TalkVerdict, Traced};
@@ -77,8 +77,7 @@ fn stop_log(
     let Some(layout) = layouts.get(turn) else {
         return Ok(String::new(alloc));
     };
-    let records = all_records(alloc, turns_to(turns, turn))?;
-    let found = traced(alloc, layout, records.as_slice(), findings)?;
+    let found = traced_in(alloc, layout, turns, turn, findings)?;
     turn_log(alloc, path, layout, input, turn, found.as_slice())
 }
 

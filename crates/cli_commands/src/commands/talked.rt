@@ -75,7 +75,8 @@ fn talked_turns(alloc: Global, layouts: Vec<Layout>, records: &[u8]) -> Result<T
 ///
 /// The first fault, as of `talk_texts`; out of memory.
 pub fn judge_talk(alloc: Global, layouts: &[&[u8]], records: &[u8]) -> Result<Talked, CommandError>
-    ensures { Gives talked_seen result (judged_talk (map (λ text. text.now) layouts.now) records.now) }
+    ensures { Gives talked_seen result
+        (judged_talk (map (λ text. text.now) layouts.now) records.now) }
 {
     let layouts = layouts_in(alloc, layouts)?;
     one_geometry(layouts.as_slice())?;
