@@ -1,5 +1,7 @@
 pub mod Sent
 pub mod Runs
+pub mod EndCores
+pub mod Noted
 pub mod Kept
 pub mod KeptView
 pub mod Strikes
