@@ -5,6 +5,7 @@ use crate::file::FileAt;
 use crate::sessions::{run_attach, run_serve};
 use crate::stream::Named;
 use crate::tcp::Place;
+use crate::tolerant::{Limits, run_tolerant};
 use clap::ArgMatches;
 use cli_binds::{Form, run_bind};
 use cli_commands::{
@@ -175,6 +176,27 @@ pub(crate) fn attach(
         &mut keys,
         lines,
         device,
+        &mut Output::new(output(rt)),
+    )
+}
+
+/// `attach --tolerant`, with the keys or strokes of a file.
+pub(crate) fn attach_tolerant(
+    rt: &HostRuntime,
+    place: Place<'_>,
+    keys: &str,
+    lines: KeyLines,
+    device: &str,
+    limits: Limits,
+) -> Status {
+    let mut keys = file_at(rt, keys);
+    run_tolerant(
+        rt,
+        place,
+        &mut keys,
+        lines,
+        device,
+        limits,
         &mut Output::new(output(rt)),
     )
 }

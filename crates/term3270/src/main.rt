@@ -9,11 +9,13 @@ mod file;
 mod sessions;
 mod stream;
 mod tcp;
+mod tolerant;
 
 use crate::asked::Asked;
 use crate::bad_word::tell_bad_word;
 use crate::command_line::parsed;
 use crate::tcp::Place;
+use crate::tolerant::Limits;
 use bms_map::Control;
 use clap::ArgMatches;
 use clap::error::ErrorKind;
@@ -64,6 +66,22 @@ fn run(rt: &HostRuntime, asked: Asked<'_>, matches: &ArgMatches<'_>) -> Status {
             port,
             count,
         } => commands::serve(rt, layout, Place { host, port }, count),
+        Asked::AttachTolerant {
+            host,
+            keys,
+            lines,
+            port,
+            device,
+            expect,
+            timeout,
+        } => commands::attach_tolerant(
+            rt,
+            Place { host, port },
+            keys,
+            lines,
+            device,
+            Limits { expect, timeout },
+        ),
         Asked::Attach {
             host,
             keys,

@@ -18,6 +18,7 @@ pub mod SessionView
 pub mod RanSession
 pub mod Pieces
 pub mod TerminalTalk
+pub mod TolerantRuns
 pub mod Acts
 pub mod KeyStrokes
 pub mod Outcomes

@@ -289,11 +289,13 @@ abbrev pub kept_anew : Option Keeping → Option Keeping
 kept_anew None = None
 kept_anew (Some keeping) = Some nothing_kept
 
--- the screen is made anew where it isn't that of the device's model
+-- the screen is made anew
+abbrev pub renewed : Device → TerminalState → TerminalState
+renewed device state = record state { terminal = new_picture (sizes_of device.model); kept = kept_anew state.kept }
+
+-- where it isn't that of the device's model
 abbrev pub fitted : Device → TerminalState → TerminalState
-fitted device state =
-    if is_size state.terminal.geometry.alternate (alternate_of device.model) then state
-    else record state { terminal = new_picture (sizes_of device.model); kept = kept_anew state.kept }
+fitted device state = if is_size state.terminal.geometry.alternate (alternate_of device.model) then state else renewed device state
 
 -- once records begin to pass, what is open of one is to be dropped
 abbrev pub dropping : Meant → TerminalState → TerminalState

@@ -51,9 +51,9 @@ pub use report::{Report, RunEnd, TolerantReport};
 pub use stop::Stop;
 pub use terminal_line::terminal_run;
 pub use terminal_session::TerminalSession;
-pub use tolerant_line::tolerant_run;
 pub use tn_cores::{
     Agreed, Device, DeviceName, HostCore, Out, ScreenModel, SessionFault, TermCore, Told,
     TolerantCore, delivery_law, pair_law, reply_law, storm_law, tolerant_pair_law, trace_law,
 };
+pub use tolerant_line::tolerant_run;
 pub use wire::Wire;

@@ -10,8 +10,8 @@ ghost use Rattle.tn_session.specs.TerminalTalk.{heard_act, TerminalTakes, Tolera
 
 use crate::arrived::Arrived;
 use crate::fault::RunFault;
-use crate::keystroke::Keystroke;
 use crate::kept::{KeptRecord, KeptRecords};
+use crate::keystroke::Keystroke;
 use crate::pressed::Pressed;
 use crate::progress::Progress;
 use crate::session::Session;

@@ -1,9 +1,9 @@
 //! What a terminal keeps during a session.
 
 ghost use Rattle.std.specs.Prelude.{◌≡◌, Some, IfOk, OnOk};
-ghost use Rattle.tn_cores.specs.Devices.{is_size};
+ghost use Rattle.tn_cores.specs.Devices.{alternate_of, is_size};
 ghost use Rattle.tn_session.specs.Kept.{nothing_kept};
-ghost use Rattle.tn_session.specs.TerminalLog.{begun_state, new_terminal_state, tolerant_terminal, kept_anew, fitted, dropping, heeding};
+ghost use Rattle.tn_session.specs.TerminalLog.{begun_state, new_terminal_state, tolerant_terminal, kept_anew, renewed, fitted, dropping, heeding};
 ghost use Rattle.tn_session.specs.TerminalTalk.{counts_of};
 
 use crate::arrived::Arrived;
@@ -143,14 +143,27 @@ impl TerminalState {
     fn fit(&mut self, alloc: Global, device: Device) -> Result<(), AllocError>
         ensures { OnOk result (self.new ≡ fitted device self.old) }
     {
-        let geometry = device.geometry();
-        if is_size(
-            self.terminal.screen().geometry().alternate_size(),
-            geometry.alternate_size(),
-        ) {
+        if self.fits(device) {
             return Ok(());
         }
-        self.terminal = Terminal::new(alloc, geometry)?;
+        self.renew(alloc, device)
+    }
+
+    /// Whether the screen is that of the device's model.
+    fn fits(&self, device: Device) -> bool
+        ensures { result ≡ is_size self.now.terminal.geometry.alternate (alternate_of device.model) }
+    {
+        is_size(
+            self.terminal.screen().geometry().alternate_size(),
+            device.geometry().alternate_size(),
+        )
+    }
+
+    /// Makes the screen anew, that of the device's model.
+    fn renew(&mut self, alloc: Global, device: Device) -> Result<(), AllocError>
+        ensures { OnOk result (self.new ≡ renewed device self.old) }
+    {
+        self.terminal = Terminal::new(alloc, device.geometry())?;
         self.kept = kept_anew(alloc, &self.kept);
         Ok(())
     }
