@@ -36,7 +36,7 @@ use Rattle.tn_session.specs.Runs.{Course, goes, finishes, fails, Log, going, fin
 use Rattle.tn_session.specs.Sent.{data_header}
 use Rattle.tn_session.specs.Strikes.{Strike, by_key, by_stroke, Struck, struck, struck_by}
 use Rattle.tn_session.specs.TerminalLog as log
-use Rattle.tn_session.specs.TerminalLog.{TerminalRunning, Doing, Typing, is_waiting, operator_at, typing, before, then_typed, standing, key_turned, typed_key, received_data, taken_data, taken_typed, taken_headed, taken_record, passed_over, with_core, stepped, by_core, terminal_start, terminal_act, strictly_taken, goes_with, one_passed, one_ignored, one_more, positive, noting, dropped, tolerated_data, tolerated_typed, tolerated_headed, tolerated, dropping, fitted, kept_anew, heeding}
+use Rattle.tn_session.specs.TerminalLog.{TerminalRunning, Doing, Typing, is_waiting, operator_at, typing, before, then_typed, standing, key_turned, typed_key, received_data, taken_data, taken_typed, taken_headed, taken_record, passed_over, with_core, stepped, by_core, terminal_start, terminal_act, strictly_taken, goes_with, one_passed, one_ignored, one_more, positive, noting, dropped, tolerated_data, tolerated_typed, tolerated_headed, tolerated, dropping, fitted, renewed, heeding}
 use Rattle.tn_session.specs.TerminalTalk.{key_answer, worked_under}
 
 -- ---- one
@@ -279,8 +279,7 @@ anew_inserts false state anew same = same
 
 fitted_inserts : (device : Device) (state : TerminalState) → (fitted device state).inserts ≡ state.inserts
 fitted_inserts device state =
-    anew_inserts (is_size state.terminal.geometry.alternate (alternate_of device.model)) state
-    (record state { terminal = new_picture (sizes_of device.model); kept = kept_anew state.kept }) refl
+    anew_inserts (is_size state.terminal.geometry.alternate (alternate_of device.model)) state (renewed device state) refl
 
 heeding_inserts : (core : EndCore) (told : Meant) (state : TerminalState) → (heeding core told state).inserts ≡ state.inserts
 heeding_inserts (Strict core) told state = refl
@@ -288,7 +287,7 @@ heeding_inserts (Tolerant core) told state = fitted_inserts core.core.device (dr
 
 stepped_same : (running : TerminalRunning) (event : Told) (step : Stepped EndCore) → IsPressing running
     → SameLog (stepped (striking running) event step) (stepped running event step)
-stepped_same running (told_record bytes) step pressing = record_same (with_core running step.core) (terminal_agreed step.core) bytes (cored running step.core pressing)
+stepped_same running (told_record bytes) step pressing = record_same (with_core running step.core) (core_agreed step.core) bytes (cored running step.core pressing)
 stepped_same running (told_verb verb option) step pressing = state_same _ running (heeding step.core step.told (record running.state { core = step.core }))
     (heeding_inserts step.core step.told (record running.state { core = step.core })) pressing
 stepped_same running (told_sub option parameters) step pressing = state_same _ running (heeding step.core step.told (record running.state { core = step.core }))

@@ -1,8 +1,13 @@
 -- A tolerant terminal that takes bytes, and whose operator presses keys.
-use Rattle.std.proofs.Common.{◌≡◌, ℕ, Bool, true, false, not, ◌&&◌, List, [], ◌∷◌, ◌++◌, length, None, Some, Ok, Err, refl, sym, ◌∙◌, ap, subst, append_assoc}
-use Rattle.std.specs.Prelude.{Result, OnOk, IfOk}
+use Rattle.std.proofs.Common.{◌≡◌, ℕ, Bool, true, false, not, ◌&&◌, List, [], ◌∷◌, ◌++◌, length, None, Some, Ok, Err, refl, sym, ◌∙◌, ap, subst, if◌then◌else◌, append_assoc}
+use Rattle.std.specs.Prelude.{Option, Result, OnOk, IfOk}
 use Rattle.std.proofs.lemmas.List.{append-nil}
+use Rattle.ds_codec.specs.Geometry.{Sizes}
+use Rattle.ds_screen.specs.Picture.{Picture}
+use Rattle.ds_screen.specs.Records.{new_picture}
 use Rattle.tn_cores.specs.declared.device.Device.{Device}
+use Rattle.tn_cores.specs.Devices.{sizes_of, alternate_of, is_size}
+use Rattle.tn_session.specs.Kept.{Keeping}
 use Rattle.tn_cores.specs.declared.session.Told.{Told as Meant}
 use Rattle.tn_cores.specs.declared.tolerant.TolerantCore.{TolerantCore}
 use Rattle.tn_session.specs.declared.arrived.Arrived.{Arrived}
@@ -15,8 +20,8 @@ use Rattle.tn_session.specs.declared.progress.Progress.TheVariants.{More, Done}
 use Rattle.tn_session.specs.declared.terminal_state.TerminalState.{TerminalState}
 use Rattle.tn_session.specs.Strikes.{Strike}
 use Rattle.tn_session.specs.Talk.{Talk, Adds, Takes}
-use Rattle.tn_session.specs.TerminalLog.{fitted, dropping, heeding}
-use Rattle.tn_session.specs.TerminalTalk.{IsNotOver, heard_act, Presses, TerminalTakes, TakesAs, TakesByte, Tolerates, GoesOnBy, Ends, begins_between, takes_input_in}
+use Rattle.tn_session.specs.TerminalLog.{kept_anew, renewed, fitted, dropping, heeding}
+use Rattle.tn_session.specs.TerminalTalk.{IsNotOver, heard_act, Presses, TerminalTakes, TakesAs, TakesByte, Tolerates, GoesOnBy, Ends, begins_between, tolerates, takes_input_in}
 use Rattle.tn_session.specs.TolerantRuns.{Working, counted, PressesAll, PressesOn, TakesTurn, PressesAfter, is_over_with}
 use Rattle.tn_session.proofs.Heard.{GoesOnSo, takes_on}
 
@@ -29,7 +34,33 @@ heed_so core t device told state mid new r is of_core dropped fits =
     (ap (λ (d : Device). fitted d mid) of_core ∙ ap (fitted t.core.device) dropped ∙ sym (ap (λ (c : EndCore). heeding c told state) is))
     fits
 
+pub renewed_so : (device : Device) (state : TerminalState) (picture : Picture) (geometry : Sizes) (kept : Option Keeping) → picture ≡ new_picture geometry
+    → geometry ≡ sizes_of device.model → kept ≡ kept_anew state.kept → record state { terminal = picture; kept = kept } ≡ renewed device state
+renewed_so device state picture geometry kept shown sized anew =
+    ap (λ (v : Picture). record state { terminal = v; kept = kept }) (shown ∙ ap new_picture sized)
+    ∙ ap (λ (k : Option Keeping). record state { terminal = new_picture (sizes_of device.model); kept = k }) anew
+
+pub fit_so : {E : Type 0} (device : Device) (state new : TerminalState) (r : Result (Unit {0}) E)
+    → is_size state.terminal.geometry.alternate (alternate_of device.model) ≡ false → OnOk r (new ≡ renewed device state) → OnOk r (new ≡ fitted device state)
+fit_so device state new r other renews =
+    subst (λ z. OnOk r (new ≡ (if z then state else renewed device state))) (sym other) renews
+
 -- ---- bytes, each in turn
+
+pub quiet_byte : (old mid : Talk TerminalState) (byte : ℕ) (told : Result Progress RunFault) (due mid_due : List ℕ) → begins_between old mid ≡ false
+    → Adds due mid_due (λ given. Takes heard_act old (byte ∷ []) told given mid) → Adds due mid_due (λ given. TakesByte old byte told given mid)
+quiet_byte old mid byte told due mid_due is (given, adds, takes) =
+    (given, adds, (told, given, mid, takes, subst (λ b. Ends b told given mid told given mid) (sym is) (refl, refl, refl)))
+
+pub ending_byte : (old mid new : Talk TerminalState) (byte : ℕ) (told result : Result Progress RunFault) (due mid_due new_due : List ℕ) → begins_between old mid ≡ true
+    → Adds due mid_due (λ given. Takes heard_act old (byte ∷ []) told given mid)
+    → Adds mid_due new_due (λ given. Takes heard_act mid (255 ∷ 239 ∷ []) result given new)
+    → Adds due new_due (λ given. TakesByte old byte result given new)
+ending_byte old mid new byte told result due mid_due new_due is (given, adds, takes) (more, adds_more, ends) = (
+  given ++ more,
+  adds_more ∙ ap (λ z. z ++ more) adds ∙ append_assoc due given more,
+  (told, given, mid, takes, subst (λ b. Ends b told given mid result (given ++ more) new) (sym is) (more, ends, refl)),
+)
 
 -- a front of the bytes was taken
 pub record TakenSoFar (first : Talk TerminalState) (bytes due : List ℕ) (now : Talk TerminalState) (rest now_due : List ℕ) : Type 0 where
@@ -86,6 +117,28 @@ tolerates_on (byte ∷ bytes) old new result given live (Ok told, due, mid, took
     tolerates_on bytes mid new result more (byte_only old mid byte (Ok told) due live took).0 later
 tolerates_on (byte ∷ bytes) old new result given live (Err why, due, mid, took, (is, gave, after)) =
     subst (λ r. GoesOnSo r new) (sym is) (subst (λ t. GoesOnSo (Err why) t) (sym after) (byte_only old mid byte (Err why) due live took))
+
+takes_as : (b : Bool) (old new : Talk TerminalState) (bytes due new_due : List ℕ) (result : Result Progress RunFault) → tolerates old ≡ b
+    → Adds due new_due (λ given. TakesAs b old bytes result given new) → Adds due new_due (λ given. TerminalTakes old bytes result given new)
+takes_as b old new bytes due new_due result is (given, adds, takes) =
+    (given, adds, subst (λ z. TakesAs z old bytes result given new) (sym is) takes)
+
+pub takes_tolerantly : (old new : Talk TerminalState) (bytes due new_due : List ℕ) (result : Result Progress RunFault) → tolerates old ≡ true
+    → Adds due new_due (λ given. Tolerates bytes old result given new) → Adds due new_due (λ given. TerminalTakes old bytes result given new)
+takes_tolerantly old new bytes due new_due result is takes = takes_as true old new bytes due new_due result is takes
+
+pub takes_strictly : (old new : Talk TerminalState) (bytes due new_due : List ℕ) (result : Result Progress RunFault) → tolerates old ≡ false
+    → Adds due new_due (λ given. Takes heard_act old bytes result given new) → Adds due new_due (λ given. TerminalTakes old bytes result given new)
+takes_strictly old new bytes due new_due result is takes = takes_as false old new bytes due new_due result is takes
+
+by_manner : (b : Bool) (old new : Talk TerminalState) (bytes : List ℕ) (result : Result Progress RunFault) (given : List ℕ) → IsNotOver old
+    → TakesAs b old bytes result given new → GoesOnSo result new
+by_manner true old new bytes result given live takes = tolerates_on bytes old new result given live takes
+by_manner false old new bytes result given live takes = takes_on old bytes result given new live takes
+
+pub terminal_takes_on : (old : Talk TerminalState) (bytes : List ℕ) (result : Result Progress RunFault) (given : List ℕ) (new : Talk TerminalState)
+    → IsNotOver old → TerminalTakes old bytes result given new → GoesOnSo result new
+terminal_takes_on old bytes result given new live takes = by_manner (tolerates old) old new bytes result given live takes
 
 -- ---- keys
 

@@ -122,6 +122,23 @@ fn take_bytes(
     Ok(Progress::More)
 }
 
+/// Takes bytes, as a terminal of its manner.
+fn take_any(
+    alloc: Global,
+    session: &mut Session<TerminalState>,
+    bytes: &[u8],
+    due: &mut Vec<u8>,
+) -> Result<Progress, RunFault>
+    ensures { Adds due.old.items due.new.items (λ given.
+        TerminalTakes session.old bytes.now result given session.new) }
+{
+    if tolerates(session) {
+        take_bytes(alloc, session, bytes, due)
+    } else {
+        session.take(alloc, bytes, due)
+    }
+}
+
 impl TerminalSession {
     /// A terminal of this device at the beginning of a session. `enhanced` says whether it takes TN3270E, `responses` whether
     /// it asks for RESPONSES there. Takes memory for two buffers of the device's larger size, and for a record.
@@ -187,10 +204,7 @@ impl TerminalSession {
         ensures told { self.new.told ≡ self.old.told }
         ensures grows { vec_len due.old ≤ vec_len due.new }
     {
-        if tolerates(&self.session) {
-            return take_bytes(alloc, &mut self.session, bytes, due);
-        }
-        self.session.take(alloc, bytes, due)
+        take_any(alloc, &mut self.session, bytes, due)
     }
 
     /// Presses a key, and adds the bytes that it sends. While the keyboard waits for a record every key is ignored. It does what

@@ -151,7 +151,8 @@ impl TerminalState {
 
     /// Whether the screen is that of the device's model.
     fn fits(&self, device: Device) -> bool
-        ensures { result ≡ is_size self.now.terminal.geometry.alternate (alternate_of device.model) }
+        ensures { result ≡ is_size self.now.terminal.geometry.alternate
+            (alternate_of device.model) }
     {
         is_size(
             self.terminal.screen().geometry().alternate_size(),
