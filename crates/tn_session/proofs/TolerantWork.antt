@@ -45,6 +45,11 @@ pub fit_so : {E : Type 0} (device : Device) (state new : TerminalState) (r : Res
 fit_so device state new r other renews =
     subst (λ z. OnOk r (new ≡ (if z then state else renewed device state))) (sym other) renews
 
+-- a list of no length
+pub is_empty : {A : Type 0} (xs : List A) → length xs ≡ 0 → xs ≡ []
+is_empty [] e = refl
+is_empty (x ∷ xs) e = absurd cc
+
 -- ---- bytes, each in turn
 
 pub quiet_byte : (old mid : Talk TerminalState) (byte : ℕ) (told : Result Progress RunFault) (due mid_due : List ℕ) → begins_between old mid ≡ false
