@@ -31,7 +31,7 @@ _term3270_values() { # OPTION
     check--records) _term3270_files '*.hex' ;;
     show--map | check--map | draft--map) _term3270_files '*.bms' ;;
     serve--listen) _term3270_offer -A hostname ;;
-    map--map | *--map-name | *--port | *--count) ;;
+    map--map | *--map-name | *--port | *--count | *--expect | *--timeout) ;;
     *) return 1 ;;
   esac
 }
@@ -60,7 +60,7 @@ _term3270_options() {
     bind) options='--text' ;;
     records) options='--from --answers' ;;
     serve) options='--port --count --listen' ;;
-    attach) options='--strokes --port --device' ;;
+    attach) options='--strokes --port --device --tolerant --expect --timeout' ;;
     map) options='--map --layout --freekb --frset' ;;
     help) return ;;
   esac
@@ -87,7 +87,7 @@ _term3270() {
   for ((index = 2; index < COMP_CWORD; index++)); do
     case ${COMP_WORDS[index]} in
       = | '<' | '>') index=$((index + 1)) ;;
-      --format | --color | --from | --device | --records | --layout | --map | --map-name | --port | --count | --listen)
+      --format | --color | --from | --device | --records | --layout | --map | --map-name | --port | --count | --listen | --expect | --timeout)
         # A value comes after =, or as the next word.
         if [ "$command${COMP_WORDS[index]}" != map--layout ] && [ "${COMP_WORDS[index + 1]}" != = ]; then index=$((index + 1)); fi
         ;;

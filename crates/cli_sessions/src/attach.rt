@@ -29,7 +29,7 @@ fn terminal_session<L: Read + Write, K: Keystroke>(
     flushed(wire, ran)
 }
 
-fn end_word(end: RunEnd) -> &'static str
+pub(crate) fn end_word(end: RunEnd) -> &'static str
     ensures { result.now ≡ end_word end }
 {
     match end {

@@ -9,6 +9,7 @@ mod screen;
 mod serve;
 mod session;
 mod terminals;
+mod tolerant;
 
 pub use attach::attach_on;
 pub use fault::fault_number;
@@ -16,3 +17,4 @@ pub use output::Output;
 pub use screen::{Prepared, Screen, prepare_serve};
 pub use serve::serve_on;
 pub use terminals::{Terminals, Visits};
+pub use tolerant::{Timed, attach_tolerant_on};

@@ -7,13 +7,21 @@ use std::alloc::Global;
 use test_words::Row;
 use tn_session::{
     Device, HostCore, Out, ScreenModel, SessionFault, TermCore, delivery_law, key_law, one_log,
-    outcome_law, pair_law, pieces_law, reply_law, work_law,
+    outcome_law, pair_law, pieces_law, reply_law, storm_law, tolerant_pair_law, work_law,
 };
+
+/// Whose core it is.
+#[derive(Clone, Copy)]
+enum End {
+    Terminal,
+    Tolerant,
+    Host,
+}
 
 /// Which core events come to.
 #[derive(Drop)]
 pub(crate) struct Setup {
-    is_terminal: bool,
+    end: End,
     enhanced: bool,
     responses: bool,
     before: Vec<u8>,
@@ -22,7 +30,7 @@ pub(crate) struct Setup {
 /// A new terminal, classic and without RESPONSES.
 pub(crate) fn first_setup(alloc: Global) -> Setup {
     Setup {
-        is_terminal: true,
+        end: End::Terminal,
         enhanced: false,
         responses: false,
         before: Vec::new(alloc),
@@ -30,11 +38,11 @@ pub(crate) fn first_setup(alloc: Global) -> Setup {
 }
 
 /// The setup of `terminal classic responses HEX` or `host enhanced none`.
-fn read_setup(row: &mut Row, is_terminal: bool, words: &str) -> Setup {
+fn read_setup(row: &mut Row, end: End, words: &str) -> Setup {
     let (kind, rest) = row.cut(words, " ");
     let (responses, before) = rest.split_once(' ').unwrap_or((rest, ""));
     Setup {
-        is_terminal,
+        end,
         enhanced: kind == "enhanced",
         responses: responses == "responses",
         before: row.read_bytes(before),
@@ -44,8 +52,9 @@ fn read_setup(row: &mut Row, is_terminal: bool, words: &str) -> Setup {
 /// Takes a line that says which core events come to; whether it is one.
 pub(crate) fn take_line(row: &mut Row, setup: &mut Setup, verb: &str, words: &str) -> bool {
     match verb {
-        "terminal" => *setup = read_setup(row, true, words),
-        "host" => *setup = read_setup(row, false, words),
+        "terminal" => *setup = read_setup(row, End::Terminal, words),
+        "tolerant" => *setup = read_setup(row, End::Tolerant, words),
+        "host" => *setup = read_setup(row, End::Host, words),
         _ => return false,
     }
     true
@@ -59,6 +68,18 @@ fn push_of_terminal(row: &mut Row, setup: &Setup, events: &[u8]) {
     let mut core = TermCore::new(device, setup.enhanced, setup.responses);
     let mut again = core;
     push_answers(row, &mut core, &mut again, setup.before.as_slice(), events);
+}
+
+fn push_of_tolerant(row: &mut Row, setup: &Setup, events: &[u8]) {
+    let device = Device {
+        model: ScreenModel::Two,
+        extended: false,
+    };
+    let mut core = TermCore::tolerant(device, setup.enhanced, setup.responses);
+    let mut again = core;
+    push_answers(row, &mut core, &mut again, setup.before.as_slice(), events);
+    row.word(" ");
+    push_name(row, core.device());
 }
 
 fn host_core(row: &mut Row, setup: &Setup) -> Option<HostCore> {
@@ -78,10 +99,10 @@ fn push_of_host(row: &mut Row, setup: &Setup, events: &[u8]) {
 fn push_events(row: &mut Row, setup: &Setup, words: &str) {
     let (_label, events) = row.cut(words, " > ");
     let events = row.read_bytes(events);
-    if setup.is_terminal {
-        push_of_terminal(row, setup, events.as_slice());
-    } else {
-        push_of_host(row, setup, events.as_slice());
+    match setup.end {
+        End::Terminal => push_of_terminal(row, setup, events.as_slice()),
+        End::Tolerant => push_of_tolerant(row, setup, events.as_slice()),
+        End::Host => push_of_host(row, setup, events.as_slice()),
     }
 }
 
@@ -175,6 +196,8 @@ fn push_laws(row: &mut Row) {
     outcome_law();
     pieces_law::<u8>();
     work_law();
+    tolerant_pair_law();
+    storm_law();
     row.word("done");
 }
 

@@ -2,7 +2,7 @@
 
 use std::alloc::Global;
 use test_words::Row;
-use tn_session::{Agreed, Device, HostCore, Out, SessionFault, TermCore, Told};
+use tn_session::{Agreed, Device, HostCore, Out, SessionFault, TermCore, Told, TolerantCore};
 use tn_wire::{Deframer, Event, Step};
 
 /// A core of either end.
@@ -14,6 +14,12 @@ pub(crate) trait Core {
 impl Core for TermCore {
     fn take(&mut self, event: &Event<'_>, out: &mut Out) -> Result<Told, SessionFault> {
         self.step(event, out)
+    }
+}
+
+impl Core for TolerantCore {
+    fn take(&mut self, event: &Event<'_>, out: &mut Out) -> Result<Told, SessionFault> {
+        Ok(self.step(event, out))
     }
 }
 

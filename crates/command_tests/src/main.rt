@@ -106,6 +106,8 @@ fn push_read(row: &mut Row, file: &[u8], verb: &str, words: &str) -> bool {
         "laws" => push_laws(row),
         "failures" => commands::push_failures(row),
         "attach" => attach::push_attached(row, words, file, Flush::Done),
+        "attach-tolerant" => attach::push_tolerant(row, words, file, Flush::Done),
+        "late-tolerant" => attach::push_tolerant(row, words, file, Flush::Late),
         "attach-striking" => attach::push_striking(row, words, file),
         "unflushed" => attach::push_attached(row, words, file, Flush::Failed),
         "same" => forms::push_form(row, file, words),

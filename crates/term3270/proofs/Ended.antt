@@ -9,12 +9,11 @@ use Rattle.cli_commands.specs.declared.status.Status.TheVariants.{BadInput, Fail
 use Rattle.cli_commands.specs.Fault.{GivesOrFails, fault_line}
 use Rattle.cli_commands.specs.Printed.{Printed, printed}
 use Rattle.cli_commands.specs.Streams.{AppendsFront, Finishes, IsStopped, IsWantOrFailure, IsWritten, Prints}
-use Rattle.tn_cores.specs.declared.device.Device.{Device}
 use Rattle.tn_session.specs.Strikes.{Strike}
 use Rattle.cli_sessions.specs.Prepare.{Prepared, ready, stops}
 use Rattle.cli_sessions.specs.Printing.{Printing}
 use Rattle.cli_sessions.proofs.Serving.{appends_none}
-use Rattle.term3270.specs.Sessions.{AttachesNamed, HasFailed, ServesPrepared}
+use Rattle.term3270.specs.Sessions.{Attached, AttachesNamed, HasFailed, ServesPrepared}
 
 pub if_some : {X : Type 0} {A B : X → Type 0} (known : Option X) → ((x : X) → A x → B x) → IfSome known A → IfSome known B
 if_some None leads has = tt
@@ -54,12 +53,12 @@ serve_ends view count old new status OutOfMemory (Err fault) gives ends = wantin
 serve_ends view count old new status OutOfMemory (Ok (stops answer)) gives ends = wanting_prints old.written new.written status answer ends
 serve_ends view count old new status OutOfMemory (Ok (ready layout records)) gives ends = inr (wanting_fails old new status ends)
 
-pub attach_ends : {H K : Type 0} (view : H → List K) (strike : K → Strike) (device : Device) (old new : Printing) (status : Status) (error : CommandError)
+pub attach_ends : {H K : Type 0} (view : H → List K) (strike : K → Strike) (Session : Attached) (old new : Printing) (status : Status) (error : CommandError)
     (due : Result (List K) Fault)
-    → GivesOrFails view (Err error) due → Finishes old.written new.written (Err error) status → AttachesNamed strike device old new status due
-attach_ends view strike device old new status (Told fault) due gives ends =
-    subst (AttachesNamed strike device old new status) (sym gives) (told_prints old.written new.written status (fault_line fault) ends)
-attach_ends view strike device old new status ReadFailed (Err fault) gives ends = failed_prints old.written new.written status (printed (fault_line fault) BadInput) ends
-attach_ends view strike device old new status ReadFailed (Ok keys) gives ends = inr (failed_fails old new status ends)
-attach_ends view strike device old new status OutOfMemory (Err fault) gives ends = wanting_prints old.written new.written status (printed (fault_line fault) BadInput) ends
-attach_ends view strike device old new status OutOfMemory (Ok keys) gives ends = inr (wanting_fails old new status ends)
+    → GivesOrFails view (Err error) due → Finishes old.written new.written (Err error) status → AttachesNamed strike Session old new status due
+attach_ends view strike Session old new status (Told fault) due gives ends =
+    subst (AttachesNamed strike Session old new status) (sym gives) (told_prints old.written new.written status (fault_line fault) ends)
+attach_ends view strike Session old new status ReadFailed (Err fault) gives ends = failed_prints old.written new.written status (printed (fault_line fault) BadInput) ends
+attach_ends view strike Session old new status ReadFailed (Ok keys) gives ends = inr (failed_fails old new status ends)
+attach_ends view strike Session old new status OutOfMemory (Err fault) gives ends = wanting_prints old.written new.written status (printed (fault_line fault) BadInput) ends
+attach_ends view strike Session old new status OutOfMemory (Ok keys) gives ends = inr (wanting_fails old new status ends)

@@ -19,7 +19,7 @@ use Rattle.term3270.specs.declared.asked.KeyLines.TheVariants as key_lines
 use Rattle.term3270.specs.declared.asked.ReportForm.{ReportForm}
 use Rattle.term3270.specs.declared.asked.ReportForm.TheVariants.{Json, Sarif}
 use Rattle.term3270.specs.declared.asked.Asked.{Asked}
-use Rattle.term3270.specs.declared.asked.Asked.TheVariants.{Show, Draw, Annotate, Undrawn, Check, Report, Explain, Talk, ReportTalk, LogTalk, Press, Strike, Convert, ConvertBack, Draft, Bind, Records, Serve, Attach, Map, CheckMap, RenderMap, NoLayout}
+use Rattle.term3270.specs.declared.asked.Asked.TheVariants.{Show, Draw, Annotate, Undrawn, Check, Report, Explain, Talk, ReportTalk, LogTalk, Press, Strike, Convert, ConvertBack, Draft, Bind, Records, Serve, Attach, AttachTolerant, Map, CheckMap, RenderMap, NoLayout}
 use Rattle.cli_findings.specs.declared.found.Pen.{Pen}
 use Rattle.cli_findings.specs.declared.found.Pen.TheVariants as pens
 use Rattle.cli_pictures.specs.declared.annotated.Annotated.{Annotated}
@@ -220,7 +220,11 @@ AreKeyLines rows key_lines.Keys = IsOption (codes "strokes") rows false
 abbrev pub IsAttach : List Row → Asked → Type 0
 IsAttach rows (Attach host keys lines port device) =
     IsText (codes "HOST") rows host × IsText (codes "KEYS") rows keys × AreKeyLines rows lines × IsNumber (codes "port") rows port
-    × IsText (codes "device") rows device
+    × IsText (codes "device") rows device × IsOption (codes "tolerant") rows false
+IsAttach rows (AttachTolerant host keys lines port device expect timeout) =
+    IsText (codes "HOST") rows host × IsText (codes "KEYS") rows keys × AreKeyLines rows lines × IsNumber (codes "port") rows port
+    × IsText (codes "device") rows device × IsOption (codes "tolerant") rows true × IsNumber (codes "expect") rows expect
+    × IsNumber (codes "timeout") rows timeout
 IsAttach rows _ = ⊥
 
 -- the command that is named, with its paths, places and options; the default command is show

@@ -12,6 +12,7 @@ use Rattle.tn_cores.specs.declared.device.Device.{Device}
 use Rattle.tn_session.specs.Strikes.{Strike, by_key, by_stroke}
 use Rattle.tn_session.specs.Wire.{WireState, fresh}
 use Rattle.cli_sessions.specs.Attach.{Attaches}
+use Rattle.cli_sessions.specs.Tolerant.{AttachesTolerant}
 use Rattle.cli_sessions.specs.Prepare.{Prepared, ready, stops}
 use Rattle.cli_sessions.specs.Printing.{Printing}
 use Rattle.cli_sessions.specs.Serve.{ServesAnew}
@@ -32,12 +33,21 @@ ServesPrepared count old new status (Err fault) = Prints old.written new.written
 ServesPrepared count old new status (Ok (stops answer)) = Prints old.written new.written status answer
 ServesPrepared count old new status (Ok (ready layout records)) = ServesAnew layout records count old new status ⊎ HasFailed old new status
 
+-- the same of a tolerant terminal, of which so many answers are expected
+abbrev pub AttachesTolerantly : Device → ℕ → List Strike → Printing → Printing → Status → Type 0
+AttachesTolerantly device expected keys old new status =
+    (ended : WireState) × AttachesTolerant device keys expected (fresh None None) ended old new status
+
+-- a session with these keys, over a socket
+abbrev pub Attached : Type 1
+Attached = List Strike → Printing → Printing → Status → Type 0
+
 -- the first fault of the keys; else the session, unless the host can't be reached
-abbrev pub AttachesNamed : {K : Type 0} → (K → Strike) → Device → Printing → Printing → Status → Result (List K) Fault → Type 0
-AttachesNamed strike device old new status (Err fault) = Prints old.written new.written status (printed (fault_line fault) BadInput)
-AttachesNamed strike device old new status (Ok keys) = AttachesSocket device (map strike keys) old new status ⊎ HasFailed old new status
+abbrev pub AttachesNamed : {K : Type 0} → (K → Strike) → Attached → Printing → Printing → Status → Result (List K) Fault → Type 0
+AttachesNamed strike Session old new status (Err fault) = Prints old.written new.written status (printed (fault_line fault) BadInput)
+AttachesNamed strike Session old new status (Ok keys) = Session (map strike keys) old new status ⊎ HasFailed old new status
 
 -- the keys of lines are pressed, or their strokes struck
-abbrev pub AttachesLines : KeyLines → Device → Printing → Printing → Status → List ℕ → Type 0
-AttachesLines Keys device old new status lines = AttachesNamed by_key device old new status (keys_in lines)
-AttachesLines Strokes device old new status lines = AttachesNamed by_stroke device old new status (strokes_in lines)
+abbrev pub AttachesLines : KeyLines → Attached → Printing → Printing → Status → List ℕ → Type 0
+AttachesLines Keys Session old new status lines = AttachesNamed by_key Session old new status (keys_in lines)
+AttachesLines Strokes Session old new status lines = AttachesNamed by_stroke Session old new status (strokes_in lines)

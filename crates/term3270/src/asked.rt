@@ -2,7 +2,7 @@
 
 ghost use Rattle.std.specs.Prelude.{◌≡◌, is_some, option_map};
 ghost use Rattle.clap.specs.Words.{first_of, found_of, rows_of, subcommand_rows_of};
-ghost use Rattle.term3270.specs.Asked.{AreDemos, AreKeyLines, AsksFor, IsCheck, IsDrawn, IsForm, IsConvert, IsNumber, IsOption, IsPath, IsPen, IsPress, IsShow, IsDraft, IsDraftedMap, IsRendering, IsShownMap, IsReportForm, IsSide, IsSource, IsText, IsWhen, IsWithLayout, IsMap, IsMapForm, IsMapCheck, IsLayoutCheck, IsTextCheck, IsTextTalk, IsTalk, AreControls};
+ghost use Rattle.term3270.specs.Asked.{AreDemos, AreKeyLines, AsksFor, IsAttach, IsCheck, IsDrawn, IsForm, IsConvert, IsNumber, IsOption, IsPath, IsPen, IsPress, IsShow, IsDraft, IsDraftedMap, IsRendering, IsShownMap, IsReportForm, IsSide, IsSource, IsText, IsWhen, IsWithLayout, IsMap, IsMapForm, IsMapCheck, IsLayoutCheck, IsTextCheck, IsTextTalk, IsTalk, AreControls};
 
 use bms_map::Control;
 use clap::ArgMatches;
@@ -102,6 +102,17 @@ pub(crate) enum Asked<'a> {
         port: u16,
         count: u16,
     },
+    AttachTolerant {
+        host: &'a str,
+        keys: &'a str,
+        lines: KeyLines,
+        port: u16,
+        device: &'a str,
+        /// How many answers are expected; 0 is any number.
+        expect: u16,
+        /// The seconds that a wait takes at most; 0 is no limit.
+        timeout: u16,
+    },
     Attach {
         host: &'a str,
         keys: &'a str,
@@ -155,6 +166,29 @@ fn named_in<'m, 'a>(matches: &'m ArgMatches<'a>) -> Option<(&'a str, &'m ArgMatc
     matches.subcommand()
 }
 
+fn attach_of<'a>(words: &ArgMatches<'a>) -> Asked<'a>
+    ensures { IsAttach (rows_of (found_of words.now)) result }
+{
+    if is_given(words, "tolerant") {
+        return Asked::AttachTolerant {
+            host: text_in(words, "HOST"),
+            keys: text_in(words, "KEYS"),
+            lines: key_lines_in(words),
+            port: number_in(words, "port"),
+            device: text_in(words, "device"),
+            expect: number_in(words, "expect"),
+            timeout: number_in(words, "timeout"),
+        };
+    }
+    Asked::Attach {
+        host: text_in(words, "HOST"),
+        keys: text_in(words, "KEYS"),
+        lines: key_lines_in(words),
+        port: number_in(words, "port"),
+        device: text_in(words, "device"),
+    }
+}
+
 fn command_of<'a>(name: &str, words: &ArgMatches<'a>) -> Asked<'a>
     ensures { AsksFor name.now (rows_of (found_of words.now)) result }
 {
@@ -179,13 +213,7 @@ fn command_of<'a>(name: &str, words: &ArgMatches<'a>) -> Asked<'a>
             port: number_in(words, "port"),
             count: number_in(words, "count"),
         },
-        "attach" => Asked::Attach {
-            host: text_in(words, "HOST"),
-            keys: text_in(words, "KEYS"),
-            lines: key_lines_in(words),
-            port: number_in(words, "port"),
-            device: text_in(words, "device"),
-        },
+        "attach" => attach_of(words),
         "map" => map_of(words),
         _ => Asked::Show { color: When::Auto },
     }
@@ -549,7 +577,7 @@ fn is_named(words: &ArgMatches<'_>, word: &str) -> bool
     words.get_str(word).is_some()
 }
 
-/// The number that was given for a word; `clap` refuses words without it, or out of its range.
+/// The number that was given for a word, or 0; `clap` refuses numbers out of its range, and words without one that is required.
 fn number_in(words: &ArgMatches<'_>, word: &str) -> u16
     ensures { IsNumber word.now (rows_of (found_of words.now)) result }
 {

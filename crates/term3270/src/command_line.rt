@@ -97,7 +97,7 @@ Example:
   sent 7D40C41140C3C2
 
 Statuses:
-  0 done, 2 bad input, 3 the keys can't be read, or a read or a write failed, 4 out of memory";
+  0 done, 1 less than --expect says, 2 bad input, 3 the keys can't be read, or a read or a write failed, 4 out of memory";
 
 const CONVERT: &str = "Input:
   Records in hexadecimal, one a line, on standard input, as for show. With --back the lines that convert
@@ -219,7 +219,8 @@ const ATTACH: &str = "Input:
 
 Output:
   'answers A passed B refused C end E': what the terminal sent, the records that it ignored and refused, and
-  keys or closed; or 'fault' and the fault's number (docs/SESSIONS.md).
+  keys or closed; or 'fault' and the fault's number (docs/SESSIONS.md). With --tolerant 'ignored D inhibited F'
+  stand before 'end': what came before the session was ready, and keys that couldn't act.
 
 Example:
   $ term3270 attach localhost keys --port 3270
@@ -233,6 +234,8 @@ Statuses:
 enum Takes<'a> {
     /// An operand, which must be given.
     Operand,
+    /// A number from 1 to 65,535 of this name, which goes with the option of that one.
+    NumberWith(&'a str, &'a str),
     /// One operand or more.
     Operands,
     /// Nothing: the option is there or not.
@@ -580,6 +583,21 @@ const OTHERS: &[Described<'_>] = &[
                 takes: Takes::Text("NAME", "IBM-3278-2"),
                 help: "The terminal: IBM-3278-M or IBM-3279-M, M from 2 to 5, and -E where it is extended",
             },
+            Argument {
+                name: "tolerant",
+                takes: Takes::Nothing,
+                help: "Get through to hosts that do otherwise than the profile, and press keys where the screen has an input",
+            },
+            Argument {
+                name: "expect",
+                takes: Takes::NumberWith("N", "tolerant"),
+                help: "Status 1 where fewer answers are sent, or a key is inhibited: 1 to 65535",
+            },
+            Argument {
+                name: "timeout",
+                takes: Takes::NumberWith("SECONDS", "tolerant"),
+                help: "How long a wait for the host takes at most: 1 to 65535",
+            },
         ],
     },
 ];
@@ -611,6 +629,18 @@ fn number<'a>(alloc: Global, name: &'a str, value: &'a str, most: i64) -> Arg<'a
         .value_parser(clap::value_parser!(u16).range(1..=most))
 }
 
+/// An option with a number from 1 to 65,535, which goes with this other one.
+fn number_with<'a>(
+    alloc: Global,
+    name: &'a str,
+    value: &'a str,
+    other: &'a str,
+) -> Result<Arg<'a>, AllocError> {
+    option(alloc, name, value)
+        .value_parser(clap::value_parser!(u16).range(1..=65535))
+        .requires_arg(other)
+}
+
 /// An argument that conflicts with these others.
 fn alone<'a>(mut argument: Arg<'a>, others: &[&'a str]) -> Result<Arg<'a>, AllocError> {
     for other in others {
@@ -632,6 +662,7 @@ fn bare<'a>(alloc: Global, name: &'a str, takes: Takes<'a>) -> Result<Arg<'a>, A
         }
         Takes::Text(value, text) => Ok(with_default(alloc, name, value, text)),
         Takes::Number(value, most) => Ok(number(alloc, name, value, most)),
+        Takes::NumberWith(value, other) => number_with(alloc, name, value, other),
         Takes::Optional => Ok(Arg::new(alloc, name)),
         Takes::Value(value) => Ok(option(alloc, name, value)),
         Takes::FileAlone(others) => alone(option(alloc, name, "FILE"), others),

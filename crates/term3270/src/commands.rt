@@ -9,6 +9,7 @@ use crate::reasons::{
 use crate::sessions::{run_attach, run_serve};
 use crate::stream::Named;
 use crate::tcp::Place;
+use crate::tolerant::{Limits, run_tolerant};
 use crate::withheld::Withheld;
 use clap::ArgMatches;
 use cli_binds::{Form, run_bind};
@@ -241,6 +242,28 @@ pub(crate) fn attach(
         &mut keys,
         lines,
         device,
+        &mut Output::new(output(rt)),
+    );
+    told(rt, status, &mut keys)
+}
+
+/// `attach --tolerant`, with the keys or strokes of a file.
+pub(crate) fn attach_tolerant(
+    rt: &HostRuntime,
+    place: Place<'_>,
+    keys: &str,
+    lines: KeyLines,
+    device: &str,
+    limits: Limits,
+) -> Status {
+    let mut keys = heard_file(rt, names_of(lines), keys);
+    let status = run_tolerant(
+        rt,
+        place,
+        &mut keys,
+        lines,
+        device,
+        limits,
         &mut Output::new(output(rt)),
     );
     told(rt, status, &mut keys)

@@ -13,6 +13,7 @@ mod reports;
 mod sessions;
 mod stream;
 mod tcp;
+mod tolerant;
 mod withheld;
 
 use crate::asked::Asked;
@@ -20,6 +21,7 @@ use crate::bad_word::tell_bad_word;
 use crate::command_line::parsed;
 use crate::manners::{bare_host, tell_records_place};
 use crate::tcp::Place;
+use crate::tolerant::Limits;
 use bms_map::Control;
 use clap::ArgMatches;
 use clap::error::ErrorKind;
@@ -79,6 +81,19 @@ fn run(rt: &HostRuntime, asked: Asked<'_>, matches: &ArgMatches<'_>) -> Status {
         } => {
             let host = bare_host(address);
             commands::serve(rt, layout, Place { host, port }, count)
+        }
+        Asked::AttachTolerant {
+            host,
+            keys,
+            lines,
+            port,
+            device,
+            expect,
+            timeout,
+        } => {
+            let host = bare_host(host);
+            let limits = Limits { expect, timeout };
+            commands::attach_tolerant(rt, Place { host, port }, keys, lines, device, limits)
         }
         Asked::Attach {
             host,

@@ -72,7 +72,7 @@ pub(crate) fn run_attach<K: GivesBytes, W: TakesBytes>(
     ensures unknown { device_of device.now ≡ None
         → (result ≡ BadInput) × (keys.new ≡ keys.old) × (output.new ≡ output.old) }
     ensures attaches { (known : Device) → device_of device.now ≡ Some known
-        → IfSome (K.remaining keys.old) (λ text. AttachesLines lines known output.old
+        → IfSome (K.remaining keys.old) (λ text. AttachesLines lines (AttachesSocket known) output.old
         output.new result text) }
 {
     let Some(device) = Device::from_name(device.as_bytes()) else {
@@ -93,7 +93,7 @@ fn attach_with_keys<K: GivesBytes, W: TakesBytes>(
     output: &mut Output<W>,
 ) -> Status
     ensures { IfSome (K.remaining keys.old) (λ lines.
-        AttachesNamed by_key device output.old output.new result (keys_in lines)) }
+        AttachesNamed by_key (AttachesSocket device) output.old output.new result (keys_in lines)) }
 {
     match read_keys(rt.alloc(), keys) {
         Ok(named) => attach_at(rt, place, device, named.keys.as_slice(), output),
@@ -109,7 +109,7 @@ fn attach_with_strokes<K: GivesBytes, W: TakesBytes>(
     output: &mut Output<W>,
 ) -> Status
     ensures { IfSome (K.remaining strokes.old) (λ lines.
-        AttachesNamed by_stroke device output.old output.new result (strokes_in lines)) }
+        AttachesNamed by_stroke (AttachesSocket device) output.old output.new result (strokes_in lines)) }
 {
     match read_strokes(rt.alloc(), strokes) {
         Ok(named) => attach_at(rt, place, device, named.strokes.as_slice(), output),

@@ -1,11 +1,12 @@
 //! Lines over TCP.
 
 use cli_commands::{Status, failure};
-use cli_sessions::Terminals;
+use cli_sessions::{Terminals, Timed};
 use std::alloc::Global;
 use std::io;
 use std::io::{BufWriter, Read, Write};
 use std::net::{TcpListener, TcpStream};
+use std::time::Duration;
 
 /// How many bytes are gathered before they go out.
 const MOST_GATHERED: usize = 65_536;
@@ -15,6 +16,8 @@ const MOST_GATHERED: usize = 65_536;
 #[derive(Drop)]
 pub(crate) struct TcpLine {
     stream: BufWriter<TcpStream>,
+    /// A read ended because nothing came in time.
+    late: bool,
 }
 
 impl TcpLine {
@@ -23,7 +26,24 @@ impl TcpLine {
         // Where the system refuses this, the session is slower and no other.
         let _ = stream.set_nodelay(true);
         let stream = BufWriter::with_capacity(alloc, MOST_GATHERED, stream)?;
-        Ok(TcpLine { stream })
+        Ok(TcpLine {
+            stream,
+            late: false,
+        })
+    }
+
+    /// The line to a host, whose reads end after so many seconds without a byte; 0 is no limit.
+    pub(crate) fn with_limit(
+        rt: &HostRuntime,
+        place: Place<'_>,
+        seconds: u16,
+    ) -> io::Result<TcpLine> {
+        let line = TcpLine::to(rt, place)?;
+        if seconds > 0 {
+            let limit = Duration::from_secs(u64::from(seconds));
+            line.stream.get_ref().set_read_timeout(Some(limit))?;
+        }
+        Ok(line)
     }
 
     /// The line to a host.
@@ -36,7 +56,20 @@ impl TcpLine {
 impl Read for TcpLine {
     fn read(&mut self, buf: &mut [u8]) -> io::Result<usize> {
         self.stream.flush()?;
-        self.stream.get_mut().read(buf)
+        let read = self.stream.get_mut().read(buf);
+        if let Err(error) = &read {
+            self.late = matches!(
+                error.kind(),
+                io::ErrorKind::WouldBlock | io::ErrorKind::TimedOut
+            );
+        }
+        read
+    }
+}
+
+impl Timed for TcpLine {
+    fn is_late(&self) -> bool {
+        self.late
     }
 }
 

@@ -1,8 +1,12 @@
 pub mod Names
 pub mod NameLaws
 pub mod PairWords
+pub mod PairReach
 pub mod PairStages
 pub mod PairLaws
+pub mod TolerantStages
+pub mod TolerantLaws
 pub mod ReplyLaws
+pub mod TolerantReplies
 pub mod TraceHeard
 pub mod TraceLaws

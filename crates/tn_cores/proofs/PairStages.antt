@@ -1,5 +1,5 @@
 -- Every state that a pair of cores can reach, written out, and the step from each: printed by pair_stages.py.
-use Rattle.std.proofs.Common.{ℕ, ◌≡◌, ◌<◌, ◌++◌, Bool, true, false, [], ◌∷◌, Option, Some, None, refl, lit<, inl, inr}
+use Rattle.std.proofs.Common.{ℕ, ◌≡◌, ◌++◌, Bool, true, false, [], ◌∷◌, Some, None, refl, lit<, inl, inr}
 use Rattle.ds_codec.specs.Geometry.{Sizes}
 use Rattle.tn_wire.specs.Stream.{told_verb, told_sub}
 use Rattle.tn_cores.specs.declared.device.Device.{Device as DeviceValue}
@@ -11,8 +11,9 @@ use Rattle.tn_cores.specs.Devices.{name_of, fits}
 use Rattle.tn_cores.specs.Heard.{type_heard, enhanced_heard}
 use Rattle.tn_cores.specs.Replies.{resource_name, function_list}
 use Rattle.tn_cores.specs.Rows.{neither}
-use Rattle.tn_cores.specs.Pair.{SessionPair, End, at_terminal, at_host, pair_step}
-use Rattle.tn_cores.proofs.PairWords.{sides, terminal_at, host_at, pair_at, phase_of, by_bool, Holds}
+use Rattle.tn_cores.specs.declared.terminal.TermCore.{TermCore}
+use Rattle.tn_cores.specs.Pair.{SessionPair, End, at_terminal, at_host, pair_step, strict, IsSettled}
+use Rattle.tn_cores.proofs.PairWords.{sides, terminal_at, host_at, pair_at, phase_of, by_bool, Leads, Holds}
 use Rattle.tn_cores.proofs.NameLaws.{naming-name_of, naming-granted, fitting-name_of, is_same_name, is_short_name, is_equal_name}
 
 pub data Stage (d : DeviceValue) (g : Sizes) : Type 0 where
@@ -55,7 +56,7 @@ pub data Stage (d : DeviceValue) (g : Sizes) : Type 0 where
   g44 : (takes asks grants : Bool) → Stage d g
 
 -- the pair at a stage
-abbrev pub state : (d : DeviceValue) (g : Sizes) → Stage d g → SessionPair
+abbrev pub state : (d : DeviceValue) (g : Sizes) → Stage d g → SessionPair TermCore
 state d g (e0 asks grants) = pair_at (terminal_at d asks Off neither neither Opening) (host_at g grants neither neither AskedEnhanced) (told_verb 253 40 ∷ []) ([]) [] []
 state d g (e1 asks grants) = pair_at (terminal_at d asks Off neither neither Enhanced) (host_at g grants neither neither AskedEnhanced) ([]) (told_verb 251 40 ∷ []) [] []
 state d g (e2 asks grants) = pair_at (terminal_at d asks Off neither neither Enhanced) (host_at g grants neither neither Device) (told_sub 40 (8 ∷ 2 ∷ []) ∷ []) ([]) [] []
@@ -100,7 +101,7 @@ rank (e0 asks grants) = 8
 rank (e1 asks grants) = 7
 rank (e2 asks grants) = 6
 rank (e3 asks grants) = 5
-rank (r4 asks grants) = 1
+rank (r4 asks grants) = 2
 rank (r5 asks grants) = 0
 rank (e4 asks grants) = 4
 rank (e5 asks grants) = 3
@@ -134,12 +135,8 @@ rank (g42 takes asks grants) = 2
 rank (g43 takes asks grants) = 1
 rank (g44 takes asks grants) = 0
 
--- what a step of an end leads to: where it has an event, a stage of lower rank
-abbrev pub Leads : (d : DeviceValue) (g : Sizes) → ℕ → Option SessionPair → Type 0
-Leads d g n None = Unit {0}
-Leads d g n (Some p) = (t : Stage d g) × (p ≡ state d g t) × (rank t < n)
-
-pub next : (d : DeviceValue) (g : Sizes) (s : Stage d g) (end : End) → Leads d g (rank s) (pair_step (state d g s) end)
+pub next : (d : DeviceValue) (g : Sizes) (s : Stage d g) (end : End)
+    → Leads (Stage d g) (state d g) (λ t. rank t) (rank s) (pair_step strict (state d g s) end)
 unfolding type_heard enhanced_heard
 next d g (e0 asks grants) at_terminal = (e1 asks grants, refl, lit< tt)
 next d g (e0 asks grants) at_host = tt
@@ -220,7 +217,7 @@ next d g (g44 takes asks grants) at_terminal = tt
 next d g (g44 takes asks grants) at_host = tt
 
 -- at each stage two ready cores agree, and where nothing is on its way the pair is settled
-pub holds : (d : DeviceValue) (g : Sizes) (s : Stage d g) → Holds (state d g s)
+pub holds : (d : DeviceValue) (g : Sizes) (s : Stage d g) → Holds strict IsSettled (state d g s)
 holds d g (e0 asks grants) = (λ a b x y. cc, λ none all. cc)
 holds d g (e1 asks grants) = (λ a b x y. cc, λ none all. cc)
 holds d g (e2 asks grants) = (λ a b x y. cc, λ none all. cc)

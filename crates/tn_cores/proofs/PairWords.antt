@@ -1,5 +1,5 @@
 -- The words in which the states of a pair are written out.
-use Rattle.std.proofs.Common.{◌≡◌, Bool, true, false, List, [], refl, if◌then◌else◌}
+use Rattle.std.proofs.Common.{ℕ, ◌≡◌, ◌<◌, Bool, true, false, List, [], Option, Some, None, refl, if◌then◌else◌}
 use Rattle.ds_codec.specs.Geometry.{Sizes}
 use Rattle.tn_wire.specs.Stream.{Told as Event}
 use Rattle.tn_cores.specs.declared.device.Device.{Device as DeviceValue}
@@ -11,7 +11,8 @@ use Rattle.tn_cores.specs.declared.terminal.TerminalPhase.{TerminalPhase}
 use Rattle.tn_cores.specs.declared.terminal.TerminalPhase.TheVariants.{Classic, Opening}
 use Rattle.tn_cores.specs.declared.host.HostCore.{HostCore}
 use Rattle.tn_cores.specs.declared.host.HostPhase.{HostPhase}
-use Rattle.tn_cores.specs.Pair.{SessionPair, ReadyAgree, IsSettled}
+use Rattle.tn_cores.specs.declared.tolerant.TolerantCore.{TolerantCore}
+use Rattle.tn_cores.specs.Pair.{TerminalKind, SessionPair, ReadyAgree}
 
 abbrev pub sides : Bool → Bool → Sides
 sides ours theirs = record { ours = ours; theirs = theirs }
@@ -35,7 +36,10 @@ host_at sizes responses end_of_record binary phase = record {
   phase = phase;
 }
 
-abbrev pub pair_at : TermCore → HostCore → List Event → List Event → List SessionFault → List SessionFault → SessionPair
+abbrev pub tolerant_at : TermCore → Bool → TolerantCore
+tolerant_at core settled = record { core = core; settled = settled }
+
+abbrev pub pair_at : {T : Type 0} → T → HostCore → List Event → List Event → List SessionFault → List SessionFault → SessionPair T
 pair_at terminal host to_terminal to_host terminal_refused host_refused = record {
   terminal = terminal;
   host = host;
@@ -53,6 +57,11 @@ pub by_bool : {P : Type 0} (b : Bool) → (b ≡ true → P) → (b ≡ false �
 by_bool true yes_case no_case = yes_case refl
 by_bool false yes_case no_case = no_case refl
 
+-- what a step of an end leads to: where it has an event, a stage of lower rank
+abbrev pub Leads : {T : Type 0} (Stage : Type 0) → (Stage → SessionPair T) → (Stage → ℕ) → ℕ → Option (SessionPair T) → Type 0
+Leads Stage state rank n None = Unit {0}
+Leads Stage state rank n (Some p) = (t : Stage) × (p ≡ state t) × (rank t < n)
+
 -- what holds of every pair that is reached
-abbrev pub Holds : SessionPair → Type 0
-Holds p = ReadyAgree p × (p.to_terminal ≡ [] → p.to_host ≡ [] → IsSettled p)
+abbrev pub Holds : {T : Type 0} → TerminalKind T → (SessionPair T → Type 0) → SessionPair T → Type 0
+Holds kind Settled p = ReadyAgree kind p × (p.to_terminal ≡ [] → p.to_host ≡ [] → Settled p)

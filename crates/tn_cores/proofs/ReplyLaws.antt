@@ -1,5 +1,5 @@
 -- Every reply is spelled in tokens that a stream may have, and is heard as it was said.
-use Rattle.std.proofs.Common.{ℕ, ◌≡◌, ◌≤◌, ◌++◌, Bool, true, false, ◌&&◌, List, [], ◌∷◌, length, Result, Ok, Err, Option, Some, None, IfSome, refl, sym, subst, arith, lit<, lit≤, inl, if◌then◌else◌, length-append}
+use Rattle.std.proofs.Common.{ℕ, ◌≡◌, ◌≤◌, ◌+◌, ◌==◌, ◌++◌, Bool, true, false, ◌&&◌, List, [], ◌∷◌, length, Result, Ok, Err, Option, Some, None, IfSome, refl, sym, subst, arith, lit<, lit≤, inl, if◌then◌else◌, length-append}
 use Rattle.std.proofs.lemmas.List.{append-nil}
 use Rattle.std.specs.Prelude.{bytes_eq, nat_le}
 use Rattle.std.specs.Str.{str_eq_ignore_ascii_case}
@@ -7,7 +7,8 @@ use Rattle.ds_codec.specs.Geometry.{Sizes}
 use Rattle.arrayvec.specs.ArrayVec.{ArrayVec}
 use Rattle.tn_wire.specs.declared.codes.Verb.TheVariants.{Will, Wont, Do, Dont}
 use Rattle.tn_wire.specs.Verbs.{is_verb}
-use Rattle.tn_wire.specs.Telnet.{Token, record_end, command, subnegotiation, pending_after, AreTokens, IsPartial}
+use Rattle.tn_wire.specs.Codes.{iac, sub_end}
+use Rattle.tn_wire.specs.Telnet.{Token, record_end, command, subnegotiation, spelling, quoted, quoted_byte, pending_after, AreTokens, IsPartial}
 use Rattle.tn_cores.specs.declared.option.TelnetOption.{TelnetOption}
 use Rattle.tn_cores.specs.declared.option.TelnetOption.TheVariants.{Binary, TerminalType, EndOfRecord, Tn3270e, Other}
 use Rattle.tn_cores.specs.declared.heard.FunctionList.{FunctionList}
@@ -34,15 +35,18 @@ use Rattle.tn_cores.specs.Steps.{Stepped, record_step, row_step, heard_step, ter
 use Rattle.tn_cores.specs.Pair.{IsHeard, TerminalIsHeard, HostIsHeard, OpeningIsHeard}
 use Rattle.tn_cores.proofs.Names.{device_name-short, IfSome-device_of}
 
--- tokens that may come, with no data of a record among them
-abbrev Lawful : List Token → Type 0
-Lawful reply = AreTokens [] reply × (pending_after [] reply ≡ [])
+-- tokens that may come, with no data of a record among them, in at most 64 bytes
+abbrev pub Lawful : List Token → Type 0
+Lawful reply = AreTokens [] reply × (pending_after [] reply ≡ []) × (length (bytes_of reply) ≤ 64)
+
+pub silent : Lawful []
+silent = (tt, refl, lit≤ tt)
 
 partial : (pending : List ℕ) → IsPartial pending []
 partial pending = record { token = record_end; more = 255 ∷ 239 ∷ []; comes = tt; longer = lit< tt; spelled = refl }
 
-is_heard : (reply : List Token) → Lawful reply → IsHeard reply
-is_heard reply (each, closed) = record {
+pub is_heard : (reply : List Token) → Lawful reply → IsHeard reply
+is_heard reply (each, closed, short) = record {
   tokens = reply;
   rest = [];
   spelled = record { whole = sym (append-nil (bytes_of reply)); each = each; partial = partial (pending_after [] reply) };
@@ -50,13 +54,29 @@ is_heard reply (each, closed) = record {
   leaves = rw closed refl;
 }
 
-spoken : (code option : ℕ) → is_verb code ≡ true → Lawful (command code option ∷ [])
-spoken code option known = ((known, tt), refl)
+pub spoken : (code option : ℕ) → is_verb code ≡ true → Lawful (command code option ∷ [])
+spoken code option known = ((known, tt), refl, lit≤ tt)
 
-sub : (option : ℕ) (words : List ℕ) → length words ≤ 256 → Lawful (subnegotiation option words ∷ [])
-sub option words short = ((short, tt), refl)
+byte-short : (b : ℕ) → length (quoted_byte b) ≤ 2
+byte-short b = elim (b == iac) as (λ z. length (if z then iac ∷ iac ∷ [] else b ∷ []) ≤ 2) [ true ↦ lit≤ tt | false ↦ lit≤ tt ]
 
-name-short : (d : DeviceValue) → length (name_of d) ≤ 12
+quoted-short : (words : List ℕ) → length (quoted words) ≤ length words + length words
+quoted-short [] = lit≤ tt
+quoted-short (w ∷ ws) = omega (arith, length-append (quoted_byte w) (quoted ws), byte-short w, quoted-short ws)
+
+sub-short : (option : ℕ) (words : List ℕ) → length words ≤ 28 → length (bytes_of (subnegotiation option words ∷ [])) ≤ 64
+sub-short option words short = omega (
+  arith,
+  short,
+  quoted-short (option ∷ words),
+  length-append (quoted (option ∷ words) ++ iac ∷ sub_end ∷ []) [],
+  length-append (quoted (option ∷ words)) (iac ∷ sub_end ∷ []),
+)
+
+pub sub : (option : ℕ) (words : List ℕ) → length words ≤ 28 → Lawful (subnegotiation option words ∷ [])
+sub option words short = ((omega (arith, short), tt), refl, sub-short option words short)
+
+pub name-short : (d : DeviceValue) → length (name_of d) ≤ 12
 unfolding name_of
 name-short d = device_name-short (name_of d) d (inl refl)
 
@@ -68,7 +88,7 @@ IsOfEvent Closed = ⊥
 IsOfEvent _ = Unit {0}
 
 -- a row says such tokens, or refuses the event
-abbrev RowLawful : {Core : Type 0} → Row Core → Type 0
+abbrev pub RowLawful : {Core : Type 0} → Row Core → Type 0
 RowLawful (Ok row) = Lawful row.0
 RowLawful (Err why) = IsOfEvent why
 
@@ -77,21 +97,21 @@ by_if true x y p q = p
 by_if false x y p q = q
 
 by_once : {Core : Type 0} (b : Bool) (reply : List Token) (core next : Core) → Lawful reply → RowLawful (once b reply core next)
-by_once true reply core next h = (tt, refl)
+by_once true reply core next h = silent
 by_once false reply core next h = h
 
 by_unless : {Core : Type 0} (b : Bool) (option : TelnetOption) (core : Core) → RowLawful (unless_on b option core)
 by_unless true option core = tt
-by_unless false option core = (tt, refl)
+by_unless false option core = silent
 
-functions-short : (word : ℕ) (responses : Bool) → length (3 ∷ word ∷ function_list responses) ≤ 256
+functions-short : (word : ℕ) (responses : Bool) → length (3 ∷ word ∷ function_list responses) ≤ 28
 functions-short word true = lit≤ tt
 functions-short word false = lit≤ tt
 
-asks-for : (responses : Bool) → Lawful (subnegotiation 40 (3 ∷ 7 ∷ function_list responses) ∷ [])
+pub asks-for : (responses : Bool) → Lawful (subnegotiation 40 (3 ∷ 7 ∷ function_list responses) ∷ [])
 asks-for responses = sub 40 (3 ∷ 7 ∷ function_list responses) (functions-short 7 responses)
 
-are-functions : (responses : Bool) → Lawful (subnegotiation 40 (3 ∷ 4 ∷ function_list responses) ∷ [])
+pub are-functions : (responses : Bool) → Lawful (subnegotiation 40 (3 ∷ 4 ∷ function_list responses) ∷ [])
 are-functions responses = sub 40 (3 ∷ 4 ∷ function_list responses) (functions-short 4 responses)
 
 rejected : (reason : ℕ) → Lawful (subnegotiation 40 (2 ∷ 6 ∷ 5 ∷ reason ∷ []) ∷ [])
@@ -99,25 +119,25 @@ rejected reason = sub 40 (2 ∷ 6 ∷ 5 ∷ reason ∷ []) (lit≤ tt)
 
 t_do_type : (t : TermCore) (s : TypeState) → RowLawful (do_type t s)
 t_do_type t Off = spoken 251 24 refl
-t_do_type t On = (tt, refl)
-t_do_type t Named = (tt, refl)
+t_do_type t On = silent
+t_do_type t Named = silent
 
-t_do_enhanced : (t : TermCore) (p : TerminalPhase) → RowLawful (do_enhanced t p)
+pub t_do_enhanced : (t : TermCore) (p : TerminalPhase) → RowLawful (do_enhanced t p)
 t_do_enhanced t Classic = spoken 252 40 refl
 t_do_enhanced t Opening = by_if (is_classic t) _ _ (spoken 252 40 refl) (spoken 251 40 refl)
-t_do_enhanced t Enhanced = (tt, refl)
-t_do_enhanced t Asked = (tt, refl)
-t_do_enhanced t (Asking r) = (tt, refl)
-t_do_enhanced t (Holding r) = (tt, refl)
+t_do_enhanced t Enhanced = silent
+t_do_enhanced t Asked = silent
+t_do_enhanced t (Asking r) = silent
+t_do_enhanced t (Holding r) = silent
 
-t_do : (t : TermCore) (o : TelnetOption) → RowLawful (terminal_do t o)
+pub t_do : (t : TermCore) (o : TelnetOption) → RowLawful (terminal_do t o)
 t_do t Binary = by_once t.binary.ours _ _ _ (spoken 251 0 refl)
 t_do t TerminalType = t_do_type t t.terminal_type
 t_do t EndOfRecord = by_once t.end_of_record.ours _ _ _ (spoken 251 25 refl)
 t_do t Tn3270e = t_do_enhanced t t.phase
 t_do t (Other code) = spoken 252 code refl
 
-t_will : (t : TermCore) (o : TelnetOption) → RowLawful (terminal_will t o)
+pub t_will : (t : TermCore) (o : TelnetOption) → RowLawful (terminal_will t o)
 t_will t Binary = by_once t.binary.theirs _ _ _ (spoken 253 0 refl)
 t_will t TerminalType = spoken 254 24 refl
 t_will t EndOfRecord = by_once t.end_of_record.theirs _ _ _ (spoken 253 25 refl)
@@ -125,8 +145,8 @@ t_will t Tn3270e = spoken 254 40 refl
 t_will t (Other code) = spoken 254 code refl
 
 t_dont_enhanced : (t : TermCore) (p : TerminalPhase) → RowLawful (dont_enhanced t p)
-t_dont_enhanced t Classic = (tt, refl)
-t_dont_enhanced t Opening = (tt, refl)
+t_dont_enhanced t Classic = silent
+t_dont_enhanced t Opening = silent
 t_dont_enhanced t Enhanced = spoken 252 40 refl
 t_dont_enhanced t Asked = spoken 252 40 refl
 t_dont_enhanced t (Asking r) = spoken 252 40 refl
@@ -137,16 +157,16 @@ t_dont t Binary = by_unless t.binary.ours Binary t
 t_dont t TerminalType = by_unless (is_type_on t.terminal_type) TerminalType t
 t_dont t EndOfRecord = by_unless t.end_of_record.ours EndOfRecord t
 t_dont t Tn3270e = t_dont_enhanced t t.phase
-t_dont t (Other code) = (tt, refl)
+t_dont t (Other code) = silent
 
 t_wont : (t : TermCore) (o : TelnetOption) → RowLawful (terminal_wont t o)
 t_wont t Binary = by_unless t.binary.theirs Binary t
-t_wont t TerminalType = (tt, refl)
+t_wont t TerminalType = silent
 t_wont t EndOfRecord = by_unless t.end_of_record.theirs EndOfRecord t
-t_wont t Tn3270e = (tt, refl)
-t_wont t (Other code) = (tt, refl)
+t_wont t Tn3270e = silent
+t_wont t (Other code) = silent
 
-t_send_type : (t : TermCore) (s : TypeState) → RowLawful (terminal_send_type t s)
+pub t_send_type : (t : TermCore) (s : TypeState) → RowLawful (terminal_send_type t s)
 t_send_type t Off = tt
 t_send_type t On = sub 24 (0 ∷ name_of t.device) (omega (arith, name-short t.device))
 t_send_type t Named = sub 24 (0 ∷ name_of t.device) (omega (arith, name-short t.device))
@@ -188,10 +208,10 @@ t_functions t list Classic = tt
 t_functions t list Opening = tt
 t_functions t list Enhanced = tt
 t_functions t list Asked = tt
-t_functions t list (Asking r) = by_if (is_set list r) _ _ (tt, refl) tt
+t_functions t list (Asking r) = by_if (is_set list r) _ _ silent tt
 t_functions t list (Holding r) = tt
 
-t_request : (t : TermCore) (list : FunctionList) (p : TerminalPhase) → RowLawful (terminal_functions_request t list p)
+pub t_request : (t : TermCore) (list : FunctionList) (p : TerminalPhase) → RowLawful (terminal_functions_request t list p)
 t_request t list Classic = tt
 t_request t list Opening = tt
 t_request t list Enhanced = tt
@@ -200,7 +220,7 @@ t_request t list (Asking r) = by_if (is_within list t.responses) _ _ (are-functi
 t_request t list (Holding r) = tt
 
 t_row : (t : TermCore) (h : Heard) → RowLawful (terminal_row t h)
-t_row t hears_record = (tt, refl)
+t_row t hears_record = silent
 t_row t (hears_verb Do o) = t_do t o
 t_row t (hears_verb Will o) = t_will t o
 t_row t (hears_verb Dont o) = t_dont t o
@@ -214,10 +234,10 @@ t_row t (hears_functions_request list) = t_request t list t.phase
 t_row t (hears_type name) = tt
 t_row t (hears_device_request n) = tt
 t_row t hears_bad = tt
-t_row t hears_nothing = (tt, refl)
+t_row t hears_nothing = silent
 
 by_offered : (b : Bool) (reply : List Token) → Lawful reply → Lawful (if b then [] else reply)
-by_offered true reply l = (tt, refl)
+by_offered true reply l = silent
 by_offered false reply l = l
 
 unless-lawful : (p : HostPhase) (reply : List Token) → Lawful reply → Lawful (unless_offered p reply)
@@ -225,9 +245,9 @@ unless-lawful p reply l = by_offered (is_offered p) reply l
 
 h_will_enhanced : (h : HostCore) (p : HostPhase) → RowLawful (will_enhanced h p)
 h_will_enhanced h AskedEnhanced = sub 40 (8 ∷ 2 ∷ []) (lit≤ tt)
-h_will_enhanced h Device = (tt, refl)
-h_will_enhanced h (Functions d s) = (tt, refl)
-h_will_enhanced h (Ready d r) = (tt, refl)
+h_will_enhanced h Device = silent
+h_will_enhanced h (Functions d s) = silent
+h_will_enhanced h (Ready d r) = silent
 h_will_enhanced h AskedType = spoken 254 40 refl
 h_will_enhanced h (AskedName last) = spoken 254 40 refl
 h_will_enhanced h (Options d) = spoken 254 40 refl
@@ -238,8 +258,8 @@ h_will_type h Device = spoken 254 24 refl
 h_will_type h (Functions d s) = spoken 254 24 refl
 h_will_type h (Ready d r) = spoken 254 24 refl
 h_will_type h AskedType = sub 24 (1 ∷ []) (lit≤ tt)
-h_will_type h (AskedName last) = (tt, refl)
-h_will_type h (Options d) = (tt, refl)
+h_will_type h (AskedName last) = silent
+h_will_type h (Options d) = silent
 
 h_will : (h : HostCore) (o : TelnetOption) → RowLawful (host_will h o)
 h_will h Binary = by_once h.binary.theirs _ _ _ (unless-lawful h.phase _ (spoken 253 0 refl))
@@ -260,32 +280,32 @@ h_wont_enhanced h AskedEnhanced = spoken 253 24 refl
 h_wont_enhanced h Device = tt
 h_wont_enhanced h (Functions d s) = tt
 h_wont_enhanced h (Ready d r) = tt
-h_wont_enhanced h AskedType = (tt, refl)
-h_wont_enhanced h (AskedName last) = (tt, refl)
-h_wont_enhanced h (Options d) = (tt, refl)
+h_wont_enhanced h AskedType = silent
+h_wont_enhanced h (AskedName last) = silent
+h_wont_enhanced h (Options d) = silent
 
 h_wont_type : (h : HostCore) (p : HostPhase) → RowLawful (wont_type h p)
-h_wont_type h AskedEnhanced = (tt, refl)
-h_wont_type h Device = (tt, refl)
-h_wont_type h (Functions d s) = (tt, refl)
-h_wont_type h (Ready d r) = (tt, refl)
+h_wont_type h AskedEnhanced = silent
+h_wont_type h Device = silent
+h_wont_type h (Functions d s) = silent
+h_wont_type h (Ready d r) = silent
 h_wont_type h AskedType = tt
-h_wont_type h (AskedName last) = (tt, refl)
-h_wont_type h (Options d) = (tt, refl)
+h_wont_type h (AskedName last) = silent
+h_wont_type h (Options d) = silent
 
 h_wont : (h : HostCore) (o : TelnetOption) → RowLawful (host_wont h o)
 h_wont h Binary = by_unless (is_needed h.phase h.binary.theirs) Binary h
 h_wont h TerminalType = h_wont_type h h.phase
 h_wont h EndOfRecord = by_unless (is_needed h.phase h.end_of_record.theirs) EndOfRecord h
 h_wont h Tn3270e = h_wont_enhanced h h.phase
-h_wont h (Other code) = (tt, refl)
+h_wont h (Other code) = silent
 
 h_dont : (h : HostCore) (o : TelnetOption) → RowLawful (host_dont h o)
 h_dont h Binary = by_unless (is_needed h.phase h.binary.ours) Binary h
-h_dont h TerminalType = (tt, refl)
+h_dont h TerminalType = silent
 h_dont h EndOfRecord = by_unless (is_needed h.phase h.end_of_record.ours) EndOfRecord h
-h_dont h Tn3270e = (tt, refl)
-h_dont h (Other code) = (tt, refl)
+h_dont h Tn3270e = silent
+h_dont h (Other code) = silent
 
 -- a name that fits is short
 if_fits-short : (g : Sizes) (name : List ℕ) (o : Option DeviceValue) → IfSome o (IsDeviceName name) → IfSome (if_fits g o) (λ d. length name ≤ 12)
@@ -297,7 +317,7 @@ fitting-short : (g : Sizes) (name : List ℕ) → IfSome (fitting g name) (λ d.
 unfolding fitting
 fitting-short g name = if_fits-short g name (device_of name) (IfSome-device_of name)
 
-granted-short : (name : List ℕ) → length name ≤ 12 → length (2 ∷ 4 ∷ (name ++ 1 ∷ resource_name)) ≤ 256
+granted-short : (name : List ℕ) → length name ≤ 12 → length (2 ∷ 4 ∷ (name ++ 1 ∷ resource_name)) ≤ 28
 granted-short name short = omega (arith, length-append name (1 ∷ resource_name))
 
 granted : (name : List ℕ) → length name ≤ 12 → Lawful (subnegotiation 40 (2 ∷ 4 ∷ (name ++ 1 ∷ resource_name)) ∷ [])
@@ -332,7 +352,7 @@ h_request h list (Options d) = tt
 
 h_asked : (h : HostCore) (list : FunctionList) (d : DeviceValue) (s : Option Bool) → RowLawful (asked_functions h list d s)
 h_asked h list d None = tt
-h_asked h list d (Some r) = by_if (is_set list r) _ _ (tt, refl) tt
+h_asked h list d (Some r) = by_if (is_set list r) _ _ silent tt
 
 h_functions : (h : HostCore) (list : FunctionList) (p : HostPhase) → RowLawful (host_functions h list p)
 h_functions h list AskedEnhanced = tt
@@ -344,22 +364,22 @@ h_functions h list (AskedName last) = tt
 h_functions h list (Options d) = tt
 
 offers-lawful : (a b c d : Bool) → Lawful (offers (record { ours = a; theirs = b }) (record { ours = c; theirs = d }))
-offers-lawful true true true true = (tt, refl)
-offers-lawful true true true false = ((refl, tt), refl)
-offers-lawful true true false true = ((refl, tt), refl)
-offers-lawful true true false false = ((refl, (refl, tt)), refl)
-offers-lawful true false true true = ((refl, tt), refl)
-offers-lawful true false true false = ((refl, (refl, tt)), refl)
-offers-lawful true false false true = ((refl, (refl, tt)), refl)
-offers-lawful true false false false = ((refl, (refl, (refl, tt))), refl)
-offers-lawful false true true true = ((refl, tt), refl)
-offers-lawful false true true false = ((refl, (refl, tt)), refl)
-offers-lawful false true false true = ((refl, (refl, tt)), refl)
-offers-lawful false true false false = ((refl, (refl, (refl, tt))), refl)
-offers-lawful false false true true = ((refl, (refl, tt)), refl)
-offers-lawful false false true false = ((refl, (refl, (refl, tt))), refl)
-offers-lawful false false false true = ((refl, (refl, (refl, tt))), refl)
-offers-lawful false false false false = ((refl, (refl, (refl, (refl, tt)))), refl)
+offers-lawful true true true true = silent
+offers-lawful true true true false = ((refl, tt), refl, lit≤ tt)
+offers-lawful true true false true = ((refl, tt), refl, lit≤ tt)
+offers-lawful true true false false = ((refl, (refl, tt)), refl, lit≤ tt)
+offers-lawful true false true true = ((refl, tt), refl, lit≤ tt)
+offers-lawful true false true false = ((refl, (refl, tt)), refl, lit≤ tt)
+offers-lawful true false false true = ((refl, (refl, tt)), refl, lit≤ tt)
+offers-lawful true false false false = ((refl, (refl, (refl, tt))), refl, lit≤ tt)
+offers-lawful false true true true = ((refl, tt), refl, lit≤ tt)
+offers-lawful false true true false = ((refl, (refl, tt)), refl, lit≤ tt)
+offers-lawful false true false true = ((refl, (refl, tt)), refl, lit≤ tt)
+offers-lawful false true false false = ((refl, (refl, (refl, tt))), refl, lit≤ tt)
+offers-lawful false false true true = ((refl, (refl, tt)), refl, lit≤ tt)
+offers-lawful false false true false = ((refl, (refl, (refl, tt))), refl, lit≤ tt)
+offers-lawful false false false true = ((refl, (refl, (refl, tt))), refl, lit≤ tt)
+offers-lawful false false false false = ((refl, (refl, (refl, (refl, tt)))), refl, lit≤ tt)
 
 h_type_fitting : (h : HostCore) (name : List ℕ) (last : Option (ArrayVec ℕ)) (o : Option DeviceValue) → RowLawful (type_fitting h name last o)
 h_type_fitting h name last (Some d) = offers-lawful h.end_of_record.ours h.end_of_record.theirs h.binary.ours h.binary.theirs
@@ -375,7 +395,7 @@ h_type h name (AskedName last) = by_if (nat_le (length name) 40) _ _ (h_type_fit
 h_type h name (Options d) = tt
 
 h_row : (h : HostCore) (e : Heard) → RowLawful (host_row h e)
-h_row h hears_record = (tt, refl)
+h_row h hears_record = silent
 h_row h (hears_verb Will o) = h_will h o
 h_row h (hears_verb Wont o) = h_wont h o
 h_row h (hears_verb Do o) = h_do h o
@@ -389,7 +409,7 @@ h_row h hears_send_device = tt
 h_row h (hears_device n) = tt
 h_row h (hears_device_reject reason) = tt
 h_row h hears_bad = tt
-h_row h hears_nothing = (tt, refl)
+h_row h hears_nothing = silent
 
 abbrev StepLawful : {Core : Type 0} → Result (Stepped Core) SessionFault → Type 0
 StepLawful (Ok step) = Lawful step.reply
@@ -397,7 +417,7 @@ StepLawful (Err why) = IsOfEvent why
 
 by_record : {Core : Type 0} (core : Core) (agreed : Option Agreed) → StepLawful (record_step core agreed)
 by_record core None = tt
-by_record core (Some agreed) = (tt, refl)
+by_record core (Some agreed) = silent
 
 by_row : {Core : Type 0} (agreed : Core → Option Agreed) (core : Core) (row : Row Core) → RowLawful row → StepLawful (row_step agreed core row)
 by_row agreed core (Ok row) h = h
@@ -434,12 +454,12 @@ host_heard h event s e = is_heard s.reply (subst StepLawful e (by_heard host_agr
 
 opening-lawful : (p : HostPhase) → Lawful (opening_in p)
 opening-lawful AskedEnhanced = spoken 253 40 refl
-opening-lawful Device = (tt, refl)
-opening-lawful (Functions d s) = (tt, refl)
-opening-lawful (Ready d r) = (tt, refl)
+opening-lawful Device = silent
+opening-lawful (Functions d s) = silent
+opening-lawful (Ready d r) = silent
 opening-lawful AskedType = spoken 253 24 refl
-opening-lawful (AskedName last) = (tt, refl)
-opening-lawful (Options d) = (tt, refl)
+opening-lawful (AskedName last) = silent
+opening-lawful (Options d) = silent
 
 pub opening_heard : OpeningIsHeard
 opening_heard h = is_heard (opening h) (opening-lawful h.phase)

@@ -3,10 +3,11 @@ pub mod Devices
 pub mod Heard
 pub mod HeardView
 pub mod Replies
-pub mod ReplyView
 pub mod Rows
 pub mod Terminal
 pub mod Host
 pub mod Steps
+pub mod Tolerant
+pub mod ReplyView
 pub mod Pair
 pub mod Traced

@@ -7,6 +7,8 @@ use Rattle.tn_cores.specs.declared.session.SessionFault.{SessionFault}
 use Rattle.tn_cores.specs.Devices.{name_of}
 use Rattle.tn_cores.specs.Replies.{said, send_type, type_is, send_device, request_device, device_is, reject_device, request_functions, functions_are, offers}
 use Rattle.tn_cores.specs.Rows.{Row}
+use Rattle.tn_cores.specs.declared.terminal.TermCore.{TermCore}
+use Rattle.tn_cores.specs.Tolerant.{Answer}
 
 abbrev pub tokens_of : Reply → List Token
 tokens_of Nothing = []
@@ -25,3 +27,7 @@ tokens_of (FunctionsAre responses) = functions_are responses
 abbrev pub rowed : {Core : Type 0} → Result Reply SessionFault → Core → Row Core
 rowed (Ok reply) core = Ok (tokens_of reply, core)
 rowed (Err why) core = Err why
+
+-- the same of a row that refuses nothing
+abbrev pub answered : Reply → TermCore → Answer
+answered reply core = (tokens_of reply, core)

@@ -12,9 +12,11 @@ mod option;
 mod reply;
 mod session;
 mod terminal;
+mod tolerant;
 
 pub use device::{Device, DeviceName, ScreenModel};
 pub use host::HostCore;
-pub use laws::{delivery_law, pair_law, reply_law, trace_law};
+pub use laws::{delivery_law, pair_law, reply_law, storm_law, tolerant_pair_law, trace_law};
 pub use session::{Agreed, Out, SessionFault, Told};
 pub use terminal::TermCore;
+pub use tolerant::TolerantCore;

@@ -9,12 +9,14 @@ ghost use Rattle.tn_cores.specs.Terminal.{new_terminal, terminal_agreed, agreed_
 ghost use Rattle.tn_cores.specs.Terminal.{terminal_do, do_type, do_enhanced, terminal_will, terminal_dont, dont_enhanced, terminal_wont};
 ghost use Rattle.tn_cores.specs.Terminal.{terminal_send_type, terminal_send_device, terminal_device, named_device, terminal_reject};
 ghost use Rattle.tn_cores.specs.Terminal.{terminal_functions, terminal_functions_request, terminal_row};
+ghost use Rattle.tn_cores.specs.Tolerant.{new_tolerant};
 
 use crate::device::Device;
 use crate::heard::{FunctionList, Heard, Joined};
 use crate::option::{Sides, TelnetOption};
 use crate::reply::{Reply, once, unless_on};
 use crate::session::{Agreed, Out, SessionFault, Told, told_after};
+use crate::tolerant::TolerantCore;
 use tn_wire::{Event, Verb};
 
 /// TERMINAL-TYPE on the terminal's side.
@@ -29,7 +31,7 @@ pub(crate) enum TypeState {
 }
 
 impl TypeState {
-    fn is_on(self) -> bool
+    pub(crate) fn is_on(self) -> bool
         ensures { result ≡ is_type_on self }
     {
         match self {
@@ -68,12 +70,12 @@ pub(crate) enum TerminalPhase {
 /// The terminal's core: an event in, bytes out. It keeps what is in force; it reads and writes nothing itself.
 #[derive(Clone, Copy)]
 pub struct TermCore {
-    device: Device,
-    responses: bool,
-    terminal_type: TypeState,
-    binary: Sides,
-    end_of_record: Sides,
-    phase: TerminalPhase,
+    pub(crate) device: Device,
+    pub(crate) responses: bool,
+    pub(crate) terminal_type: TypeState,
+    pub(crate) binary: Sides,
+    pub(crate) end_of_record: Sides,
+    pub(crate) phase: TerminalPhase,
 }
 
 impl TermCore {
@@ -95,6 +97,15 @@ impl TermCore {
                 TerminalPhase::Classic
             },
         }
+    }
+
+    /// A tolerant terminal of this device, at the beginning of a session.
+    ///
+    /// `enhanced` says whether it takes TN3270E, `responses` whether it asks for RESPONSES there.
+    pub fn tolerant(device: Device, enhanced: bool, responses: bool) -> TolerantCore
+        ensures { result ≡ new_tolerant device enhanced responses }
+    {
+        TolerantCore::new(device, enhanced, responses)
     }
 
     /// Takes an event: what it means, with the reply's bytes in `out`, which held others before.
@@ -138,7 +149,7 @@ impl TermCore {
     }
 
     /// Whether the name was sent, and records in binary are agreed on both sides.
-    fn is_classic(&self) -> bool
+    pub(crate) fn is_classic(&self) -> bool
         ensures { result ≡ is_classic self.now }
     {
         self.terminal_type.is_named() && self.binary.are_both() && self.end_of_record.are_both()
@@ -182,7 +193,7 @@ impl TermCore {
     }
 
     /// DO.
-    fn on_do(&mut self, option: TelnetOption) -> Reply
+    pub(crate) fn on_do(&mut self, option: TelnetOption) -> Reply
         ensures { rowed (Ok result) self.new ≡ terminal_do self.old option }
     {
         match option {
@@ -206,7 +217,7 @@ impl TermCore {
         }
     }
 
-    fn on_do_enhanced(&mut self) -> Reply
+    pub(crate) fn on_do_enhanced(&mut self) -> Reply
         ensures { rowed (Ok result) self.new ≡ do_enhanced self.old self.old.phase }
     {
         match self.phase {
@@ -224,7 +235,7 @@ impl TermCore {
     }
 
     /// WILL.
-    fn on_will(&mut self, option: TelnetOption) -> Reply
+    pub(crate) fn on_will(&mut self, option: TelnetOption) -> Reply
         ensures { rowed (Ok result) self.new ≡ terminal_will self.old option }
     {
         match option {
@@ -278,7 +289,7 @@ impl TermCore {
     }
 
     /// TERMINAL-TYPE SEND.
-    fn on_send_type(&mut self) -> Result<Reply, SessionFault>
+    pub(crate) fn on_send_type(&mut self) -> Result<Reply, SessionFault>
         ensures row { rowed result self.new ≡ terminal_send_type self.old self.old.terminal_type }
         ensures err { OnErr result (self.new ≡ self.old) }
     {
@@ -353,7 +364,7 @@ impl TermCore {
     }
 
     /// FUNCTIONS REQUEST.
-    fn on_functions_request(&mut self, list: FunctionList) -> Result<Reply, SessionFault>
+    pub(crate) fn on_functions_request(&mut self, list: FunctionList) -> Result<Reply, SessionFault>
         ensures row { rowed result self.new
             ≡ terminal_functions_request self.old list self.old.phase }
         ensures err { OnErr result (self.new ≡ self.old) }

@@ -20,9 +20,14 @@ use Rattle.tn_wire.specs.Header.{Headed, header_of}
 use Rattle.tn_wire.specs.Stream.{Told, told_record, told_verb, told_sub, told_passed}
 use Rattle.tn_cores.specs.declared.session.Agreed.{Agreed}
 use Rattle.tn_cores.specs.declared.session.SessionFault.{SessionFault}
-use Rattle.tn_cores.specs.declared.terminal.TermCore.{TermCore}
-use Rattle.tn_cores.specs.Steps.{Stepped, terminal_step}
-use Rattle.tn_cores.specs.Terminal.{terminal_agreed}
+use Rattle.tn_cores.specs.declared.device.Device.{Device}
+use Rattle.tn_cores.specs.declared.session.Told.{Told as Meant}
+use Rattle.tn_cores.specs.declared.session.Told.TheVariants.{Nothing as means_nothing, Ready as means_ready, Record as means_record}
+use Rattle.tn_cores.specs.Devices.{alternate_of, is_size}
+use Rattle.tn_session.specs.declared.end_core.EndCore.{EndCore}
+use Rattle.tn_session.specs.declared.end_core.EndCore.TheVariants.{Strict, Tolerant}
+use Rattle.tn_session.specs.EndCores.{core_step, core_agreed, is_tolerant}
+use Rattle.tn_cores.specs.Steps.{Stepped}
 use Rattle.tn_session.specs.declared.fault.RunFault.{RunFault}
 use Rattle.tn_session.specs.declared.fault.RunFault.TheVariants as faults
 use Rattle.tn_session.specs.declared.terminal_state.TerminalState.{TerminalState}
@@ -31,7 +36,7 @@ use Rattle.tn_session.specs.Runs.{Course, goes, finishes, fails, Log, going, fin
 use Rattle.tn_session.specs.Sent.{data_header}
 use Rattle.tn_session.specs.Strikes.{Strike, by_key, by_stroke, Struck, struck, struck_by}
 use Rattle.tn_session.specs.TerminalLog as log
-use Rattle.tn_session.specs.TerminalLog.{TerminalRunning, Doing, Typing, is_waiting, operator_at, typing, before, then_typed, standing, key_turned, typed_key, received_data, taken_data, taken_typed, taken_headed, taken_record, passed_over, with_core, stepped, by_core, terminal_start, terminal_act}
+use Rattle.tn_session.specs.TerminalLog.{TerminalRunning, Doing, Typing, is_waiting, operator_at, typing, before, then_typed, standing, key_turned, typed_key, received_data, taken_data, taken_typed, taken_headed, taken_record, passed_over, with_core, stepped, by_core, terminal_start, terminal_act, strictly_taken, goes_with, one_passed, one_ignored, one_more, positive, noting, dropped, tolerated_data, tolerated_typed, tolerated_headed, tolerated, dropping, fitted, renewed, heeding}
 use Rattle.tn_session.specs.TerminalTalk.{key_answer, worked_under}
 
 -- ---- one
@@ -75,7 +80,7 @@ under_same (Some agreed) state key off =
     }) (same state key off)
 
 pub strokes_are_keys : StrokesAreKeys
-strokes_are_keys state key off = under_same (terminal_agreed state.core) state key off
+strokes_are_keys state key off = under_same (core_agreed state.core) state key off
 
 -- ---- keys and records leave insert mode
 
@@ -202,31 +207,101 @@ headed_same : (agreed : Agreed) (running : TerminalRunning) (headed : Result Hea
 headed_same agreed running (Ok headed) pressing = data_type_same agreed headed.header running headed.rest headed.header.data_type pressing
 headed_same agreed running (Err why) pressing = failed_same (faults.Header why)
 
+-- the same at a tolerant terminal
+
+state_same : (due : List ℕ) (running : TerminalRunning) (state : TerminalState) → state.inserts ≡ running.state.inserts → IsPressing running
+    → SameLog (going due (record (striking running) { state = state })) (going due (record running { state = state }))
+state_same due running state same pressing = record { is = refl; goes_on = record { keys = pressing.keys; off = same ∙ pressing.off } }
+
+dropped_inserts : (t : Bool) (state : TerminalState)
+    → (cond t (record state { drops = false }) (record state { drops = false; ignored = one_more state.ignored })).inserts ≡ state.inserts
+dropped_inserts true state = refl
+dropped_inserts false state = refl
+
+empty_same : (agreed : Agreed) (header : Header) (running : TerminalRunning) (bytes : List ℕ) → IsPressing running
+    → SameLog (tolerated_data agreed header (striking running) bytes) (tolerated_data agreed header running bytes)
+empty_same agreed header running bytes pressing =
+    test_same (nat_eq (length bytes) 0) (goes_with (positive agreed header) (striking running) (one_passed running.state)) (taken_data agreed header (striking running) bytes)
+    (goes_with (positive agreed header) running (one_passed running.state)) (taken_data agreed header running bytes)
+    (state_same (positive agreed header) running (one_passed running.state) refl pressing) (data_same agreed header running bytes pressing)
+
+tolerated_type_same : (agreed : Agreed) (header : Header) (running : TerminalRunning) (bytes : List ℕ) (data_type : DataType) → IsPressing running
+    → SameLog (tolerated_typed agreed header (striking running) bytes data_type) (tolerated_typed agreed header running bytes data_type)
+tolerated_type_same agreed header running bytes Data3270 pressing = empty_same agreed header running bytes pressing
+tolerated_type_same agreed header running bytes Response pressing = state_same [] running (one_passed running.state) refl pressing
+tolerated_type_same agreed header running bytes ScsData pressing = state_same [] running (one_passed running.state) refl pressing
+tolerated_type_same agreed header running bytes BindImage pressing = state_same [] running (one_passed running.state) refl pressing
+tolerated_type_same agreed header running bytes Unbind pressing = state_same [] running (one_passed running.state) refl pressing
+tolerated_type_same agreed header running bytes NvtData pressing = state_same [] running (noting running.state bytes) refl pressing
+tolerated_type_same agreed header running bytes Request pressing = state_same [] running (one_passed running.state) refl pressing
+tolerated_type_same agreed header running bytes SscpLuData pressing = state_same [] running (one_passed running.state) refl pressing
+tolerated_type_same agreed header running bytes PrintEoj pressing = state_same [] running (one_passed running.state) refl pressing
+
+tolerated_head_same : (agreed : Agreed) (running : TerminalRunning) (headed : Result Headed HeaderFault) → IsPressing running
+    → SameLog (tolerated_headed agreed (striking running) headed) (tolerated_headed agreed running headed)
+tolerated_head_same agreed running (Ok headed) pressing = tolerated_type_same agreed headed.header running headed.rest headed.header.data_type pressing
+tolerated_head_same agreed running (Err why) pressing = state_same [] running (one_passed running.state) refl pressing
+
+tolerated_same : (agreed : Agreed) (running : TerminalRunning) (bytes : List ℕ) → IsPressing running
+    → SameLog (tolerated agreed (striking running) bytes) (tolerated agreed running bytes)
+tolerated_same agreed running bytes pressing =
+    test_same running.state.drops (goes_with [] (striking running) (dropped running.state bytes))
+    (cond agreed.enhanced (tolerated_headed agreed (striking running) (header_of bytes)) (tolerated_data agreed (data_header 0 0) (striking running) bytes))
+    (goes_with [] running (dropped running.state bytes))
+    (cond agreed.enhanced (tolerated_headed agreed running (header_of bytes)) (tolerated_data agreed (data_header 0 0) running bytes))
+    (state_same [] running (dropped running.state bytes) (dropped_inserts (nat_eq (length bytes) 0) running.state) pressing)
+    (test_same agreed.enhanced (tolerated_headed agreed (striking running) (header_of bytes)) (tolerated_data agreed (data_header 0 0) (striking running) bytes)
+    (tolerated_headed agreed running (header_of bytes)) (tolerated_data agreed (data_header 0 0) running bytes)
+    (tolerated_head_same agreed running (header_of bytes) pressing) (empty_same agreed (data_header 0 0) running bytes pressing))
+
 record_same : (running : TerminalRunning) (agreed : Option Agreed) (bytes : List ℕ) → IsPressing running
     → SameLog (taken_record (striking running) agreed bytes) (taken_record running agreed bytes)
-record_same running None bytes pressing = going_same [] running pressing
+record_same running None bytes pressing = state_same [] running (one_ignored running.state) refl pressing
 record_same running (Some agreed) bytes pressing =
-    test_same agreed.enhanced (taken_headed agreed (striking running) (header_of bytes)) (taken_data agreed (data_header 0 0) (striking running) bytes)
+    test_same (is_tolerant running.state.core) (tolerated agreed (striking running) bytes) (strictly_taken agreed (striking running) bytes)
+    (tolerated agreed running bytes) (strictly_taken agreed running bytes)
+    (tolerated_same agreed running bytes pressing)
+    (test_same agreed.enhanced (taken_headed agreed (striking running) (header_of bytes)) (taken_data agreed (data_header 0 0) (striking running) bytes)
     (taken_headed agreed running (header_of bytes)) (taken_data agreed (data_header 0 0) running bytes)
-    (headed_same agreed running (header_of bytes) pressing) (data_same agreed (data_header 0 0) running bytes pressing)
+    (headed_same agreed running (header_of bytes) pressing) (data_same agreed (data_header 0 0) running bytes pressing))
 
-cored : (running : TerminalRunning) (core : TermCore) → IsPressing running → IsPressing (with_core running core)
+cored : (running : TerminalRunning) (core : EndCore) → IsPressing running → IsPressing (with_core running core)
 cored running core pressing = record { keys = pressing.keys; off = pressing.off }
 
-stepped_same : (running : TerminalRunning) (event : Told) (step : Stepped TermCore) → IsPressing running
-    → SameLog (stepped (striking running) event step) (stepped running event step)
-stepped_same running (told_record bytes) step pressing = record_same (with_core running step.core) (terminal_agreed step.core) bytes (cored running step.core pressing)
-stepped_same running (told_verb verb option) step pressing = going_same _ (with_core running step.core) (cored running step.core pressing)
-stepped_same running (told_sub option parameters) step pressing = going_same _ (with_core running step.core) (cored running step.core pressing)
-stepped_same running (told_passed byte) step pressing = going_same _ (with_core running step.core) (cored running step.core pressing)
+dropping_inserts : (told : Meant) (state : TerminalState) → (dropping told state).inserts ≡ state.inserts
+dropping_inserts (means_ready agreed) state = refl
+dropping_inserts means_nothing state = refl
+dropping_inserts means_record state = refl
 
-core_same : (running : TerminalRunning) (event : Told) (step : Result (Stepped TermCore) SessionFault) → IsPressing running
+anew_inserts : (t : Bool) (state anew : TerminalState) → anew.inserts ≡ state.inserts → (cond t state anew).inserts ≡ state.inserts
+anew_inserts true state anew same = refl
+anew_inserts false state anew same = same
+
+fitted_inserts : (device : Device) (state : TerminalState) → (fitted device state).inserts ≡ state.inserts
+fitted_inserts device state =
+    anew_inserts (is_size state.terminal.geometry.alternate (alternate_of device.model)) state (renewed device state) refl
+
+heeding_inserts : (core : EndCore) (told : Meant) (state : TerminalState) → (heeding core told state).inserts ≡ state.inserts
+heeding_inserts (Strict core) told state = refl
+heeding_inserts (Tolerant core) told state = fitted_inserts core.core.device (dropping told state) ∙ dropping_inserts told state
+
+stepped_same : (running : TerminalRunning) (event : Told) (step : Stepped EndCore) → IsPressing running
+    → SameLog (stepped (striking running) event step) (stepped running event step)
+stepped_same running (told_record bytes) step pressing = record_same (with_core running step.core) (core_agreed step.core) bytes (cored running step.core pressing)
+stepped_same running (told_verb verb option) step pressing = state_same _ running (heeding step.core step.told (record running.state { core = step.core }))
+    (heeding_inserts step.core step.told (record running.state { core = step.core })) pressing
+stepped_same running (told_sub option parameters) step pressing = state_same _ running (heeding step.core step.told (record running.state { core = step.core }))
+    (heeding_inserts step.core step.told (record running.state { core = step.core })) pressing
+stepped_same running (told_passed byte) step pressing = state_same _ running (heeding step.core step.told (record running.state { core = step.core }))
+    (heeding_inserts step.core step.told (record running.state { core = step.core })) pressing
+
+core_same : (running : TerminalRunning) (event : Told) (step : Result (Stepped EndCore) SessionFault) → IsPressing running
     → SameLog (by_core (striking running) event step) (by_core running event step)
 core_same running event (Ok step) pressing = stepped_same running event step pressing
 core_same running event (Err why) pressing = failed_same (faults.Session why)
 
 act_same : (running : TerminalRunning) (event : Told) → IsPressing running → SameLog (terminal_act (striking running) event) (terminal_act running event)
-act_same running event pressing = core_same running event (terminal_step running.state.core event) pressing
+act_same running event pressing = core_same running event (core_step running.state.core event) pressing
 
 -- ---- all events
 

@@ -20,3 +20,5 @@ pub mod Heard
 pub mod TouchedPairs
 pub mod LayoutKept
 pub mod OutcomeLaws
+pub mod TolerantWork
+pub mod TolerantSteps

@@ -61,7 +61,7 @@ pieces_none wire = record {
   flushes = refl;
 }
 
-pub pieces_sent : (old mid new : WireState) → ReadsInPieces old mid → IsWrite mid new → ReadsInPieces old new
+unfoldable pub pieces_sent : (old mid new : WireState) → ReadsInPieces old mid → IsWrite mid new → ReadsInPieces old new
 pieces_sent old mid new p w = record {
   count = p.count;
   few = p.few;

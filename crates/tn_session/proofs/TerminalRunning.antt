@@ -5,9 +5,9 @@ use Rattle.ds_codec.specs.Geometry.{Sizes}
 use Rattle.ds_screen.specs.Picture.{Picture}
 use Rattle.ds_screen.specs.Records.{new_picture}
 use Rattle.tn_cores.specs.declared.device.Device.{Device}
-use Rattle.tn_cores.specs.declared.terminal.TermCore.{TermCore}
 use Rattle.tn_cores.specs.Devices.{sizes_of}
-use Rattle.tn_cores.specs.Terminal.{new_terminal}
+use Rattle.tn_session.specs.declared.end_core.EndCore.{EndCore}
+use Rattle.tn_session.specs.Noted.{Noted, nothing_noted}
 use Rattle.tn_session.specs.declared.fault.RunFault.{RunFault}
 use Rattle.tn_session.specs.declared.terminal_state.TerminalState.{TerminalState}
 use Rattle.tn_session.specs.declared.fault.RunFault.TheVariants as faults
@@ -20,11 +20,11 @@ use Rattle.tn_session.specs.OneLog.{waits}
 use Rattle.tn_session.specs.RanSession.{EndsAs, RanSession}
 use Rattle.tn_session.specs.Strikes.{Strike}
 use Rattle.tn_session.specs.Talk.{Talk, stands, IsMachineOf}
-use Rattle.tn_session.specs.TerminalLog.{TerminalRunning, new_terminal_state, terminal_start, terminal_act}
+use Rattle.tn_session.specs.TerminalLog.{TerminalRunning, begun_state, new_terminal_state, terminal_start, terminal_act}
 use Rattle.tn_session.specs.TerminalRuns.{TerminalRan, finish_of, end_of, report_of}
 
-abbrev state_with : TermCore → Picture → TerminalState
-state_with core picture = record {
+abbrev state_with : EndCore → Picture → Noted → TerminalState
+state_with core picture noted = record {
   core = core;
   terminal = picture;
   inserts = false;
@@ -34,14 +34,16 @@ state_with core picture = record {
   taken = 0;
   passed = 0;
   refused = 0;
+  ignored = 0;
+  drops = false;
+  noted = noted;
   kept = None;
 }
 
-pub new_so : (device : Device) (enhanced responses : Bool) (core : TermCore) (picture : Picture) (geometry : Sizes) → core ≡ new_terminal device enhanced responses
-    → picture ≡ new_picture geometry → geometry ≡ sizes_of device.model → state_with core picture ≡ new_terminal_state device enhanced responses
-new_so device enhanced responses core picture geometry made shown sized =
-    ap (λ (c : TermCore). state_with c picture) made
-    ∙ ap (λ (v : Picture). state_with (new_terminal device enhanced responses) v) (shown ∙ ap new_picture sized)
+pub begun_so : (core : EndCore) (device : Device) (picture : Picture) (geometry : Sizes) (noted : Noted) → picture ≡ new_picture geometry
+    → geometry ≡ sizes_of device.model → noted ≡ nothing_noted → state_with core picture noted ≡ begun_state core device
+begun_so core device picture geometry noted shown sized empty =
+    ap (λ (v : Picture). state_with core v noted) (shown ∙ ap new_picture sized) ∙ ap (λ (n : Noted). state_with core (new_picture (sizes_of device.model)) n) empty
 
 finish_again : (how : Finish) → finish_of (end_of how) ≡ how
 finish_again finish.Finished = refl

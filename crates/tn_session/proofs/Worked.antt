@@ -11,17 +11,17 @@ use Rattle.tn_wire.specs.Header.{Headed, header_of}
 use Rattle.tn_wire.specs.Stream.{Told, told_record, told_verb, told_sub, told_passed}
 use Rattle.tn_cores.specs.declared.session.Agreed.{Agreed}
 use Rattle.tn_cores.specs.declared.session.SessionFault.{SessionFault}
-use Rattle.tn_cores.specs.declared.terminal.TermCore.{TermCore}
-use Rattle.tn_cores.specs.Steps.{Stepped, terminal_step}
-use Rattle.tn_cores.specs.Terminal.{terminal_agreed}
+use Rattle.tn_session.specs.declared.end_core.EndCore.{EndCore}
+use Rattle.tn_cores.specs.Steps.{Stepped}
 use Rattle.tn_session.specs.declared.fault.RunFault.{RunFault}
 use Rattle.tn_session.specs.declared.fault.RunFault.TheVariants as faults
 use Rattle.tn_session.specs.declared.terminal_state.TerminalState.{TerminalState}
+use Rattle.tn_session.specs.EndCores.{core_step, core_agreed, is_tolerant}
 use Rattle.tn_session.specs.Acts.{Deed, came, pressed, worked_log, events_in, keys_in, AreLeft, IsWorked, RunsAreWorked}
 use Rattle.tn_session.specs.Runs.{Course, goes, finishes, fails, Log, going, finished, failed, log_on, log_of}
 use Rattle.tn_session.specs.Strikes.{Strike, strike_aid, Struck, struck_by}
 use Rattle.tn_session.specs.TerminalLog as log
-use Rattle.tn_session.specs.TerminalLog.{TerminalRunning, Doing, Typing, is_waiting, typing, before, then_typed, standing, typed_key, received_data, taken_data, taken_typed, taken_headed, taken_record, passed_over, with_core, stepped, by_core, terminal_act}
+use Rattle.tn_session.specs.TerminalLog.{TerminalRunning, Doing, Typing, is_waiting, typing, before, then_typed, standing, typed_key, received_data, taken_data, taken_typed, taken_headed, strictly_taken, taken_record, passed_over, positive, tolerated_data, tolerated_typed, tolerated_headed, tolerated, one_passed, one_ignored, noting, dropped, heeding, with_core, stepped, by_core, terminal_act}
 use Rattle.tn_session.specs.Sent.{data_header}
 use Rattle.tn_session.specs.TerminalTalk.{unkeyed, heard_act, worked_under, worked}
 
@@ -73,15 +73,15 @@ none_typed : (agreed : Agreed) (state : TerminalState) (keys : List Strike) → 
 none_typed agreed state keys = record { used = []; keys_are = refl; log_is = refl }
 
 -- a key of a session that is ready is typed
-worked_typed : (agreed : Agreed) (state : TerminalState) (key : Strike) (deeds : List Deed) → terminal_agreed state.core ≡ Some agreed
+worked_typed : (agreed : Agreed) (state : TerminalState) (key : Strike) (deeds : List Deed) → core_agreed state.core ≡ Some agreed
     → worked_log state (pressed key ∷ deeds) ≡ log_on (typed_key agreed state key).due (goes (typed_key agreed state key).state) (λ next. worked_log next deeds)
 worked_typed agreed state key deeds ready =
     ap (λ (o : Option Agreed). log_on (worked_under o state key).due (goes (worked_under o state key).state) (λ next. worked_log next deeds)) ready
 
-typing_typed : (agreed : Agreed) (state : TerminalState) (keys : List Strike) → terminal_agreed state.core ≡ Some agreed → IsTyped agreed state keys (typing agreed state keys)
+typing_typed : (agreed : Agreed) (state : TerminalState) (keys : List Strike) → core_agreed state.core ≡ Some agreed → IsTyped agreed state keys (typing agreed state keys)
 typing_typed agreed state [] ready = none_typed agreed state []
 typing_typed agreed state (key ∷ keys) ready =
-    by_lock (is_waiting state.terminal.lock) (typing_typed agreed (typed_key agreed state key).state keys (ap terminal_agreed (typed_core agreed state key) ∙ ready))
+    by_lock (is_waiting state.terminal.lock) (typing_typed agreed (typed_key agreed state key).state keys (ap core_agreed (typed_core agreed state key) ∙ ready))
   where
     by_lock : (t : Bool) → IsTyped agreed (typed_key agreed state key).state keys (typing agreed (typed_key agreed state key).state keys)
         → IsTyped agreed state (key ∷ keys) (cond t (record { due = []; running = run_of state (key ∷ keys) }) (before (typed_key agreed state key).due (typing agreed (typed_key agreed state key).state keys)))
@@ -122,7 +122,7 @@ stands_left : (t : Bool) (typed : Typing) → AreLeft typed.running.keys (cond t
 stands_left true typed = refl
 stands_left false typed = refl
 
-typed_follows : (agreed : Agreed) (keys : List Strike) (did : Doing) → terminal_agreed did.state.core ≡ Some agreed
+typed_follows : (agreed : Agreed) (keys : List Strike) (did : Doing) → core_agreed did.state.core ≡ Some agreed
     → Follows keys (standing (then_typed agreed [] did)) (standing (then_typed agreed keys did))
 typed_follows agreed keys did ready =
     let typed : Typing = then_typed agreed keys did in
@@ -140,15 +140,15 @@ typed_follows agreed keys did ready =
           ∙ sym (stands_unkeyed (typed.running.state.was_free && nat_eq (length typed.running.keys) 0) typed);
     }
 
-data_follows : (agreed : Agreed) (header : Header) (keys : List Strike) (state : TerminalState) (bytes : List ℕ) → terminal_agreed state.core ≡ Some agreed
+data_follows : (agreed : Agreed) (header : Header) (keys : List Strike) (state : TerminalState) (bytes : List ℕ) → core_agreed state.core ≡ Some agreed
     → Follows keys (taken_data agreed header (run_of state []) bytes) (taken_data agreed header (run_of state keys) bytes)
 data_follows agreed header keys state bytes ready =
-    typed_follows agreed keys (received_data agreed header state bytes) (ap terminal_agreed (received_core agreed header state bytes) ∙ ready)
+    typed_follows agreed keys (received_data agreed header state bytes) (ap core_agreed (received_core agreed header state bytes) ∙ ready)
 
 passed_follows : (keys : List Strike) (state : TerminalState) → Follows keys (passed_over (run_of state [])) (passed_over (run_of state keys))
 passed_follows keys state = going_follows keys [] (record state { passed = log.one_more state.passed })
 
-typed_data_follows : (agreed : Agreed) (header : Header) (keys : List Strike) (state : TerminalState) (bytes : List ℕ) (data_type : DataType) → terminal_agreed state.core ≡ Some agreed
+typed_data_follows : (agreed : Agreed) (header : Header) (keys : List Strike) (state : TerminalState) (bytes : List ℕ) (data_type : DataType) → core_agreed state.core ≡ Some agreed
     → Follows keys (taken_typed agreed header (run_of state []) bytes data_type) (taken_typed agreed header (run_of state keys) bytes data_type)
 typed_data_follows agreed header keys state bytes Data3270 ready = data_follows agreed header keys state bytes ready
 typed_data_follows agreed header keys state bytes Response ready = passed_follows keys state
@@ -160,34 +160,76 @@ typed_data_follows agreed header keys state bytes Request ready = passed_follows
 typed_data_follows agreed header keys state bytes SscpLuData ready = passed_follows keys state
 typed_data_follows agreed header keys state bytes PrintEoj ready = passed_follows keys state
 
-headed_follows : (agreed : Agreed) (keys : List Strike) (state : TerminalState) (headed : Result Headed HeaderFault) → terminal_agreed state.core ≡ Some agreed
+headed_follows : (agreed : Agreed) (keys : List Strike) (state : TerminalState) (headed : Result Headed HeaderFault) → core_agreed state.core ≡ Some agreed
     → Follows keys (taken_headed agreed (run_of state []) headed) (taken_headed agreed (run_of state keys) headed)
 headed_follows agreed keys state (Ok headed) ready = typed_data_follows agreed headed.header keys state headed.rest headed.header.data_type ready
 headed_follows agreed keys state (Err why) ready = fail_follows keys (faults.Header why)
 
-record_follows : (keys : List Strike) (state : TerminalState) (agreed : Option Agreed) (bytes : List ℕ) → terminal_agreed state.core ≡ agreed
-    → Follows keys (taken_record (run_of state []) agreed bytes) (taken_record (run_of state keys) agreed bytes)
-record_follows keys state None bytes ready = going_follows keys [] state
-record_follows keys state (Some agreed) bytes ready =
-    test_follows keys agreed.enhanced (taken_headed agreed (run_of state []) (header_of bytes)) (taken_data agreed (data_header 0 0) (run_of state []) bytes)
-    (taken_headed agreed (run_of state keys) (header_of bytes)) (taken_data agreed (data_header 0 0) (run_of state keys) bytes)
-    (headed_follows agreed keys state (header_of bytes) ready) (data_follows agreed (data_header 0 0) keys state bytes ready)
+-- the same at a tolerant terminal
 
-stepped_follows : (keys : List Strike) (state : TerminalState) (event : Told) (step : Stepped TermCore)
+empty_follows : (agreed : Agreed) (header : Header) (keys : List Strike) (state : TerminalState) (bytes : List ℕ) → core_agreed state.core ≡ Some agreed
+    → Follows keys (tolerated_data agreed header (run_of state []) bytes) (tolerated_data agreed header (run_of state keys) bytes)
+empty_follows agreed header keys state bytes ready =
+    test_follows keys (nat_eq (length bytes) 0) (going (positive agreed header) (run_of (one_passed state) [])) (taken_data agreed header (run_of state []) bytes)
+    (going (positive agreed header) (run_of (one_passed state) keys)) (taken_data agreed header (run_of state keys) bytes)
+    (going_follows keys (positive agreed header) (one_passed state)) (data_follows agreed header keys state bytes ready)
+
+tolerated_type_follows : (agreed : Agreed) (header : Header) (keys : List Strike) (state : TerminalState) (bytes : List ℕ) (data_type : DataType)
+    → core_agreed state.core ≡ Some agreed
+    → Follows keys (tolerated_typed agreed header (run_of state []) bytes data_type) (tolerated_typed agreed header (run_of state keys) bytes data_type)
+tolerated_type_follows agreed header keys state bytes Data3270 ready = empty_follows agreed header keys state bytes ready
+tolerated_type_follows agreed header keys state bytes Response ready = going_follows keys [] (one_passed state)
+tolerated_type_follows agreed header keys state bytes ScsData ready = going_follows keys [] (one_passed state)
+tolerated_type_follows agreed header keys state bytes BindImage ready = going_follows keys [] (one_passed state)
+tolerated_type_follows agreed header keys state bytes Unbind ready = going_follows keys [] (one_passed state)
+tolerated_type_follows agreed header keys state bytes NvtData ready = going_follows keys [] (noting state bytes)
+tolerated_type_follows agreed header keys state bytes Request ready = going_follows keys [] (one_passed state)
+tolerated_type_follows agreed header keys state bytes SscpLuData ready = going_follows keys [] (one_passed state)
+tolerated_type_follows agreed header keys state bytes PrintEoj ready = going_follows keys [] (one_passed state)
+
+tolerated_head_follows : (agreed : Agreed) (keys : List Strike) (state : TerminalState) (headed : Result Headed HeaderFault) → core_agreed state.core ≡ Some agreed
+    → Follows keys (tolerated_headed agreed (run_of state []) headed) (tolerated_headed agreed (run_of state keys) headed)
+tolerated_head_follows agreed keys state (Ok headed) ready = tolerated_type_follows agreed headed.header keys state headed.rest headed.header.data_type ready
+tolerated_head_follows agreed keys state (Err why) ready = going_follows keys [] (one_passed state)
+
+tolerated_follows : (agreed : Agreed) (keys : List Strike) (state : TerminalState) (bytes : List ℕ) → core_agreed state.core ≡ Some agreed
+    → Follows keys (tolerated agreed (run_of state []) bytes) (tolerated agreed (run_of state keys) bytes)
+tolerated_follows agreed keys state bytes ready =
+    test_follows keys state.drops (going [] (run_of (dropped state bytes) []))
+    (cond agreed.enhanced (tolerated_headed agreed (run_of state []) (header_of bytes)) (tolerated_data agreed (data_header 0 0) (run_of state []) bytes))
+    (going [] (run_of (dropped state bytes) keys))
+    (cond agreed.enhanced (tolerated_headed agreed (run_of state keys) (header_of bytes)) (tolerated_data agreed (data_header 0 0) (run_of state keys) bytes))
+    (going_follows keys [] (dropped state bytes))
+    (test_follows keys agreed.enhanced (tolerated_headed agreed (run_of state []) (header_of bytes)) (tolerated_data agreed (data_header 0 0) (run_of state []) bytes)
+    (tolerated_headed agreed (run_of state keys) (header_of bytes)) (tolerated_data agreed (data_header 0 0) (run_of state keys) bytes)
+    (tolerated_head_follows agreed keys state (header_of bytes) ready) (empty_follows agreed (data_header 0 0) keys state bytes ready))
+
+record_follows : (keys : List Strike) (state : TerminalState) (agreed : Option Agreed) (bytes : List ℕ) → core_agreed state.core ≡ agreed
+    → Follows keys (taken_record (run_of state []) agreed bytes) (taken_record (run_of state keys) agreed bytes)
+record_follows keys state None bytes ready = going_follows keys [] (one_ignored state)
+record_follows keys state (Some agreed) bytes ready =
+    test_follows keys (is_tolerant state.core) (tolerated agreed (run_of state []) bytes) (strictly_taken agreed (run_of state []) bytes)
+    (tolerated agreed (run_of state keys) bytes) (strictly_taken agreed (run_of state keys) bytes)
+    (tolerated_follows agreed keys state bytes ready)
+    (test_follows keys agreed.enhanced (taken_headed agreed (run_of state []) (header_of bytes)) (taken_data agreed (data_header 0 0) (run_of state []) bytes)
+    (taken_headed agreed (run_of state keys) (header_of bytes)) (taken_data agreed (data_header 0 0) (run_of state keys) bytes)
+    (headed_follows agreed keys state (header_of bytes) ready) (data_follows agreed (data_header 0 0) keys state bytes ready))
+
+stepped_follows : (keys : List Strike) (state : TerminalState) (event : Told) (step : Stepped EndCore)
     → Follows keys (stepped (run_of state []) event step) (stepped (run_of state keys) event step)
 stepped_follows keys state (told_record bytes) step =
-    record_follows keys (record state { core = step.core }) (terminal_agreed step.core) bytes refl
-stepped_follows keys state (told_verb verb option) step = going_follows keys _ (record state { core = step.core })
-stepped_follows keys state (told_sub option parameters) step = going_follows keys _ (record state { core = step.core })
-stepped_follows keys state (told_passed byte) step = going_follows keys _ (record state { core = step.core })
+    record_follows keys (record state { core = step.core }) (core_agreed step.core) bytes refl
+stepped_follows keys state (told_verb verb option) step = going_follows keys _ (heeding step.core step.told (record state { core = step.core }))
+stepped_follows keys state (told_sub option parameters) step = going_follows keys _ (heeding step.core step.told (record state { core = step.core }))
+stepped_follows keys state (told_passed byte) step = going_follows keys _ (heeding step.core step.told (record state { core = step.core }))
 
-core_follows : (keys : List Strike) (state : TerminalState) (event : Told) (step : Result (Stepped TermCore) SessionFault)
+core_follows : (keys : List Strike) (state : TerminalState) (event : Told) (step : Result (Stepped EndCore) SessionFault)
     → Follows keys (by_core (run_of state []) event step) (by_core (run_of state keys) event step)
 core_follows keys state event (Ok step) = stepped_follows keys state event step
 core_follows keys state event (Err why) = fail_follows keys (faults.Session why)
 
 event_follows : (running : TerminalRunning) (event : Told) → Follows running.keys (terminal_act (run_of running.state []) event) (terminal_act running event)
-event_follows running event = core_follows running.keys running.state event (terminal_step running.state.core event)
+event_follows running event = core_follows running.keys running.state event (core_step running.state.core event)
 
 -- ---- all events
 

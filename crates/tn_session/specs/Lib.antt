@@ -1,5 +1,7 @@
 pub mod Sent
 pub mod Runs
+pub mod EndCores
+pub mod Noted
 pub mod Kept
 pub mod KeptView
 pub mod Strikes
@@ -16,6 +18,7 @@ pub mod SessionView
 pub mod RanSession
 pub mod Pieces
 pub mod TerminalTalk
+pub mod TolerantRuns
 pub mod Acts
 pub mod KeyStrokes
 pub mod Outcomes

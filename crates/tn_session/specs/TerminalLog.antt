@@ -12,20 +12,26 @@ use Rattle.ds_terminal.specs.Terminal.{Reply, shown, answered, nothing, refused,
 use Rattle.tn_wire.specs.declared.header.Header.{Header}
 use Rattle.tn_wire.specs.declared.header.HeaderFault.{HeaderFault}
 use Rattle.tn_wire.specs.declared.header.DataType.{DataType}
-use Rattle.tn_wire.specs.declared.header.DataType.TheVariants.{Data3270, Response}
+use Rattle.tn_wire.specs.declared.header.DataType.TheVariants.{Data3270, Response, NvtData}
 use Rattle.tn_wire.specs.Header.{Headed, header_bytes, header_of}
 use Rattle.tn_wire.specs.Stream.{Told, told_record}
 use Rattle.tn_cores.specs.declared.device.Device.{Device}
 use Rattle.tn_cores.specs.declared.session.Agreed.{Agreed}
 use Rattle.tn_cores.specs.declared.session.SessionFault.{SessionFault}
-use Rattle.tn_cores.specs.declared.terminal.TermCore.{TermCore}
-use Rattle.tn_cores.specs.Devices.{sizes_of}
+use Rattle.tn_cores.specs.declared.session.Told.{Told as Meant}
+use Rattle.tn_cores.specs.declared.session.Told.TheVariants.{Nothing as means_nothing, Ready as means_ready, Record as means_record}
+use Rattle.tn_cores.specs.Devices.{sizes_of, alternate_of, is_size}
 use Rattle.tn_cores.specs.Replies.{bytes_of}
-use Rattle.tn_cores.specs.Steps.{Stepped, terminal_step}
-use Rattle.tn_cores.specs.Terminal.{new_terminal, terminal_agreed}
+use Rattle.tn_cores.specs.Steps.{Stepped}
+use Rattle.tn_cores.specs.Terminal.{new_terminal}
+use Rattle.tn_cores.specs.Tolerant.{new_tolerant}
+use Rattle.tn_session.specs.declared.end_core.EndCore.{EndCore}
+use Rattle.tn_session.specs.declared.end_core.EndCore.TheVariants.{Strict, Tolerant}
+use Rattle.tn_session.specs.EndCores.{core_step, core_agreed, is_tolerant}
 use Rattle.tn_session.specs.declared.fault.RunFault.TheVariants as faults
 use Rattle.tn_session.specs.declared.terminal_state.TerminalState.{TerminalState}
-use Rattle.tn_session.specs.Kept.{nothing_kept, keep_record, keep_key}
+use Rattle.tn_session.specs.Kept.{Keeping, nothing_kept, keep_record, keep_key}
+use Rattle.tn_session.specs.Noted.{nothing_noted, note_bytes}
 use Rattle.tn_session.specs.Runs.{Log, going, finished, failed}
 use Rattle.tn_session.specs.Sent.{framed, next_sequence, sent_data, data_header}
 use Rattle.tn_session.specs.Strikes.{Strike, strike_aid, Struck, struck_by}
@@ -35,9 +41,9 @@ pub record TerminalRunning : Type 0 where
   pub state : TerminalState
   pub keys : List Strike
 
-abbrev pub new_terminal_state : Device → Bool → Bool → TerminalState
-new_terminal_state device enhanced responses = record {
-  core = new_terminal device enhanced responses;
+abbrev pub begun_state : EndCore → Device → TerminalState
+begun_state core device = record {
+  core = core;
   terminal = new_picture (sizes_of device.model);
   inserts = false;
   sequence = 0;
@@ -46,8 +52,19 @@ new_terminal_state device enhanced responses = record {
   taken = 0;
   passed = 0;
   refused = 0;
+  ignored = 0;
+  drops = false;
+  noted = nothing_noted;
   kept = None;
 }
+
+abbrev pub new_terminal_state : Device → Bool → Bool → TerminalState
+new_terminal_state device enhanced responses = begun_state (Strict (new_terminal device enhanced responses)) device
+
+-- a tolerant one, which keeps the records of its screen
+abbrev pub tolerant_terminal : Device → Bool → Bool → TerminalState
+tolerant_terminal device enhanced responses =
+    record (begun_state (Tolerant (new_tolerant device enhanced responses)) device) { kept = Some nothing_kept }
 
 -- one that keeps the records of its screen
 abbrev pub keeping_terminal : Device → Bool → Bool → TerminalState
@@ -208,24 +225,101 @@ abbrev pub taken_headed : Agreed → TerminalRunning → Result Headed HeaderFau
 taken_headed agreed running (Ok headed) = taken_typed agreed headed.header running headed.rest headed.header.data_type
 taken_headed agreed running (Err why) = failed (faults.Header why)
 
+-- ---- records at a tolerant terminal
+
+-- a run goes on with this state, and these bytes are due
+abbrev pub goes_with : List ℕ → TerminalRunning → TerminalState → Log TerminalRunning
+goes_with due running state = going due (record running { state = state })
+
+abbrev pub one_passed : TerminalState → TerminalState
+one_passed state = record state { passed = one_more state.passed }
+
+-- a record that comes while none passes
+abbrev pub one_ignored : TerminalState → TerminalState
+one_ignored state = record state { ignored = one_more state.ignored }
+
+-- what was open when records began to pass: it is counted where it has data
+abbrev pub dropped : TerminalState → List ℕ → TerminalState
+dropped state bytes =
+    if length bytes == 0 then record state { drops = false } else record state { drops = false; ignored = one_more state.ignored }
+
+-- a record without data is passed over, and answered where a response is wanted always
+abbrev pub tolerated_data : Agreed → Header → TerminalRunning → List ℕ → Log TerminalRunning
+tolerated_data agreed header running bytes =
+    if length bytes == 0 then goes_with (positive agreed header) running (one_passed running.state) else taken_data agreed header running bytes
+
+-- the text of NVT-DATA is kept
+abbrev pub noting : TerminalState → List ℕ → TerminalState
+noting state bytes = record state { passed = one_more state.passed; noted = note_bytes state.noted bytes }
+
+abbrev pub tolerated_typed : Agreed → Header → TerminalRunning → List ℕ → DataType → Log TerminalRunning
+tolerated_typed agreed header running bytes Data3270 = tolerated_data agreed header running bytes
+tolerated_typed agreed header running bytes NvtData = goes_with [] running (noting running.state bytes)
+tolerated_typed agreed header running bytes _ = goes_with [] running (one_passed running.state)
+
+-- a record without a header, or of an unknown type, is passed over
+abbrev pub tolerated_headed : Agreed → TerminalRunning → Result Headed HeaderFault → Log TerminalRunning
+tolerated_headed agreed running (Ok headed) = tolerated_typed agreed headed.header running headed.rest headed.header.data_type
+tolerated_headed agreed running (Err why) = goes_with [] running (one_passed running.state)
+
+abbrev pub tolerated : Agreed → TerminalRunning → List ℕ → Log TerminalRunning
+tolerated agreed running bytes =
+    if running.state.drops then goes_with [] running (dropped running.state bytes)
+    else (if agreed.enhanced then tolerated_headed agreed running (header_of bytes)
+    else tolerated_data agreed (data_header 0 0) running bytes)
+
+-- ---- records
+
 -- a record of a classic session has no header, and wants no response
-abbrev pub taken_record : TerminalRunning → Option Agreed → List ℕ → Log TerminalRunning
-taken_record running None bytes = going [] running
-taken_record running (Some agreed) bytes =
+abbrev pub strictly_taken : Agreed → TerminalRunning → List ℕ → Log TerminalRunning
+strictly_taken agreed running bytes =
     if agreed.enhanced then taken_headed agreed running (header_of bytes) else taken_data agreed (data_header 0 0) running bytes
 
-abbrev pub with_core : TerminalRunning → TermCore → TerminalRunning
+abbrev pub taken_record : TerminalRunning → Option Agreed → List ℕ → Log TerminalRunning
+taken_record running None bytes = goes_with [] running (one_ignored running.state)
+taken_record running (Some agreed) bytes =
+    if is_tolerant running.state.core then tolerated agreed running bytes else strictly_taken agreed running bytes
+
+abbrev pub with_core : TerminalRunning → EndCore → TerminalRunning
 with_core running core = record running { state = record running.state { core = core } }
 
--- what the session's core makes of an event; a record is the terminal's
-abbrev pub stepped : TerminalRunning → Told → Stepped TermCore → Log TerminalRunning
-stepped running (told_record bytes) step = taken_record (with_core running step.core) (terminal_agreed step.core) bytes
-stepped running event step = going (bytes_of step.reply) (with_core running step.core)
+-- ---- other events
 
-abbrev pub by_core : TerminalRunning → Told → Result (Stepped TermCore) SessionFault → Log TerminalRunning
+abbrev pub kept_anew : Option Keeping → Option Keeping
+kept_anew None = None
+kept_anew (Some keeping) = Some nothing_kept
+
+-- the screen is made anew
+abbrev pub renewed : Device → TerminalState → TerminalState
+renewed device state = record state { terminal = new_picture (sizes_of device.model); kept = kept_anew state.kept }
+
+-- where it isn't that of the device's model
+abbrev pub fitted : Device → TerminalState → TerminalState
+fitted device state = if is_size state.terminal.geometry.alternate (alternate_of device.model) then state else renewed device state
+
+-- once records begin to pass, what is open of one is to be dropped
+abbrev pub dropping : Meant → TerminalState → TerminalState
+dropping (means_ready agreed) state = record state { drops = true }
+dropping means_nothing state = state
+dropping means_record state = state
+
+-- what an event that is no record leaves at a tolerant terminal, whose device may be another
+abbrev pub heeding : EndCore → Meant → TerminalState → TerminalState
+heeding (Strict core) told state = state
+heeding (Tolerant core) told state = fitted core.core.device (dropping told state)
+
+abbrev pub heeded : TerminalRunning → Stepped EndCore → TerminalRunning
+heeded running step = record running { state = heeding step.core step.told (record running.state { core = step.core }) }
+
+-- what the session's core makes of an event; a record is the terminal's
+abbrev pub stepped : TerminalRunning → Told → Stepped EndCore → Log TerminalRunning
+stepped running (told_record bytes) step = taken_record (with_core running step.core) (core_agreed step.core) bytes
+stepped running event step = going (bytes_of step.reply) (heeded running step)
+
+abbrev pub by_core : TerminalRunning → Told → Result (Stepped EndCore) SessionFault → Log TerminalRunning
 by_core running event (Ok step) = stepped running event step
 by_core running event (Err why) = failed (faults.Session why)
 
 -- one event
 abbrev pub terminal_act : TerminalRunning → Told → Log TerminalRunning
-terminal_act running event = by_core running event (terminal_step running.state.core event)
+terminal_act running event = by_core running event (core_step running.state.core event)

@@ -9,6 +9,8 @@ pub struct Arrived {
     pub refused: u64,
     /// Records of other types that were passed over.
     pub passed: u64,
+    /// What came while no record passes, at a tolerant terminal.
+    pub ignored: u64,
     /// Answers that were sent, to reads and to keys.
     pub answers: u64,
 }

@@ -6,6 +6,7 @@
 #![tactic(auto)]
 
 mod arrived;
+mod end_core;
 mod fault;
 mod history;
 mod host_line;
@@ -15,6 +16,7 @@ mod kept;
 mod keystroke;
 mod laws;
 mod machine;
+mod noted;
 mod outcome;
 mod pressed;
 mod progress;
@@ -30,6 +32,7 @@ mod terminal_machine;
 mod terminal_session;
 mod terminal_state;
 mod terminal_turns;
+mod tolerant_line;
 mod turn;
 mod wire;
 
@@ -44,12 +47,13 @@ pub use laws::{key_law, one_log, outcome_law, pieces_law, work_law};
 pub use outcome::HostOutcome;
 pub use pressed::Pressed;
 pub use progress::Progress;
-pub use report::{Report, RunEnd};
+pub use report::{Report, RunEnd, TolerantReport};
 pub use stop::Stop;
 pub use terminal_line::terminal_run;
 pub use terminal_session::TerminalSession;
 pub use tn_cores::{
     Agreed, Device, DeviceName, HostCore, Out, ScreenModel, SessionFault, TermCore, Told,
-    delivery_law, pair_law, reply_law, trace_law,
+    TolerantCore, delivery_law, pair_law, reply_law, storm_law, tolerant_pair_law, trace_law,
 };
+pub use tolerant_line::tolerant_run;
 pub use wire::Wire;

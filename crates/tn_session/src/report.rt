@@ -21,3 +21,20 @@ pub struct Report {
     /// Records that were refused.
     pub refused: u64,
 }
+
+/// What a tolerant terminal's run did.
+#[derive(Clone, Copy, Debug, PartialEq, Eq)]
+pub struct TolerantReport {
+    /// How it ended.
+    pub end: RunEnd,
+    /// Answers that were sent, to reads and to keys.
+    pub answers: u64,
+    /// Records that were passed over.
+    pub passed: u64,
+    /// Records that were refused.
+    pub refused: u64,
+    /// What came while no record passes, and was ignored.
+    pub ignored: u64,
+    /// Keys that were inhibited.
+    pub inhibited: u64,
+}

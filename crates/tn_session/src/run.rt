@@ -16,13 +16,13 @@ use std::io::{Read, Write};
 use tn_cores::SessionFault;
 
 /// The most reads of one run.
-const MAX_READS: u32 = 1_000_000;
+pub(crate) const MAX_READS: u32 = 1_000_000;
 
 /// The most bytes of one read.
-const PIECE: usize = 4_096;
+pub(crate) const PIECE: usize = 4_096;
 
 /// Writes bytes, all of them or up to a write that fails.
-fn send<L: Read + Write>(wire: &mut Wire<L>, bytes: &[u8]) -> Result<(), RunFault>
+pub(crate) fn send<L: Read + Write>(wire: &mut Wire<L>, bytes: &[u8]) -> Result<(), RunFault>
     requires { wire.old.stop ≡ None }
     ensures { Sends wire.old bytes.now result wire.new }
 {

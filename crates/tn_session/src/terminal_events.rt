@@ -1,20 +1,30 @@
 //! What an event does to a terminal's run.
 
-ghost use Rattle.std.specs.Prelude.{◌≡◌, [], map};
+ghost use Rattle.std.specs.Prelude.{◌≡◌, [], map, OnOk};
 ghost use Rattle.tn_wire.specs.Calls.{told_of};
 ghost use Rattle.tn_wire.specs.Header.{header_of};
-ghost use Rattle.tn_cores.specs.Terminal.{terminal_agreed};
 ghost use Rattle.tn_session.specs.Ran.{Does};
-ghost use Rattle.tn_session.specs.TerminalLog.{taken_data, taken_headed, taken_record, terminal_act};
+ghost use Rattle.tn_session.specs.EndCores.{core_agreed};
+ghost use Rattle.tn_session.specs.TerminalLog.{taken_data, taken_headed, strictly_taken, taken_record, terminal_act};
+ghost use Rattle.tn_session.specs.TerminalLog.{dropped, tolerated_data, tolerated_headed, tolerated};
 
 use crate::fault::RunFault;
 use crate::keystroke::Keystroke;
+use crate::responses::push_positive;
 use crate::terminal_state::TerminalState;
 use crate::terminal_turns::one_more;
 use crate::turn::Turn;
 use std::alloc::Global;
 use tn_cores::{Agreed, Out};
 use tn_wire::{DataType, Event, Header};
+
+/// What stands for the header of a record of a classic session.
+const CLASSIC: Header = Header {
+    data_type: DataType::Data3270,
+    request: 0,
+    response: 0,
+    seq: 0,
+};
 
 /// Takes a record of 3270 data, and presses keys.
 fn take_data<K: Keystroke>(
@@ -67,6 +77,115 @@ fn take_headed<K: Keystroke>(
     }
 }
 
+/// Takes a record of 3270 data at a tolerant terminal.
+fn tolerate_data<K: Keystroke>(
+    alloc: Global,
+    due: &mut Vec<u8>,
+    state: &mut TerminalState,
+    keys: &mut &[K],
+    agreed: Agreed,
+    header: Header,
+    bytes: &[u8],
+) -> Result<Turn, RunFault>
+    requires empty { due.old.items ≡ [] }
+    ensures { Does (tolerated_data agreed header
+        (record { state = state.old; keys = map K.strike keys.old.now }) bytes.now) result
+        (record { state = state.new; keys = map K.strike keys.new.now }) due.new.items }
+{
+    if !bytes.is_empty() {
+        return take_data(alloc, due, state, keys, agreed, header, bytes);
+    }
+    push_positive(due, agreed, header)?;
+    state.passed = one_more(state.passed);
+    Ok(Turn::Goes)
+}
+
+/// Takes a record of a TN3270E session at a tolerant terminal.
+fn tolerate_headed<K: Keystroke>(
+    alloc: Global,
+    due: &mut Vec<u8>,
+    state: &mut TerminalState,
+    keys: &mut &[K],
+    agreed: Agreed,
+    bytes: &[u8],
+) -> Result<Turn, RunFault>
+    requires empty { due.old.items ≡ [] }
+    ensures { Does (tolerated_headed agreed
+        (record { state = state.old; keys = map K.strike keys.old.now }) (header_of bytes.now)) result
+        (record { state = state.new; keys = map K.strike keys.new.now }) due.new.items }
+{
+    let Ok((header, data)) = Header::read(bytes) else {
+        state.passed = one_more(state.passed);
+        return Ok(Turn::Goes);
+    };
+    match header.data_type {
+        DataType::Data3270 => tolerate_data(alloc, due, state, keys, agreed, header, data),
+        DataType::NvtData => {
+            state.noted.note(data)?;
+            state.passed = one_more(state.passed);
+            Ok(Turn::Goes)
+        }
+        _ => {
+            state.passed = one_more(state.passed);
+            Ok(Turn::Goes)
+        }
+    }
+}
+
+/// Drops what was open of a record when records began to pass.
+fn drop_record(state: &mut TerminalState, bytes: &[u8])
+    ensures { state.new ≡ dropped state.old bytes.now }
+{
+    state.drops = false;
+    if !bytes.is_empty() {
+        state.ignored = one_more(state.ignored);
+    }
+}
+
+/// Takes a record at a tolerant terminal.
+fn tolerate<K: Keystroke>(
+    alloc: Global,
+    due: &mut Vec<u8>,
+    state: &mut TerminalState,
+    keys: &mut &[K],
+    agreed: Agreed,
+    bytes: &[u8],
+) -> Result<Turn, RunFault>
+    requires empty { due.old.items ≡ [] }
+    ensures { Does (tolerated agreed
+        (record { state = state.old; keys = map K.strike keys.old.now }) bytes.now) result
+        (record { state = state.new; keys = map K.strike keys.new.now }) due.new.items }
+{
+    if state.drops {
+        drop_record(state, bytes);
+        return Ok(Turn::Goes);
+    }
+    if agreed.enhanced {
+        return tolerate_headed(alloc, due, state, keys, agreed, bytes);
+    }
+    tolerate_data(alloc, due, state, keys, agreed, CLASSIC, bytes)
+}
+
+/// Takes a record to the letter of the profile.
+fn take_strictly<K: Keystroke>(
+    alloc: Global,
+    due: &mut Vec<u8>,
+    state: &mut TerminalState,
+    keys: &mut &[K],
+    agreed: Agreed,
+    bytes: &[u8],
+) -> Result<Turn, RunFault>
+    requires empty { due.old.items ≡ [] }
+    ensures { Does (strictly_taken agreed
+        (record { state = state.old; keys = map K.strike keys.old.now }) bytes.now) result
+        (record { state = state.new; keys = map K.strike keys.new.now }) due.new.items }
+{
+    if agreed.enhanced {
+        return take_headed(alloc, due, state, keys, agreed, bytes);
+    }
+    take_data(alloc, due, state, keys, agreed, CLASSIC, bytes)
+}
+
 /// Takes a record, once the session is ready.
 fn take_record<K: Keystroke>(
     alloc: Global,
@@ -77,22 +196,18 @@ fn take_record<K: Keystroke>(
 ) -> Result<Turn, RunFault>
     requires empty { due.old.items ≡ [] }
     ensures { Does (taken_record (record { state = state.old; keys = map K.strike keys.old.now })
-        (terminal_agreed state.old.core) bytes.now) result
+        (core_agreed state.old.core) bytes.now) result
         (record { state = state.new; keys = map K.strike keys.new.now }) due.new.items }
 {
     let Some(agreed) = state.core.agreed() else {
+        state.ignored = one_more(state.ignored);
         return Ok(Turn::Goes);
     };
-    if agreed.enhanced {
-        return take_headed(alloc, due, state, keys, agreed, bytes);
+    if state.core.is_tolerant() {
+        tolerate(alloc, due, state, keys, agreed, bytes)
+    } else {
+        take_strictly(alloc, due, state, keys, agreed, bytes)
     }
-    let header = Header {
-        data_type: DataType::Data3270,
-        request: 0,
-        response: 0,
-        seq: 0,
-    };
-    take_data(alloc, due, state, keys, agreed, header, bytes)
 }
 
 /// Takes an event.
@@ -109,12 +224,14 @@ pub(crate) fn take_event_of<K: Keystroke>(
         (record { state = state.new; keys = map K.strike keys.new.now }) due.new.items }
 {
     let mut reply = Out::new();
-    if let Err(why) = state.core.step(event, &mut reply) {
-        return Err(RunFault::Session(why));
-    }
+    let told = match state.core.step(event, &mut reply) {
+        Ok(told) => told,
+        Err(why) => return Err(RunFault::Session(why)),
+    };
     match event {
         Event::Record(bytes) => take_record(alloc, due, state, keys, bytes),
         Event::Verb(..) | Event::Sub(..) | Event::Passed(..) => {
+            state.heed(alloc, told)?;
             due.extend_from_slice(&reply)?;
             Ok(Turn::Goes)
         }

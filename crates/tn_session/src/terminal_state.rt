@@ -1,22 +1,26 @@
 //! What a terminal keeps during a session.
 
-ghost use Rattle.std.specs.Prelude.{◌≡◌, Some, IfOk};
+ghost use Rattle.std.specs.Prelude.{◌≡◌, Some, IfOk, OnOk};
+ghost use Rattle.tn_cores.specs.Devices.{alternate_of, is_size};
 ghost use Rattle.tn_session.specs.Kept.{nothing_kept};
-ghost use Rattle.tn_session.specs.TerminalLog.{new_terminal_state};
+ghost use Rattle.tn_session.specs.TerminalLog.{begun_state, new_terminal_state, tolerant_terminal, kept_anew, renewed, fitted, dropping, heeding};
 ghost use Rattle.tn_session.specs.TerminalTalk.{counts_of};
 
 use crate::arrived::Arrived;
+use crate::end_core::EndCore;
 use crate::kept::KeptRecords;
+use crate::noted::NotedText;
+use ds_codec::Size;
 use ds_screen::PlaneCells;
 use ds_terminal::Terminal;
 use std::alloc::{AllocError, Global};
-use tn_cores::{Device, TermCore};
+use tn_cores::{Device, TermCore, Told};
 
 /// A terminal's session, the keys that are left aside.
 #[derive(Drop)]
 pub(crate) struct TerminalState {
     /// The session.
-    pub(crate) core: TermCore,
+    pub(crate) core: EndCore,
     /// The screen and keyboard.
     pub(crate) terminal: Terminal<PlaneCells>,
     /// Insert mode is on.
@@ -33,6 +37,12 @@ pub(crate) struct TerminalState {
     pub(crate) passed: u64,
     /// Records that were refused.
     pub(crate) refused: u64,
+    /// What a tolerant terminal ignored while no record passes.
+    pub(crate) ignored: u64,
+    /// The record that ends next is to be dropped.
+    pub(crate) drops: bool,
+    /// The text that a tolerant terminal was sent.
+    pub(crate) noted: NotedText,
     /// The records of the screen, where they are kept.
     pub(crate) kept: Option<KeptRecords>,
 }
@@ -47,9 +57,31 @@ impl TerminalState {
     ) -> Result<TerminalState, AllocError>
         ensures { IfOk result (λ state. state ≡ new_terminal_state device enhanced responses) }
     {
+        let core = EndCore::Strict(TermCore::new(device, enhanced, responses));
+        TerminalState::begun(alloc, core, device)
+    }
+
+    /// A tolerant terminal of this device at the beginning of a session, which keeps records.
+    pub(crate) fn tolerant(
+        alloc: Global,
+        device: Device,
+        enhanced: bool,
+        responses: bool,
+    ) -> Result<TerminalState, AllocError>
+        ensures { IfOk result (λ state. state ≡ tolerant_terminal device enhanced responses) }
+    {
+        let core = EndCore::Tolerant(TermCore::tolerant(device, enhanced, responses));
+        let state = TerminalState::begun(alloc, core, device)?;
+        Ok(state.keeping(alloc))
+    }
+
+    /// A terminal with this core, of the device's sizes.
+    fn begun(alloc: Global, core: EndCore, device: Device) -> Result<TerminalState, AllocError>
+        ensures { IfOk result (λ state. state ≡ begun_state core device) }
+    {
         let terminal = Terminal::new(alloc, device.geometry())?;
         Ok(TerminalState {
-            core: TermCore::new(device, enhanced, responses),
+            core,
             terminal,
             inserts: false,
             sequence: 0,
@@ -58,6 +90,9 @@ impl TerminalState {
             taken: 0,
             passed: 0,
             refused: 0,
+            ignored: 0,
+            drops: false,
+            noted: NotedText::new(alloc),
             kept: None,
         })
     }
@@ -79,7 +114,74 @@ impl TerminalState {
             taken: self.taken,
             refused: self.refused,
             passed: self.passed,
+            ignored: self.ignored,
             answers: self.answers,
         }
+    }
+
+    /// Does at a tolerant terminal what an event leaves that is no record: the record that is open when records begin to pass
+    /// is to be dropped, and the screen is made anew where the device is of another model.
+    pub(crate) fn heed(&mut self, alloc: Global, told: Told) -> Result<(), AllocError>
+        ensures { OnOk result (self.new ≡ heeding self.old.core told self.old) }
+    {
+        let EndCore::Tolerant(core) = self.core else {
+            return Ok(());
+        };
+        self.drop_open(told);
+        self.fit(alloc, core.device())
+    }
+
+    fn drop_open(&mut self, told: Told)
+        ensures { self.new ≡ dropping told self.old }
+    {
+        if let Told::Ready(_agreed) = told {
+            self.drops = true;
+        }
+    }
+
+    /// Makes the screen anew where it isn't that of the device's model.
+    fn fit(&mut self, alloc: Global, device: Device) -> Result<(), AllocError>
+        ensures { OnOk result (self.new ≡ fitted device self.old) }
+    {
+        if self.fits(device) {
+            return Ok(());
+        }
+        self.renew(alloc, device)
+    }
+
+    /// Whether the screen is that of the device's model.
+    fn fits(&self, device: Device) -> bool
+        ensures { result ≡ is_size self.now.terminal.geometry.alternate
+            (alternate_of device.model) }
+    {
+        is_size(
+            self.terminal.screen().geometry().alternate_size(),
+            device.geometry().alternate_size(),
+        )
+    }
+
+    /// Makes the screen anew, that of the device's model.
+    fn renew(&mut self, alloc: Global, device: Device) -> Result<(), AllocError>
+        ensures { OnOk result (self.new ≡ renewed device self.old) }
+    {
+        self.terminal = Terminal::new(alloc, device.geometry())?;
+        self.kept = kept_anew(alloc, &self.kept);
+        Ok(())
+    }
+}
+
+fn is_size(size: Size, other: Size) -> bool
+    ensures { result ≡ is_size size other }
+{
+    size.rows == other.rows && size.cols == other.cols
+}
+
+/// Nothing kept, where records are.
+fn kept_anew(alloc: Global, kept: &Option<KeptRecords>) -> Option<KeptRecords>
+    ensures { result ≡ kept_anew kept.now }
+{
+    match kept {
+        Some(_kept) => Some(KeptRecords::new(alloc)),
+        None => None,
     }
 }

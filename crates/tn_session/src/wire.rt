@@ -140,6 +140,14 @@ impl<L: Read + Write> Wire<L> {
         self.stop
     }
 
+    /// The line, to be looked at.
+    pub fn line(&self) -> &L
+        ensures left { L.remaining result.now ≡ self.now.left }
+        ensures held { L.contents result.now ≡ self.now.held }
+    {
+        &self.line
+    }
+
     /// The line itself.
     pub fn into_line(self) -> L
         ensures left { L.remaining result ≡ self.left }
