@@ -1,5 +1,5 @@
 -- The line that an ear found refused.
-use Rattle.std.specs.Prelude.{◌≡◌, ℕ, Option, Some, None, IsSome}
+use Rattle.std.specs.Prelude.{◌≡◌, ℕ, Option, IsSome}
 use Rattle.std.specs.Option.{option_map}
 use Rattle.cli_reasons.specs.declared.ear.Ear.{Ear}
 

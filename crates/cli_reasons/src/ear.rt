@@ -9,7 +9,8 @@ ghost use Rattle.cli_reasons.specs.Refusing.{refused_number, StaysRefused};
 
 use crate::flaw::{Flaw, Limit, Why};
 use crate::judged::{
-    Judged, judged_name, judged_order, judged_record, judged_stream, judged_trace, judged_turn,
+    Judged, is_session, judged_name, judged_order, judged_record, judged_stream, judged_trace,
+    judged_turn,
 };
 use crate::key_line::Names;
 use crate::layout_reason::layout_sentence;
@@ -151,7 +152,10 @@ impl Ear {
         if self.is_done() || bytes.is_empty() {
             return;
         }
-        if self.lines == Lines::Trace && MOST_FRONT < self.open.len() {
+        if self.lines == Lines::Trace
+            && MOST_FRONT < self.open.len()
+            && !is_session(self.open.as_slice())
+        {
             return;
         }
         if MOST_KEPT < self.open.len() || self.open.extend_from_slice(bytes).is_err() {
