@@ -10,6 +10,7 @@ pub mod LayoutWords
 pub mod Nearest
 pub mod OrderLine
 pub mod RecordLine
+pub mod Refusing
 pub mod SaysLayout
 pub mod Sentence
 pub mod Shown

@@ -1,14 +1,16 @@
 //! What hears the bytes of an input, and keeps the first line that is refused.
 
-ghost use Rattle.std.specs.Prelude.{◌≡◌, ◌<◌, ◌≤◌, ◌++◌, length, None, Some, IfSome};
+ghost use Rattle.std.specs.Prelude.{◌≡◌, ◌<◌, ◌≤◌, ◌++◌, length, None, Some, IfSome, IsSome, true};
 ghost use Rattle.cli_reasons.specs.declared.flaw.Why.TheVariants.{TooLong};
 ghost use Rattle.cli_reasons.specs.declared.flaw.Limit.TheVariants.{RecordBytes, Records};
 ghost use Rattle.cli_reasons.specs.Flaw.{flaw_at};
 ghost use Rattle.cli_reasons.specs.Ear.{next_number, over_limit};
+ghost use Rattle.cli_reasons.specs.Refusing.{refused_number, StaysRefused};
 
 use crate::flaw::{Flaw, Limit, Why};
 use crate::judged::{
-    Judged, judged_name, judged_order, judged_record, judged_stream, judged_trace, judged_turn,
+    Judged, is_session, judged_name, judged_order, judged_record, judged_stream, judged_trace,
+    judged_turn,
 };
 use crate::key_line::Names;
 use crate::layout_reason::layout_sentence;
@@ -109,7 +111,10 @@ fn split_line(bytes: &[u8]) -> Option<(&[u8], &[u8])>
 
 impl Ear {
     /// Hears an input of such lines.
-    pub fn new(alloc: Global, lines: Lines) -> Ear {
+    pub fn new(alloc: Global, lines: Lines) -> Ear
+        ensures lines { result.lines ≡ lines }
+        ensures none { refused_number result ≡ None }
+    {
         Ear {
             alloc,
             lines,
@@ -124,8 +129,10 @@ impl Ear {
         }
     }
 
-    /// Hears the bytes that come next.
-    pub fn hear(&mut self, bytes: &[u8]) {
+    /// Hears the bytes that come next. A line that is refused stays the first.
+    pub fn hear(&mut self, bytes: &[u8])
+        ensures { StaysRefused self.old self.new }
+    {
         self.bytes = self.bytes.saturating_add(bytes.len() as u64);
         if self.lines == Lines::Layout {
             return self.keep(bytes);
@@ -139,11 +146,16 @@ impl Ear {
     }
 
     /// Keeps the beginning of a line.
-    fn keep(&mut self, bytes: &[u8]) {
+    fn keep(&mut self, bytes: &[u8])
+        ensures { self.new.found ≡ self.old.found }
+    {
         if self.is_done() || bytes.is_empty() {
             return;
         }
-        if self.lines == Lines::Trace && MOST_FRONT < self.open.len() {
+        if self.lines == Lines::Trace
+            && MOST_FRONT < self.open.len()
+            && !is_session(self.open.as_slice())
+        {
             return;
         }
         if MOST_KEPT < self.open.len() || self.open.extend_from_slice(bytes).is_err() {
@@ -156,12 +168,16 @@ impl Ear {
         matches!(self.lines, Lines::Trace | Lines::Stream)
     }
 
-    fn is_done(&self) -> bool {
+    fn is_done(&self) -> bool
+        ensures { IsSome self.now.found → result ≡ true }
+    {
         self.is_deaf || self.found.is_some()
     }
 
     /// Hears the end of a line, with its LF.
-    fn end_line(&mut self, part: &[u8]) {
+    fn end_line(&mut self, part: &[u8])
+        ensures { StaysRefused self.old self.new }
+    {
         if self.is_done() {
             return;
         }
@@ -301,7 +317,9 @@ impl Ear {
     }
 
     /// The input has ended: a line that has begun ends.
-    fn end(&mut self) {
+    fn end(&mut self)
+        ensures { StaysRefused self.old self.new }
+    {
         if self.is_done() || self.open.is_empty() {
             return;
         }
@@ -310,13 +328,17 @@ impl Ear {
     }
 
     /// Whether no line came that counts.
-    pub fn has_none(&mut self) -> bool {
+    pub fn has_none(&mut self) -> bool
+        ensures { StaysRefused self.old self.new }
+    {
         self.end();
         self.count == 0 && !self.is_deaf
     }
 
     /// The sentence of what is refused in the input of this name, where anything is.
-    pub fn sentence(&mut self, name: &str) -> Option<String> {
+    pub fn sentence(&mut self, name: &str) -> Option<String>
+        ensures { StaysRefused self.old self.new }
+    {
         if self.lines == Lines::Layout {
             return self.layout_sentence(name);
         }

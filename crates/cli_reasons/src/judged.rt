@@ -1,7 +1,7 @@
 //! What a line does, as the commands take it.
 
-ghost use Rattle.std.specs.Prelude.{◌≡◌};
-ghost use Rattle.cli_reasons.specs.Judged.{size_line, is_plain, is_spaced};
+ghost use Rattle.std.specs.Prelude.{◌≡◌, ◌≤◌, ◌<◌, ◌+◌, ◌^◌, length};
+ghost use Rattle.cli_reasons.specs.Judged.{size_line, is_plain, is_session, is_spaced, judged_digits, stream_flaw};
 
 use crate::digits::{digit_count, first_other};
 use crate::flaw::{Flaw, Limit, Why};
@@ -11,6 +11,9 @@ use crate::record_line::{SizesBy, record_flaw};
 use cli_commands::{CommandError, Fault, Records, SizeLine, keys_in, records_in, strokes_in};
 use order_lines::{Told, read_line};
 use std::alloc::{AllocError, Global};
+
+/// Of longer lines nothing is told.
+const MOST_TOLD: usize = 16_777_216;
 
 /// What a line does.
 #[derive(Clone, Copy, Debug, PartialEq, Eq)]
@@ -146,20 +149,63 @@ pub(crate) fn judged_order(
     }
 }
 
-/// What a line of a trace does: those that have bytes begin with a side.
-pub(crate) fn judged_trace(line: &[u8]) -> Judged {
-    if line.starts_with(b"< 0x".as_slice()) || line.starts_with(b"> 0x".as_slice()) {
+/// Whether a line of a trace has bytes of a side.
+pub(crate) fn is_session(line: &[u8]) -> bool
+    ensures { result ≡ is_session line.now }
+{
+    line.starts_with(b"< 0x".as_slice()) || line.starts_with(b"> 0x".as_slice())
+}
+
+/// What is wrong with digits that stand after so many bytes of a line.
+fn stream_flaw(before: usize, digits: &[u8]) -> Flaw
+    requires { before + length digits.now < 2 ^ 32 }
+    ensures { result ≡ stream_flaw before digits.now }
+{
+    match first_other(digits) {
+        Some(place) => Flaw::at(before + place + 1, Why::NotDigit(digits[place])),
+        None => Flaw::at(
+            before + digits.len() + 1,
+            Why::OddDigits(digit_count(digits)),
+        ),
+    }
+}
+
+/// Judges the digits that stand after so many bytes of a line.
+fn judged_digits(before: usize, digits: &[u8]) -> Judged
+    requires { before + length digits.now < 2 ^ 32 }
+    ensures { result ≡ judged_digits before digits.now }
+{
+    if is_spaced(digits) {
         Judged::Session
     } else {
-        Judged::Nothing
+        Judged::Refused(stream_flaw(before, digits))
     }
+}
+
+/// How many bytes stand before the digits of a line of a trace: a side, an offset and spaces.
+fn offset_len(line: &[u8]) -> usize
+    requires { 4 ≤ length line.now }
+    ensures { result ≤ length line.now }
+{
+    match line[4..].iter().position(|byte| *byte == b' ') {
+        Some(place) => 4 + place,
+        None => line.len(),
+    }
+}
+
+/// What a line of a trace does: those that have bytes begin with a side.
+pub(crate) fn judged_trace(line: &[u8]) -> Judged {
+    if !is_session(line) || MOST_TOLD < line.len() {
+        return Judged::Nothing;
+    }
+    let before = offset_len(line);
+    judged_digits(before, &line[before..])
 }
 
 /// What a line of a stream does.
 pub(crate) fn judged_stream(line: &[u8]) -> Judged {
-    if is_spaced(line) {
-        Judged::Session
-    } else {
-        Judged::Refused(record_flaw(SizesBy::Layout, line))
+    if MOST_TOLD < line.len() {
+        return Judged::Session;
     }
+    judged_digits(0, line)
 }
