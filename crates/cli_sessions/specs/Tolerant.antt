@@ -5,6 +5,7 @@ use Rattle.cli_commands.specs.declared.status.Status.{Status}
 use Rattle.cli_commands.specs.declared.status.Status.TheVariants.{Done, Findings, Failed, NoMemory}
 use Rattle.cli_commands.specs.Printed.{Printed, printed}
 use Rattle.tn_cores.specs.declared.device.Device.{Device}
+use Rattle.tn_cores.specs.declared.session.SessionFault.{SessionFault}
 use Rattle.tn_cores.specs.declared.session.SessionFault.TheVariants.{LineFault}
 use Rattle.tn_session.specs.declared.fault.RunFault.{RunFault}
 use Rattle.tn_session.specs.declared.fault.RunFault.TheVariants.{Session, OutOfMemory}
@@ -32,9 +33,16 @@ abbrev pub report_status : ℕ → TolerantReport → Status
 report_status expected report = if falls_short expected report then Findings else Done
 
 -- the number of a fault, where the line says whether a read of it gave nothing in time
+abbrev pub is_of_line : SessionFault → Bool
+is_of_line LineFault = true
+is_of_line _ = false
+
+abbrev pub is_line_fault : RunFault → Bool
+is_line_fault (Session why) = is_of_line why
+is_line_fault _ = false
+
 abbrev pub tolerant_fault_number : Bool → RunFault → List ℕ
-tolerant_fault_number true (Session LineFault) = codes "N12"
-tolerant_fault_number late why = fault_number why
+tolerant_fault_number late why = if late && is_line_fault why then codes "N12" else fault_number why
 
 abbrev pub tolerant_fault_line : Bool → RunFault → List ℕ
 tolerant_fault_line late why = codes "fault " ++ (tolerant_fault_number late why ++ codes "\n")

@@ -5,7 +5,7 @@ ghost use Rattle.std.specs.String.{string_bytes};
 ghost use Rattle.cli_commands.specs.Held.{answer_seen};
 ghost use Rattle.tn_session.specs.Wire.{fresh};
 ghost use Rattle.cli_sessions.specs.Session.{CanRun};
-ghost use Rattle.cli_sessions.specs.Tolerant.{tolerant_line, falls_short, report_status, tolerant_fault_number, tolerant_fault_line, printed_tolerant};
+ghost use Rattle.cli_sessions.specs.Tolerant.{tolerant_line, falls_short, report_status, is_of_line, is_line_fault, tolerant_fault_number, tolerant_fault_line, printed_tolerant};
 ghost use Rattle.cli_sessions.specs.Tolerant.{ReportsTolerant, IsTolerated, AttachesTolerant};
 
 use crate::attach::end_word;
@@ -53,13 +53,46 @@ fn report_status(expected: u16, report: TolerantReport) -> Status
     }
 }
 
+fn is_of_line(why: SessionFault) -> bool
+    ensures { result ≡ is_of_line why }
+{
+    match why {
+        SessionFault::LineFault => true,
+        SessionFault::Rejected(_)
+        | SessionFault::WrongList
+        | SessionFault::BadSubnegotiation
+        | SessionFault::OptionRefused(_)
+        | SessionFault::NotReady
+        | SessionFault::BadResponse
+        | SessionFault::TooManyReads
+        | SessionFault::NoDevice
+        | SessionFault::Closed
+        | SessionFault::TerminalRefused(_) => false,
+    }
+}
+
+/// Whether a read or a write of the line failed.
+fn is_line_fault(why: RunFault) -> bool
+    ensures { result ≡ is_line_fault why }
+{
+    match why {
+        RunFault::Session(why) => is_of_line(why),
+        RunFault::Wire(_)
+        | RunFault::Header(_)
+        | RunFault::Inbound(_)
+        | RunFault::Bind(_)
+        | RunFault::OutOfMemory => false,
+    }
+}
+
 /// The number of a fault, where the line says whether it was too late.
 fn number_of(late: bool, why: RunFault) -> &'static str
     ensures { result.now ≡ tolerant_fault_number late why }
 {
-    match why {
-        RunFault::Session(SessionFault::LineFault) if late => "N12",
-        _ => fault_number(why),
+    if late && is_line_fault(why) {
+        "N12"
+    } else {
+        fault_number(why)
     }
 }
 

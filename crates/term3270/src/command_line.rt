@@ -97,7 +97,7 @@ Example:
   sent 7D40C41140C3C2
 
 Statuses:
-  0 done, 1 less than --expect says, 2 bad input, 3 the keys can't be read, or a read or a write failed, 4 out of memory";
+  0 done, 2 bad input, 3 the keys can't be read, or a read or a write failed, 4 out of memory";
 
 const CONVERT: &str = "Input:
   Records in hexadecimal, one a line, on standard input, as for show. With --back the lines that convert
@@ -226,8 +226,8 @@ Example:
   $ term3270 attach localhost keys --port 3270
 
 Statuses:
-  0 done, 2 bad input, 3 the keys can't be read, the host can't be reached, or the session, a read or a write
-  failed, 4 out of memory";
+  0 done, 1 fewer answers than --expect says, 2 bad input, 3 the keys can't be read, the host can't be
+  reached, or the session, a read or a write failed, 4 out of memory";
 
 /// What an argument of a command takes.
 #[derive(Clone, Copy)]
