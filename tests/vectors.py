@@ -1,5 +1,5 @@
 """Sees that the cases of vectors/ are what is made of their scripts, that they are of their schema, that the runner agrees with the program, by
-its own driver and by the lines of examples/vectors/lines.py, that it tells a terminal which doesn't agree, and that the
+its own driver and by the lines of vectors/lines.py, that it tells a terminal which doesn't agree, and that the
 rules which the cases name are those of docs/PROFILE.md: vectors.py PROGRAM. The last line is 'N passed, M failed'.
 """
 import json
@@ -90,7 +90,7 @@ def runs(program):
     runner = os.path.join(VECTORS, "run")
     own = run(runner, "term3270", "--program", program)
     yield "the program agrees with each case", own.stdout.splitlines()[-12:] if own.returncode else []
-    adapter = f"{sys.executable} {os.path.join(ROOT, 'examples/vectors/lines.py')} {program}"
+    adapter = f"{sys.executable} {os.path.join(ROOT, 'vectors/lines.py')} {program}"
     files = [os.path.join(VECTORS, "cases", it) for it in ("program_tab.jsonl", "erasing.jsonl", "refusals.jsonl")]
     lines = run(runner, "lines", "--program", adapter, *files)
     yield "a terminal that speaks lines agrees", lines.stdout.splitlines()[-12:] if lines.returncode else []

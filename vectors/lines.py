@@ -6,7 +6,7 @@ screen instead. With --wrong Program Tab (05) is taken for Insert Cursor (13): a
 import os
 import sys
 
-sys.path.insert(0, os.path.join(os.path.dirname(os.path.abspath(__file__)), "..", "..", "vectors"))
+sys.path.insert(0, os.path.dirname(os.path.abspath(__file__)))
 
 from parts.codes import SIX_BITS  # noqa: E402
 from parts.drivers import Takvorn  # noqa: E402
