@@ -93,7 +93,7 @@ class Takvorn:
         shown = self.printed(["show", "--format", "json"], case, written)
         refused = {}
         if not shown.startswith("{"):
-            refused = {"refused": refusal_in(shown)}
+            refused = {"refused": refusal_in(self.printed(["show"], case, written))}
             good = written[: refused["refused"]["record"]]
             refused["refused"]["record"] = records.index(written[len(good)])
             shown = self.printed(["show", "--format", "json"], case, good)
