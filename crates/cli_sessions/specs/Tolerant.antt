@@ -18,11 +18,17 @@ use Rattle.cli_sessions.specs.FaultNumber.{fault_number}
 use Rattle.cli_sessions.specs.Printing.{Printing}
 use Rattle.cli_sessions.specs.Session.{IsEnded}
 
+abbrev pub taken_words : TolerantReport → List ℕ
+taken_words report =
+    codes "answers " ++ (decimal report.answers ++ (codes " passed " ++ (decimal report.passed ++ (codes " refused " ++ decimal report.refused))))
+
+abbrev pub other_words : TolerantReport → List ℕ
+other_words report =
+    codes " ignored " ++ (decimal report.ignored ++ (codes " inhibited " ++ (decimal report.inhibited
+    ++ (codes " end " ++ (end_word report.end ++ codes "\n")))))
+
 abbrev pub tolerant_line : TolerantReport → List ℕ
-tolerant_line report =
-    codes "answers " ++ (decimal report.answers ++ (codes " passed " ++ (decimal report.passed ++ (codes " refused " ++ (decimal report.refused
-    ++ (codes " ignored " ++ (decimal report.ignored ++ (codes " inhibited " ++ (decimal report.inhibited
-    ++ (codes " end " ++ (end_word report.end ++ codes "\n")))))))))))
+tolerant_line report = taken_words report ++ other_words report
 
 -- So many answers are expected, none where the number is 0. Fewer, or a key that was inhibited, is a finding.
 abbrev pub falls_short : ℕ → TolerantReport → Bool

@@ -5,7 +5,7 @@ ghost use Rattle.std.specs.String.{string_bytes};
 ghost use Rattle.cli_commands.specs.Held.{answer_seen};
 ghost use Rattle.tn_session.specs.Wire.{fresh};
 ghost use Rattle.cli_sessions.specs.Session.{CanRun};
-ghost use Rattle.cli_sessions.specs.Tolerant.{tolerant_line, falls_short, report_status, is_of_line, is_line_fault, tolerant_fault_number, tolerant_fault_line, printed_tolerant};
+ghost use Rattle.cli_sessions.specs.Tolerant.{taken_words, other_words, tolerant_line, falls_short, report_status, is_of_line, is_line_fault, tolerant_fault_number, tolerant_fault_line, printed_tolerant};
 ghost use Rattle.cli_sessions.specs.Tolerant.{ReportsTolerant, IsTolerated, AttachesTolerant};
 
 use crate::attach::end_word;
@@ -23,23 +23,37 @@ pub trait Timed {
     fn is_late(&self) -> bool;
 }
 
+fn push_taken(out: &mut String, report: TolerantReport) -> Result<(), AllocError>
+    ensures { OnOk result (string_bytes out.new ≡ string_bytes out.old ++ taken_words report) }
+{
+    let TolerantReport {
+        answers,
+        passed,
+        refused,
+        ..
+    } = report;
+    write!(out, "answers {answers} passed {passed} refused {refused}")
+}
+
+fn push_others(out: &mut String, report: TolerantReport) -> Result<(), AllocError>
+    ensures { OnOk result (string_bytes out.new ≡ string_bytes out.old ++ other_words report) }
+{
+    let TolerantReport {
+        end,
+        ignored,
+        inhibited,
+        ..
+    } = report;
+    let end = end_word(end);
+    write!(out, " ignored {ignored} inhibited {inhibited} end {end}\n")
+}
+
 fn push_report(out: &mut String, report: TolerantReport) -> Result<(), AllocError>
     ensures { OnOk result
         (string_bytes out.new ≡ string_bytes out.old ++ tolerant_line report) }
 {
-    let TolerantReport {
-        end,
-        answers,
-        passed,
-        refused,
-        ignored,
-        inhibited,
-    } = report;
-    let end = end_word(end);
-    write!(
-        out,
-        "answers {answers} passed {passed} refused {refused} ignored {ignored} inhibited {inhibited} end {end}\n"
-    )
+    push_taken(out, report)?;
+    push_others(out, report)
 }
 
 /// The status of a session that so many answers were expected of.
