@@ -30,22 +30,25 @@ fn explain_over<R: Read>(
     told_first(rt, status, &mut layout, records)
 }
 
-/// The layouts' files that the words of `talk` name.
-fn paths_in<'m, 'a>(matches: &'m ArgMatches<'a>) -> &'m [&'a str] {
-    match matches.subcommand() {
-        Some((_, words)) => words.get_strs("LAYOUT").unwrap_or(&[]),
-        None => &[],
-    }
-}
-
 /// `talk` in a form, on the files that its words name.
 pub(crate) fn report_talk(rt: &HostRuntime, matches: &ArgMatches<'_>, form: TalkForm) -> Status {
-    talk_over(rt, paths_in(matches), Some(form))
+    talk_named(rt, matches, Some(form))
 }
 
 /// `talk` as a log, on the files that its words name.
 pub(crate) fn log_talk(rt: &HostRuntime, matches: &ArgMatches<'_>) -> Status {
-    talk_over(rt, paths_in(matches), None)
+    talk_named(rt, matches, None)
+}
+
+/// Reports of the layouts' files that the words of `talk` name.
+fn talk_named(rt: &HostRuntime, matches: &ArgMatches<'_>, form: Option<TalkForm>) -> Status {
+    match matches.subcommand() {
+        Some((_, words)) => match words.get_strs("LAYOUT") {
+            Some(paths) => talk_over(rt, paths, form),
+            None => Status::BadInput,
+        },
+        None => Status::BadInput,
+    }
 }
 
 /// Reports of the layouts of these files, and of standard input, in a form or as a log.
