@@ -17,16 +17,16 @@ import subprocess
 import sys
 import time
 
+sys.path.insert(0, os.path.join(os.path.dirname(os.path.abspath(__file__)), "..", "vectors"))
+
+from parts import host  # noqa: E402
+from parts.codes import SIX_BITS  # noqa: E402
+
 ROWS, COLUMNS = 24, 80
 CELLS = ROWS * COLUMNS
-SIX_BITS = bytes.fromhex(
-    "40C1C2C3C4C5C6C7C8C94A4B4C4D4E4F50D1D2D3D4D5D6D7D8D95A5B5C5D5E5F6061E2E3E4E5E6E7E8E96A6B6C6D6E6FF0F1F2F3F4F5F6F7F8F97A7B7C7D7E7F"
-)
 MODIFIED, PROTECTED = 0x01, 0x20
 BITS = [0x00, 0x01, 0x10, 0x20, 0x21, 0x30, 0x31, 0x0C, 0x2C, 0x08, 0x28, 0x04]
 CODES = [0xC1, 0xC2, 0xF1, 0x40, 0x60]
-IAC, SB, SE, WILL, DO, EOR = 0xFF, 0xFA, 0xF0, 0xFB, 0xFD, 0xEF
-BINARY, TERMINAL_TYPE, END_OF_RECORD = 0, 24, 25
 PLAIN = ["Dup()", "FieldMark()", "DeleteWord()", "DeleteField()", "EraseEOF()", "EraseInput()", "FieldEnd()", "Tab()", "BackTab()", "Up()",
          "Down()", "Left()", "Right()", "Home()", "Newline()", "Delete()", "Erase()", "BackSpace()", "NextWord()", "PreviousWord()", "Reset()"]
 
@@ -35,41 +35,15 @@ def spelled(place):
     return bytes([0x11, SIX_BITS[place >> 6], SIX_BITS[place & 63]])
 
 
-class Host:
-    """A classic TN3270 host on a socket, for one terminal."""
-
-    def __init__(self):
-        self.listener = socket.create_server(("127.0.0.1", 0))
-        self.port = self.listener.getsockname()[1]
-        self.bytes = b""
+class Host(host.Host):
+    """A host of a session without TN3270E."""
 
     def accept(self):
-        self.line, _ = self.listener.accept()
-        self.line.setsockopt(socket.IPPROTO_TCP, socket.TCP_NODELAY, 1)
-        self.line.settimeout(10)
-        self.line.sendall(bytes([IAC, DO, TERMINAL_TYPE]))
-        self.until(bytes([IAC, WILL, TERMINAL_TYPE]))
-        self.line.sendall(bytes([IAC, SB, TERMINAL_TYPE, 1, IAC, SE]))
-        self.until(bytes([IAC, SE]))
-        for option in (END_OF_RECORD, BINARY):
-            self.line.sendall(bytes([IAC, DO, option, IAC, WILL, option]))
-            self.until(bytes([IAC, DO, option]))
-
-    def until(self, end):
-        """What came up to these bytes."""
-        while end not in self.bytes:
-            more = self.line.recv(65536)
-            if not more:
-                raise ConnectionError("the terminal closed")
-            self.bytes += more
-        before, _, self.bytes = self.bytes.partition(end)
-        return before
-
-    def send(self, record):
-        self.line.sendall(record.replace(b"\xFF", b"\xFF\xFF") + bytes([IAC, EOR]))
+        super().accept()
+        self.classic()
 
     def answer(self):
-        return self.until(bytes([IAC, EOR])).replace(b"\xFF\xFF", b"\xFF")
+        return self.until(bytes([host.IAC, host.EOR])).replace(b"\xFF\xFF", b"\xFF")
 
 
 class Terminal:

@@ -94,6 +94,8 @@ def runs(program):
     files = [os.path.join(VECTORS, "cases", it) for it in ("program_tab.jsonl", "erasing.jsonl", "refusals.jsonl")]
     lines = run(runner, "lines", "--program", adapter, *files)
     yield "a terminal that speaks lines agrees", lines.stdout.splitlines()[-12:] if lines.returncode else []
+    told = [run(runner, *it) for it in (["term3270", "--program", "/nowhere"], ["lines"], ["term3270", "--program", program, "/nowhere.jsonl"])]
+    yield "a runner that has nothing to try says so", [it.stderr[-300:] for it in told if it.returncode != 2 or "error: " not in it.stderr or "Traceback" in it.stderr]
     wrong = run(runner, "lines", "--program", f"{adapter} --wrong", "--format", "junit", files[0])
     yield "a terminal that leaves Program Tab's nulls out is told", [] if wrong.returncode == 1 and "<failure>program_tab/after-text" in wrong.stdout else [wrong.stdout[-500:]]
 

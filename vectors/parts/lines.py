@@ -14,8 +14,8 @@ class Lines:
         self.process = subprocess.Popen(shlex.split(command), stdin=subprocess.PIPE, stdout=subprocess.PIPE, text=True)
 
     def close(self):
-        self.process.stdin.close()
-        self.process.wait(timeout=10)
+        self.process.kill()
+        self.process.communicate()
 
     def ask(self, line):
         """A line, and the words of its answer."""
