@@ -49,7 +49,7 @@ edits:
 	@python3 tests/edits $(CRATE)
 
 bench: bin/term3270 $(WIRE) $(LIBRARY)
-	@sh bench/run
+	@sh bench/keep
 
 c: $(LIBRARY)
 

@@ -22,6 +22,7 @@ _term3270_values() { # OPTION
     show--format) _term3270_offer -W 'text svg html json screen' ;;
     show--color) _term3270_offer -W 'auto always never' ;;
     check--format | talk--format) _term3270_offer -W 'text json sarif' ;;
+    suite--format) _term3270_offer -W 'text json junit' ;;
     records--from) _term3270_offer -W 'trace stream' ;;
     attach--device)
       for device in IBM-327{8,9}-{2,3,4,5}{,-E}; do devices="$devices $device"; done
@@ -31,7 +32,7 @@ _term3270_values() { # OPTION
     check--records) _term3270_files '*.hex' ;;
     show--map | check--map | draft--map) _term3270_files '*.bms' ;;
     serve--listen) _term3270_offer -A hostname ;;
-    map--map | *--map-name | *--port | *--count | *--expect | *--timeout) ;;
+    map--map | *--map-name | *--only | *--port | *--count | *--expect | *--timeout) ;;
     *) return 1 ;;
   esac
 }
@@ -39,11 +40,12 @@ _term3270_values() { # OPTION
 # Offers what stands at the command's place N, counted from 0, and after < what it reads.
 _term3270_place() { # N, or <
   case $command$1 in
-    check0 | talk* | bind0 | serve0) _term3270_files '*.toml' ;;
+    check0 | talk* | bind* | serve0) _term3270_files '*.toml' ;;
+    suite0) _term3270_files '*.toml' ;;
     map0) _term3270_files '*.bms' ;;
     press0 | attach1) _term3270_files ;;
     attach0) _term3270_offer -A hostname ;;
-    help0) _term3270_offer -W 'show check talk press convert draft bind records serve attach map' ;;
+    help0) _term3270_offer -W 'show check talk suite press convert draft bind records serve attach map' ;;
     *) return 1 ;;
   esac
 }
@@ -54,11 +56,12 @@ _term3270_options() {
     show) options='--format --color --layout --map --map-name --freekb --frset' ;;
     check) options='--demo --pen --explain --records --format --map --map-name --freekb --frset' ;;
     talk) options='--explain --format' ;;
+    suite) options='--format --only' ;;
     press) options='--strokes' ;;
-    convert) options='--back' ;;
-    draft) options='--map --map-name --freekb --frset' ;;
-    bind) options='--text' ;;
-    records) options='--from --answers' ;;
+    convert) options='--back --chars' ;;
+    draft) options='--turns --map --map-name --freekb --frset' ;;
+    bind) options='--text --turns' ;;
+    records) options='--from --answers --turns --turn --size --all' ;;
     serve) options='--port --count --listen' ;;
     attach) options='--strokes --port --device --tolerant --expect --timeout' ;;
     map) options='--map --layout --freekb --frset' ;;
@@ -80,14 +83,14 @@ _term3270() {
     '>' | '>>' | '2>') _term3270_files; return ;;
   esac
   if [ "$COMP_CWORD" -eq 1 ]; then
-    _term3270_offer -W 'show check talk press convert draft bind records serve attach map help --help --version'
+    _term3270_offer -W 'show check talk suite press convert draft bind records serve attach map help --help --version'
     return
   fi
   case $before in --*) if _term3270_values "$before"; then return; fi ;; esac
   for ((index = 2; index < COMP_CWORD; index++)); do
     case ${COMP_WORDS[index]} in
       = | '<' | '>') index=$((index + 1)) ;;
-      --format | --color | --from | --device | --records | --layout | --map | --map-name | --port | --count | --listen | --expect | --timeout)
+      --format | --color | --from | --device | --records | --layout | --only | --map | --map-name | --port | --count | --listen | --expect | --timeout)
         # A value comes after =, or as the next word.
         if [ "$command${COMP_WORDS[index]}" != map--layout ] && [ "${COMP_WORDS[index + 1]}" != = ]; then index=$((index + 1)); fi
         ;;

@@ -50,8 +50,8 @@ try_tree() { # WHAT PREFIX LIBDIR
     same "$1: the C example prints something else"
   fi
   mkdir -p "$work/pair" && cp examples/signon.* "$work/pair"
-  if TERM3270=$2/bin/term3270 examples/ci/check_screens "$work/pair" > "$work/printed" 2>&1; then good; else
-    bad "$1: examples/ci/check_screens: $(cat "$work/printed")"
+  if "$2/bin/term3270" suite "$work/pair" > "$work/printed" 2>&1; then good; else
+    bad "$1: suite: $(cat "$work/printed")"
   fi
   page=$(ls "$2"/share/man/man1/term3270.1*)
   named=$({ zcat -f "$page"; for command in '' $("$program" --help | sed -n '/^  help/d; s/^  \([a-z]*\)  .*/\1/p'); do "$program" $command --help; done; } |

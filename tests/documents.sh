@@ -19,6 +19,19 @@ cat examples/order.toml examples/items.toml > "$work/examples"
 same "an example in docs/LAYOUTS.md differs from examples/order.toml or examples/items.toml" "$work/guide" "$work/examples"
 "$program" show --format svg < examples/signon.hex > "$work/drawn"
 same "docs/signon.svg differs from what the program draws of examples/signon.hex" "$work/drawn" docs/signon.svg
+for page in crates/*/README.md; do
+  name=${page%/README.md}
+  name=${name#crates/}
+  awk '/^```rust/ { inside = 1; next } /^```/ { inside = 0 } inside' "$page" > "$work/shown"
+  [ -s "$work/shown" ] || continue
+  sed 1,2d "crates/usage/src/of_$name.rt" > "$work/proved"
+  same "the example of $page differs from crates/usage/src/of_$name.rt" "$work/shown" "$work/proved"
+done
+if command -v rt > /dev/null; then
+  rt version > "$work/version"
+  sed -n 's/.*(version `\(.*\)`).*/\1/p' docs/PROVED.md > "$work/told_version"
+  same "docs/PROVED.md has another version of the toolchain than rt version prints" "$work/version" "$work/told_version"
+fi
 if command -v python3 > /dev/null; then
   PYTHONDONTWRITEBYTECODE=1 python3 tests/documents.py "$program" > "$work/told"
   sed '$d' "$work/told"

@@ -437,6 +437,46 @@ def odd_numbers(host):
     return host.shown()
 
 
+QUERY = bytes_of("F3 0005 01FF02")
+REPLIES = bytes_of("88 0007 8180 8081A6 0017 8181 0100 0050 0018 01 000A 02E5 0002 006F 09 0C 0780 0011 81A6 0000 0B 01 00 0050 0018 0050 0018")
+
+
+def queried(host):
+    host.enhanced()
+    host.show(QUERY, 2, 1)
+    host.want(rb"\x02\x00[\x00\x01]\x00\x01.\xff\xef", 0.5)
+    return host.shown()
+
+
+def queried_without_responses(host):
+    host.begin()
+    host.grant_device(host.ask_device())
+    host.asked_functions()
+    host.sub("28 0307")
+    host.want(rb"\xff\xfa\x28\x03\x04\xff\xf0")
+    host.show(QUERY)
+    return host.want(re.escape(REPLIES) + rb"\xff\xef", 1.0) is not None and host.shown()
+
+
+def queried_list_classic(host):
+    host.classic()
+    host.record(bytes_of("F3 0007 01FF03 00 86"))
+    return host.want(re.escape(bytes_of("88 0004 81FFFF")) + rb"\xff\xef", 1.0) is not None and host.shown_classic()
+
+
+def screen_in_field(host):
+    host.enhanced()
+    field = bytes_of("4000") + SIGN_ON
+    host.show(b"\xf3" + (len(field) + 2).to_bytes(2, "big") + field)
+    return host.answered()
+
+
+def erase_reset(host):
+    host.enhanced()
+    host.show(bytes_of("F3 0004 0300"))
+    return host.shown()
+
+
 def silent(host):
     time.sleep(1.0)
     return False
@@ -485,6 +525,11 @@ HOSTS = [
     (screen_without_input, "keys 0", True),
     (screen_in_two_records, "keys 0", True),
     (odd_numbers, "keys 0", True),
+    (queried, "keys 0", True),
+    (queried_without_responses, "closed 0", True),
+    (queried_list_classic, "closed 0", True),
+    (screen_in_field, "closed 0", True),
+    (erase_reset, "keys 0", True),
     (silent, "closed 0", False),
 ]
 

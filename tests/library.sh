@@ -65,6 +65,11 @@ for folder in "$root"/tests/cases/show "$root"/tests/cases/check "$root"/tests/c
     if [ -f "$work/in/args" ]; then
       while IFS= read -r word || [ -n "$word" ]; do set -- "$@" "$word"; done < "$work/in/args"
     fi
+    # What these options ask for the program does alone.
+    program_alone=no
+    for word; do
+      case $word in --chars | --turns | --turn | --size | --all) program_alone=yes ;; esac
+    done
     wanted=0
     [ -f "$work/in/status" ] && wanted=$(cat "$work/in/status")
     [ -f "$work/in/stdout" ] || : > "$work/in/stdout"
@@ -73,7 +78,7 @@ for folder in "$root"/tests/cases/show "$root"/tests/cases/check "$root"/tests/c
     (cd "$work/in" && "$work/library" answer "$@" < "$work/stdin" > "$work/stdout" 2> "$work/stderr")
     status=$?
     # A fault of the command line, or a file that is missing, is the program's alone.
-    if { [ $status = 101 ] && [ ! -s "$work/in/stdout" ]; } || [ $status = 102 ]; then
+    if { [ $status = 101 ] && { [ ! -s "$work/in/stdout" ] || [ $program_alone = yes ]; }; } || [ $status = 102 ]; then
       left_out=$((left_out + 1))
       continue
     fi

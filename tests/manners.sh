@@ -98,6 +98,8 @@ if command -v python3 > /dev/null; then
   compare 'map sources cut at every byte' '0 failed' "$(PYTHONDONTWRITEBYTECODE=1 python3 "$root/tests/cuts.py" "$program" | tail -n 1 | sed 's/.*, //')"
   compare 'where findings come from' '300 passed, 0 failed' "$(PYTHONDONTWRITEBYTECODE=1 python3 "$root/tests/origins.py" "$program" | tail -n 1)"
   compare 'what a help says ends its finding' '300 passed, 0 failed' "$(PYTHONDONTWRITEBYTECODE=1 python3 "$root/tests/helps.py" "$program" | tail -n 1)"
+  compare 'characters are read again' '0 failed' "$(PYTHONDONTWRITEBYTECODE=1 python3 "$root/tests/characters.py" "$program" | tail -n 1 | sed 's/.*, //')"
+  compare 'what is said at a terminal' '0 failed' "$(PYTHONDONTWRITEBYTECODE=1 python3 "$root/tests/terminal.py" "$program" | tail -n 1 | sed 's/.*, //')"
   compare 'why lines are refused' '0 failed' "$(PYTHONDONTWRITEBYTECODE=1 python3 "$root/tests/reasons.py" "$program" | tail -n 1 | sed 's/.*, //')"
   compare 'what is told to be added ends its finding' '0 failed' "$(PYTHONDONTWRITEBYTECODE=1 python3 "$root/tests/explained.py" "$program" | tail -n 1 | sed 's/.*, //')"
   compare 'what the golden cases have in common' '0 failed' "$(PYTHONDONTWRITEBYTECODE=1 python3 "$root/tests/forms.py" "$program" | tail -n 1 | sed 's/.*, //')"

@@ -63,7 +63,11 @@ fn answers_text(
 }
 
 /// What `bind` answers to a layout and a text of answers.
-fn bind_answers(
+///
+/// # Errors
+///
+/// The first fault of the lines; out of memory.
+pub fn bind_answers(
     alloc: Global,
     layout: &Layout,
     answers: &[u8],

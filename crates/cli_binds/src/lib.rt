@@ -5,5 +5,5 @@ mod bind;
 mod fields;
 mod lines;
 
-pub use bind::{bind_texts, run_bind};
+pub use bind::{bind_answers, bind_texts, run_bind};
 pub use fields::Form;

@@ -3,6 +3,7 @@ pub mod Ear
 pub mod Flaw
 pub mod Head
 pub mod Judged
+pub mod CharacterLine
 pub mod KeyLine
 pub mod LayoutFault
 pub mod LayoutLine
@@ -10,6 +11,8 @@ pub mod LayoutWords
 pub mod Nearest
 pub mod OrderLine
 pub mod RecordLine
+pub mod Refusal
+pub mod RefusedRecord
 pub mod Refusing
 pub mod SaysLayout
 pub mod Sentence

@@ -3,7 +3,8 @@ use Rattle.std.specs.Prelude.{ℕ, ◌+◌, ◌%◌, ◌==◌, min, nat_eq, Bool
 use Rattle.std.specs.List.{starts_with, list_any, before_first}
 use Rattle.std.specs.Str.{bytes_eq}
 use Rattle.cli_reasons.specs.declared.flaw.Flaw.{Flaw}
-use Rattle.cli_reasons.specs.declared.flaw.Why.TheVariants.{NotDigit, OddDigits, NoOrder, OtherForm}
+use Rattle.cli_reasons.specs.declared.flaw.Why.{Why}
+use Rattle.cli_reasons.specs.declared.flaw.Why.TheVariants.{NeedsCharacters, NotDigit, OddDigits, NoOrder, OtherForm}
 use Rattle.cli_reasons.specs.declared.record_line.SizesBy.{SizesBy}
 use Rattle.cli_reasons.specs.Digits.{first_no_digit}
 use Rattle.cli_reasons.specs.Flaw.{flaw_at}
@@ -63,9 +64,13 @@ is_space c = c == 0x20
 abbrev pub first_word : List ℕ → List ℕ
 first_word line = if list_any is_space line then before_first is_space line else line
 
+-- a quote begins characters
+abbrev pub digit_why : ℕ → Why
+digit_why byte = if byte == 39 then NeedsCharacters else NotDigit byte
+
 -- what is wrong with the digits of a text, of which this is the first byte that is none
 abbrev pub digits_flaw_from : List ℕ → Option ℕ → Flaw
-digits_flaw_from digits (Some place) = flaw_at (place + 6) (NotDigit (slice_index digits place))
+digits_flaw_from digits (Some place) = flaw_at (place + 6) (digit_why (slice_index digits place))
 digits_flaw_from digits None =
     if length digits % 2 == 1 then flaw_at (length digits + 6) (OddDigits (length digits)) else flaw_at 6 OtherForm
 

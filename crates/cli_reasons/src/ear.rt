@@ -3,20 +3,26 @@
 ghost use Rattle.std.specs.Prelude.{◌≡◌, ◌<◌, ◌≤◌, ◌++◌, length, None, Some, IfSome, IsSome, true};
 ghost use Rattle.cli_reasons.specs.declared.flaw.Why.TheVariants.{TooLong};
 ghost use Rattle.cli_reasons.specs.declared.flaw.Limit.TheVariants.{RecordBytes, Records};
+ghost use Rattle.cli_commands.specs.Lines.{lines_in};
+ghost use Rattle.cli_reasons.specs.declared.ear.Lines.TheVariants.{Layout};
 ghost use Rattle.cli_reasons.specs.Flaw.{flaw_at};
+ghost use Rattle.cli_reasons.specs.Refusal.{holds_records};
 ghost use Rattle.cli_reasons.specs.Ear.{next_number, over_limit};
 ghost use Rattle.cli_reasons.specs.Refusing.{refused_number, StaysRefused};
 
 use crate::flaw::{Flaw, Limit, Why};
 use crate::judged::{
-    Judged, is_session, judged_name, judged_order, judged_record, judged_stream, judged_trace,
-    judged_turn,
+    Judged, is_session, judged_characters, judged_name, judged_order, judged_record, judged_stream,
+    judged_trace, judged_turn,
 };
 use crate::key_line::Names;
 use crate::layout_reason::layout_sentence;
 use crate::record_line::SizesBy;
+use crate::refusal::holds_records;
+use crate::refused_record::refusal_sentence;
 use crate::telling::sentence;
-use cli_commands::{CommandError, without_end};
+use cli_characters::convert_back_characters_text;
+use cli_commands::{Answer, CommandError, convert_back_text, convert_text, show_text, without_end};
 use memchr::memchr;
 use std::alloc::Global;
 use std::mem::replace;
@@ -29,6 +35,9 @@ const MOST_KEPT: usize = 16_777_219;
 /// So many bytes at the front of a line tell whether it is one of a trace.
 const MOST_FRONT: usize = 64;
 
+/// Of longer texts nothing is said of a record that is refused.
+const MOST_TEXT: u64 = 1_048_576;
+
 const MOST_RECORDS: u64 = 1_000;
 
 const MOST_RECORD_BYTES: usize = 32_768;
@@ -40,6 +49,8 @@ const MOST_KEYS: u64 = 100_000;
 pub enum Lines {
     /// Records, and the sizes where a line may tell them.
     Records,
+    /// The same, which are only read and not applied.
+    ReadRecords,
     /// Records for the sizes of a layout.
     SizedRecords,
     /// Records of several turns.
@@ -47,6 +58,8 @@ pub enum Lines {
     Names(Names),
     /// Commands and orders.
     Orders,
+    /// Commands and orders, whose texts may be characters.
+    Characters,
     /// The text of a layout, which is kept whole.
     Layout,
     /// A trace, of whose lines no more than the front is kept.
@@ -81,6 +94,8 @@ pub struct Ear {
     /// Whether a record of orders has begun.
     in_record: bool,
     found: Option<RefusedLine>,
+    /// All that came, where records are told and it isn't long.
+    text: Vec<u8>,
     /// Whether memory was refused: nothing more is said.
     is_deaf: bool,
 }
@@ -88,7 +103,9 @@ pub struct Ear {
 /// What tells the sizes before the first line.
 fn first_sizes(lines: Lines) -> SizesBy {
     match lines {
-        Lines::Records | Lines::Orders => SizesBy::Line,
+        Lines::Records | Lines::ReadRecords | Lines::Orders | Lines::Characters => {
+            SizesBy::Line
+        },
         _ => SizesBy::Layout,
     }
 }
@@ -125,6 +142,7 @@ impl Ear {
             count: 0,
             in_record: false,
             found: None,
+            text: Vec::new(alloc),
             is_deaf: false,
         }
     }
@@ -134,6 +152,7 @@ impl Ear {
         ensures { StaysRefused self.old self.new }
     {
         self.bytes = self.bytes.saturating_add(bytes.len() as u64);
+        self.keep_text(bytes);
         if self.lines == Lines::Layout {
             return self.keep(bytes);
         }
@@ -143,6 +162,55 @@ impl Ear {
             rest = left;
         }
         self.keep(rest);
+    }
+
+    /// Whether the lines tell records, of which one may be refused.
+    fn tells_records(&self) -> bool {
+        matches!(
+            self.lines,
+            Lines::Records | Lines::ReadRecords | Lines::Orders | Lines::Characters
+        )
+    }
+
+    /// Keeps what came of a text that isn't long.
+    fn keep_text(&mut self, bytes: &[u8])
+        ensures { StaysRefused self.old self.new }
+    {
+        if !self.tells_records() {
+            return;
+        }
+        if MOST_TEXT < self.bytes || self.text.extend_from_slice(bytes).is_err() {
+            self.text = Vec::new(self.alloc);
+        }
+    }
+
+    /// What the command of these lines answers.
+    fn answer(&self) -> Result<Answer, CommandError> {
+        let text = self.text.as_slice();
+        match self.lines {
+            Lines::ReadRecords => convert_text(self.alloc, text),
+            Lines::Orders => convert_back_text(self.alloc, text),
+            Lines::Characters => convert_back_characters_text(self.alloc, text),
+            _ => show_text(self.alloc, text),
+        }
+    }
+
+    /// The sentence of a record that is refused, or can't be written, in the input of this name, where no line is refused.
+    pub fn refusal(&self, name: &str) -> Option<String>
+        ensures { IsSome self.now.found → result ≡ None }
+    {
+        if self.is_done() || self.text.is_empty() || 16_777_216 < self.text.len() {
+            return None;
+        }
+        match self.answer() {
+            Err(CommandError::Fault(fault)) => {
+                match refusal_sentence(self.alloc, name, self.text.as_slice(), fault) {
+                    Ok(sentence) => sentence,
+                    Err(_) => None,
+                }
+            }
+            _ => None,
+        }
     }
 
     /// Keeps the beginning of a line.
@@ -208,10 +276,13 @@ impl Ear {
 
     fn judged(&self, line: &[u8]) -> Result<Judged, CommandError> {
         match self.lines {
-            Lines::Records | Lines::SizedRecords => judged_record(self.alloc, self.sizes, line),
+            Lines::Records | Lines::ReadRecords | Lines::SizedRecords => {
+                judged_record(self.alloc, self.sizes, line)
+            }
             Lines::Turns => judged_turn(self.alloc, line),
             Lines::Names(names) => judged_name(self.alloc, names, line),
             Lines::Orders => judged_order(self.alloc, self.sizes, line),
+            Lines::Characters => judged_characters(self.alloc, self.sizes, line),
             Lines::Layout => Ok(Judged::Nothing),
             Lines::Trace => Ok(judged_trace(line)),
             Lines::Stream => Ok(judged_stream(line)),
@@ -231,6 +302,10 @@ impl Ear {
             }
             Judged::Record(bytes) => self.one_record(bytes),
             Judged::Key => self.one_more(MOST_KEYS, Limit::Keys),
+            Judged::Characters(count) => {
+                self.count = self.count.saturating_add((count as u64).saturating_sub(1));
+                self.one_more(MOST_KEYS, Limit::Keys)
+            }
             Judged::Session => {
                 self.count = next_number(self.count);
                 None
@@ -358,5 +433,12 @@ impl Ear {
             .ok(),
             _ => None,
         }
+    }
+
+    /// Whether the text of a layout is none, but records.
+    pub fn holds_records(&self) -> bool
+        ensures { self.now.lines ≡ Layout → result ≡ holds_records (lines_in self.now.open.items) }
+    {
+        self.lines == Lines::Layout && holds_records(self.open.as_slice())
     }
 }

@@ -3,7 +3,7 @@
 ghost use Rattle.std.specs.Prelude.{◌≡◌, ◌<◌, ◌++◌, OnOk};
 ghost use Rattle.std.specs.String.{string_bytes};
 ghost use Rattle.order_lines.specs.Print.{hex_byte};
-ghost use Rattle.cli_reasons.specs.Flaw.{flaw_at, quoted_text, bare_text, byte_text, limit_words, odd_text, other_words, why_words, why_text};
+ghost use Rattle.cli_reasons.specs.Flaw.{character_words, flaw_at, quoted_text, bare_text, byte_text, limit_words, odd_text, other_words, why_words, why_text};
 
 use order_lines::push_hex;
 use std::alloc::AllocError;
@@ -49,6 +49,20 @@ pub enum Why {
     NoCommand,
     /// A command in a record that has one.
     SecondCommand,
+    /// A byte that is none of the 95 characters.
+    NoCharacter(u8),
+    /// `string` without a character.
+    NoString,
+    /// Characters between quotes without their option.
+    NeedsCharacters,
+    /// Characters whose quote isn't closed.
+    OpenQuote,
+    /// No characters and no digits where some are due.
+    NoRun,
+    /// Something else than a space after characters.
+    NoSpace,
+    /// One digit of a byte.
+    HalfByte,
     /// More records or keys than an input has, or more bytes than a record has.
     TooLong(Limit),
 }
@@ -151,6 +165,21 @@ fn push_odd(out: &mut String, count: usize) -> Result<(), AllocError>
 }
 
 impl Why {
+    /// Its words where it is of characters.
+    fn character_words(self) -> &'static str
+        ensures { result.now ≡ character_words self }
+    {
+        match self {
+            Why::NoString => "'string' takes one character or more",
+            Why::NeedsCharacters => "characters between quotes; give the option --chars",
+            Why::OpenQuote => "no quote ends the characters; one among them stands twice",
+            Why::NoRun => "characters between quotes, or digits, are missing",
+            Why::NoSpace => "a space stands after the quote that ends characters",
+            Why::HalfByte => "a byte takes two hexadecimal digits",
+            _ => "",
+        }
+    }
+
     /// Its words where it is of keys or of orders, or a limit.
     fn other_words(self) -> &'static str
         ensures { result.now ≡ other_words self }
@@ -165,7 +194,7 @@ impl Why {
             Why::NoCommand => "an order before its command",
             Why::SecondCommand => "a second command; an empty line ends a record",
             Why::TooLong(limit) => limit.words(),
-            _ => "",
+            _ => self.character_words(),
         }
     }
 
@@ -182,6 +211,7 @@ impl Why {
             Why::Tab => "a tab; only spaces may stand between digits",
             Why::Prefix => "'0x'; digits stand without it",
             Why::Comment => "'#' begins a comment only at the beginning of a line",
+            Why::NoCharacter(_) => " is none of the 95 characters from the space to the tilde",
             Why::SizesOfLayout => "the layout gives the sizes; leave this line out",
             Why::SizesTooLate => "sizes are told once, before the first record",
             Why::NoSizes => "no sizes of a terminal, as in 'size 24x80 43x80'",
@@ -195,7 +225,9 @@ impl Why {
         ensures { OnOk result (string_bytes out.new ≡ string_bytes out.old ++ why_text self) }
     {
         match self {
-            Why::NotDigit(byte) | Why::NotUtf8(byte) => push_byte_words(out, byte, self.words()),
+            Why::NotDigit(byte) | Why::NotUtf8(byte) | Why::NoCharacter(byte) => {
+                push_byte_words(out, byte, self.words())
+            }
             Why::OddDigits(count) => push_odd(out, count),
             _ => out.push_str(self.words()),
         }

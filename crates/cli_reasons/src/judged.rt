@@ -3,11 +3,13 @@
 ghost use Rattle.std.specs.Prelude.{◌≡◌, ◌≤◌, ◌<◌, ◌+◌, ◌^◌, length};
 ghost use Rattle.cli_reasons.specs.Judged.{size_line, is_plain, is_session, is_spaced, judged_digits, stream_flaw};
 
+use crate::character_line::character_flaw;
 use crate::digits::{digit_count, first_other};
 use crate::flaw::{Flaw, Limit, Why};
 use crate::key_line::{Names, key_flaw};
 use crate::order_line::order_flaw;
 use crate::record_line::{SizesBy, record_flaw};
+use cli_characters::{plain_line, string_of};
 use cli_commands::{CommandError, Fault, Records, SizeLine, keys_in, records_in, strokes_in};
 use order_lines::{Told, read_line};
 use std::alloc::{AllocError, Global};
@@ -25,6 +27,8 @@ pub(crate) enum Judged {
     /// It is a record of so many bytes.
     Record(usize),
     Key,
+    /// It types so many characters.
+    Characters(usize),
     /// A command, which begins a record.
     Command,
     /// An order of a record that has begun.
@@ -54,7 +58,7 @@ fn is_plain(line: &[u8]) -> bool
 }
 
 /// Whether a line is digits, an even number of them, and spaces.
-fn is_spaced(line: &[u8]) -> bool
+pub(crate) fn is_spaced(line: &[u8]) -> bool
     ensures { result ≡ is_spaced line.now }
 {
     first_other(line).is_none() && digit_count(line) % 2 == 0
@@ -111,6 +115,11 @@ pub(crate) fn judged_name(
     names: Names,
     line: &[u8],
 ) -> Result<Judged, CommandError> {
+    if names == Names::Strokes {
+        if let Some(text) = string_of(alloc, line)? {
+            return Ok(Judged::Characters(text.len()));
+        }
+    }
     match names_in(alloc, names, line) {
         Ok(0) => Ok(Judged::Nothing),
         Ok(_) => Ok(Judged::Key),
@@ -146,6 +155,19 @@ pub(crate) fn judged_order(
         Some(Told::Command(_)) => Ok(Judged::Command),
         Some(Told::Order(_)) => Ok(Judged::Order),
         None => judged_other(alloc, sizes, line),
+    }
+}
+
+/// What a line of orders does whose texts may be characters.
+pub(crate) fn judged_characters(
+    alloc: Global,
+    sizes: SizesBy,
+    line: &[u8],
+) -> Result<Judged, CommandError> {
+    let plain = plain_line(alloc, line)?;
+    match judged_order(alloc, sizes, plain.as_slice())? {
+        Judged::Refused(_) => Ok(Judged::Refused(character_flaw(sizes, line))),
+        judged => Ok(judged),
     }
 }
 

@@ -1,6 +1,7 @@
 //! Why an input is refused: of a line the column and what stands there, in a sentence for standard error.
 #![tactic(auto)]
 
+mod character_line;
 mod digits;
 mod ear;
 mod flaw;
@@ -15,6 +16,8 @@ mod layout_words;
 mod near;
 mod order_line;
 mod record_line;
+mod refusal;
+mod refused_record;
 mod shown;
 mod telling;
 mod text;

@@ -2,7 +2,7 @@
 
 ghost use Rattle.std.specs.Prelude.{◌≡◌, ◌≤◌, length};
 ghost use Rattle.std.specs.Option.{option_map};
-ghost use Rattle.cli_reasons.specs.OrderLine.{command_form, cell_form, address_form, form_of, first_word, text_digits_flaw, operand_flaw, word_flaw, order_text_flaw, order_flaw};
+ghost use Rattle.cli_reasons.specs.OrderLine.{command_form, cell_form, digit_why, address_form, form_of, first_word, text_digits_flaw, operand_flaw, word_flaw, order_text_flaw, order_flaw};
 
 use crate::digits::first_no_digit;
 use crate::flaw::{Flaw, Why};
@@ -79,12 +79,23 @@ pub(crate) fn first_word(line: &str) -> &str
     }
 }
 
+/// Why a byte is no digit of a text: a quote begins characters.
+fn digit_why(byte: u8) -> Why
+    ensures { result ≡ digit_why byte }
+{
+    if byte == b'\'' {
+        Why::NeedsCharacters
+    } else {
+        Why::NotDigit(byte)
+    }
+}
+
 /// What is wrong with the digits of a text, which stand after five characters.
 fn digits_flaw(digits: &[u8]) -> Flaw
     ensures { result ≡ text_digits_flaw digits.now }
 {
     match first_no_digit(digits) {
-        Some(place) => Flaw::at(place + 6, Why::NotDigit(digits[place])),
+        Some(place) => Flaw::at(place + 6, digit_why(digits[place])),
         None if digits.len() % 2 == 1 => Flaw::at(digits.len() + 6, Why::OddDigits(digits.len())),
         None => Flaw::at(6, Why::OtherForm),
     }

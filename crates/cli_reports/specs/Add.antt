@@ -1,17 +1,18 @@
 -- What to add for a finding: the entry of a field that has none, and the orders that write an attribute as it should be.
-use Rattle.std.specs.Prelude.{ℕ, ◌+◌, ◌%◌, ◌&&◌, ◌==◌, nat_lt, false, Option, Some, None, option_and_then, List, [], ◌++◌, codes, length, if◌then◌else◌}
+use Rattle.std.specs.Prelude.{ℕ, ◌+◌, ◌%◌, ◌&&◌, ◌==◌, nat_le, nat_lt, false, Option, Some, None, option_and_then, List, [], ◌++◌, codes, length, if◌then◌else◌}
 use Rattle.std.specs.Fmt.{decimal}
 use Rattle.ds_codec.specs.Address.{six_bit_code}
 use Rattle.ds_codec.specs.Attribute.{with_modified}
 use Rattle.ds_codec.specs.Geometry.{cells_of}
 use Rattle.ds_screen.specs.Picture.{Picture, cell_at}
 use Rattle.ds_screen.specs.Fields.{attribute_of, fields_of}
+use Rattle.ds_screen.specs.Ring.{ring_on}
 use Rattle.order_lines.specs.Print.{hex_byte}
 use Rattle.scr_layout.specs.declared.entry.Kind.{Kind}
 use Rattle.scr_layout.specs.declared.entry.Kind.TheVariants.{Input, Fixed}
 use Rattle.scr_layout.specs.Layout.{Declaration}
 use Rattle.scr_check.specs.declared.finding.Finding.{Finding}
-use Rattle.scr_check.specs.declared.finding.Finding.TheVariants.{Undeclared, UndeclaredFixed, OtherKind, EmptyModified}
+use Rattle.scr_check.specs.declared.finding.Finding.TheVariants.{Undeclared, UndeclaredFixed, TooLong, OtherKind, EmptyModified}
 use Rattle.scr_check.specs.Traced.{attribute_place}
 use Rattle.cli_findings.specs.Facts.{place_of, row_at, column_at}
 use Rattle.cli_findings.specs.FieldName.{field_name}
@@ -74,7 +75,32 @@ abbrev pub write_for : Declaration → Picture → Finding → Option ℕ → Li
 write_for layout v finding None = []
 write_for layout v finding (Some place) = write_line layout v finding place
 
--- ---- both
+-- ---- the end of a field
+
+-- the attribute that ends a field: protected, and passed by the cursor
+abbrev pub stopper : ℕ
+stopper = 0x30
+
+-- the cells of a field that has more than its entry declares
+abbrev pub declared_cells : Finding → Option ℕ
+declared_cells (TooLong found) = Some found.declared
+declared_cells finding = None
+
+-- the attribute that ends the field at a place of a screen of the layout's size after so many cells
+abbrev pub stop_after : Declaration → Picture → ℕ → ℕ → List ℕ
+stop_after layout v place cells =
+    if nat_lt place (cells_of layout.size) && (nat_le cells (cells_of layout.size) && (cells_of layout.size == length v.cells))
+    then amended_line (address_digits layout.geometry.mode layout.size (ring_on (cells_of layout.size) place cells)) stopper
+    else []
+
+abbrev pub stop_for : Declaration → Picture → Option ℕ → Option ℕ → List ℕ
+stop_for layout v (Some place) (Some cells) = stop_after layout v place cells
+stop_for layout v place cells = []
+
+-- ---- all of them
+
+abbrev pub written_for : Declaration → Picture → Finding → Option ℕ → List ℕ
+written_for layout v finding place = write_for layout v finding place ++ stop_for layout v place (declared_cells finding)
 
 abbrev pub added : Declaration → Picture → Finding → List ℕ
-added layout v finding = entry_for layout v (undeclared finding) ++ write_for layout v finding (place_of layout.entries finding)
+added layout v finding = entry_for layout v (undeclared finding) ++ written_for layout v finding (place_of layout.entries finding)

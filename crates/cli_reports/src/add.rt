@@ -1,22 +1,25 @@
 //! What to add: the entry of a field that has none, and the order that writes an attribute as it should be.
 
-ghost use Rattle.std.specs.Prelude.{◌≡◌, ◌≤◌, ◌<◌, ◌++◌, length, option_map, IfOk, IfSome, OnOk, string_bytes};
+ghost use Rattle.std.specs.Prelude.{◌≡◌, ◌≤◌, ◌<◌, ◌++◌, length, option_map, Some, IfOk, IfSome, OnOk, string_bytes};
 ghost use Rattle.ds_codec.specs.Geometry.{cells_of};
 ghost use Rattle.ds_screen.specs.Fields.{attribute_of, fields_of};
 ghost use Rattle.ds_screen.specs.Picture.{cell_at};
 ghost use Rattle.cli_findings.specs.Help.{names_in};
-ghost use Rattle.cli_reports.specs.Add.{undeclared, kind_line, entry_block, entry_lines, amended, amended_line, write_line, added};
+ghost use Rattle.cli_reports.specs.Add.{undeclared, kind_line, entry_block, entry_lines, amended, amended_line, write_line, declared_cells, stop_after, written_for, added};
 ghost use Rattle.cli_reports.specs.Extent.{length_in};
 
 use crate::extent::length_at;
 use cli_findings::{address_text, column_at, field_name, place_of, row_at};
 use ds_codec::{Attr, Cell, to_six_bit_code};
-use ds_screen::ring::previous;
+use ds_screen::ring::{forward, previous};
 use ds_screen::{PlaneCells, Screen};
 use order_lines::push_hex;
 use scr_check::Finding;
 use scr_layout::{Kind, Layout};
 use std::alloc::{AllocError, Global};
+
+/// The bits of an attribute that ends a field: protected, and passed by the cursor.
+const STOPPER: u8 = 0x30;
 
 /// The place of a field that has no entry, and the kind that its entry has.
 fn undeclared(finding: &Finding) -> Option<(u32, Kind)>
@@ -146,6 +149,56 @@ fn push_amended(
     }
 }
 
+/// The cells that are declared of a field that has more.
+fn declared_cells(finding: &Finding) -> Option<u32>
+    ensures { result ≡ declared_cells finding.now }
+{
+    match finding {
+        Finding::TooLong(found) => Some(found.declared),
+        _ => None,
+    }
+}
+
+/// The orders that end the field at a place after so many cells.
+fn push_stopper(
+    alloc: Global,
+    out: &mut String,
+    layout: &Layout,
+    screen: &Screen<PlaneCells>,
+    place: u32,
+    cells: u32,
+) -> Result<(), AllocError>
+    ensures { OnOk result (string_bytes out.new
+        ≡ string_bytes out.old ++ stop_after layout.now screen.now place cells) }
+{
+    let size = layout.size();
+    if place >= size.cells() || cells > size.cells() || size.cells() != screen.size().cells() {
+        return Ok(());
+    }
+    let at = forward(size.cells(), place, cells);
+    let address = address_text(alloc, layout.geometry(), size, at)?;
+    push_write(out, address.as_str(), Attr::new(STOPPER))
+}
+
+/// The orders that write what is amiss with the field at a place.
+fn push_written(
+    alloc: Global,
+    out: &mut String,
+    layout: &Layout,
+    screen: &Screen<PlaneCells>,
+    finding: &Finding,
+    place: u32,
+) -> Result<(), AllocError>
+    ensures { OnOk result (string_bytes out.new
+        ≡ string_bytes out.old ++ written_for layout.now screen.now finding.now (Some place)) }
+{
+    push_amended(alloc, out, layout, screen, finding, place)?;
+    match declared_cells(finding) {
+        Some(cells) => push_stopper(alloc, out, layout, screen, place, cells),
+        None => Ok(()),
+    }
+}
+
 /// What is to be added for a finding of a screen.
 pub(crate) fn push_added(
     alloc: Global,
@@ -162,7 +215,7 @@ pub(crate) fn push_added(
         push_entry(alloc, out, layout, place, kind, length)?;
     }
     match place_of(layout.entries(), finding) {
-        Some(place) => push_amended(alloc, out, layout, screen, finding, place),
+        Some(place) => push_written(alloc, out, layout, screen, finding, place),
         None => Ok(()),
     }
 }

@@ -2,7 +2,7 @@
 use Rattle.std.proofs.Common.{◌≡◌, ◌⊎◌, ℕ, ◌+◌, List, [], ◌∷◌, ◌++◌, length, inl, inr, append_assoc, sym, ◌∙◌, ap, subst, arith}
 use Rattle.tn_traces.specs.Line.{Said, nothing, connected, piece, bad}
 use Rattle.cli_traces.specs.declared.asked.Asked.{Asked}
-use Rattle.cli_traces.specs.Following.{Following, Course, goes, stops, connection, left_text, said_of, Adds, AddsSaid, Leads, EndsEarly}
+use Rattle.cli_traces.specs.Following.{Following, Course, goes, stops, beginning, left_text, said_of, Adds, AddsSaid, Leads, EndsEarly}
 use Rattle.cli_traces.specs.Law.{AllHaveOneText, EndsHaveOneText, EndsAreNotAll}
 use Rattle.cli_traces.proofs.Cuts.{adds_one_text, same_following, never}
 
@@ -31,7 +31,7 @@ leads_one asked number f (line ∷ lines) text other last last' (t, more, mid, o
 
 pub all_have_one_text : AllHaveOneText
 all_have_one_text asked lines text other a b =
-    let same = leads_one asked 1 (connection 0) lines a.before b.before a.last b.last a.leads b.leads in
+    let same = leads_one asked 1 beginning lines a.before b.before a.last b.last a.leads b.leads in
     both_texts a.before (left_text asked a.last) b.before (left_text asked b.last) text other a.joined b.joined same.0 (ap (left_text asked) same.1)
 
 -- lines that end early, line by line
@@ -52,11 +52,11 @@ ends_after asked number f (l ∷ front) line more before end last (t, others, ne
     let there : Adds asked ((number + 1) + length front) last line end stops = subst (λ n. Adds asked n last line end stops) (omega arith) adds in
     inr (t, others ++ end, next, one, ap (λ z. z ++ end) is ∙ append_assoc t others end, ends_after asked (number + 1) next front line more others end last leads there)
 
-ends_early : (asked : Asked) (lines : List (List ℕ)) (text : List ℕ) → EndsEarly asked lines text → Ends asked 1 (connection 0) lines text
+ends_early : (asked : Asked) (lines : List (List ℕ)) (text : List ℕ) → EndsEarly asked lines text → Ends asked 1 beginning lines text
 ends_early asked lines text e =
-    subst (λ z. Ends asked 1 (connection 0) z text) (sym e.whole)
-    (subst (Ends asked 1 (connection 0) (e.front ++ e.line ∷ e.more)) (sym e.joined)
-    (ends_after asked 1 (connection 0) e.front e.line e.more e.before e.end e.last e.leads e.ends))
+    subst (λ z. Ends asked 1 beginning z text) (sym e.whole)
+    (subst (Ends asked 1 beginning (e.front ++ e.line ∷ e.more)) (sym e.joined)
+    (ends_after asked 1 beginning e.front e.line e.more e.before e.end e.last e.leads e.ends))
 
 clash : {A : Type 0} (asked : Asked) (number : ℕ) (f next : Following) (line text other : List ℕ) → Adds asked number f line text (goes next) → Adds asked number f line other stops → A
 clash asked number f next line text other a b = never (adds_one asked number f line text other (goes next) stops a b).1
@@ -82,7 +82,7 @@ ends_not_all asked number f (line ∷ lines) text other last (inr (t', more', mi
 
 pub ends_have_one_text : EndsHaveOneText
 ends_have_one_text asked lines text other a b =
-    ends_one asked 1 (connection 0) lines text other (ends_early asked lines text a) (ends_early asked lines other b)
+    ends_one asked 1 beginning lines text other (ends_early asked lines text a) (ends_early asked lines other b)
 
 pub ends_are_not_all : EndsAreNotAll
-ends_are_not_all asked lines text other a b = ends_not_all asked 1 (connection 0) lines text b.before b.last (ends_early asked lines text a) b.leads
+ends_are_not_all asked lines text other a b = ends_not_all asked 1 beginning lines text b.before b.last (ends_early asked lines text a) b.leads

@@ -10,10 +10,10 @@ use Rattle.tn_session.proofs.RunLaws.{open_tells, goes-goes, goes-ends, goes-fau
 use Rattle.tn_traces.specs.declared.line.Side.{Side}
 use Rattle.tn_traces.specs.declared.line.Side.TheVariants.{Host, Terminal}
 use Rattle.cli_traces.specs.declared.asked.Asked.{Asked}
-use Rattle.cli_traces.specs.declared.piece.Reading.{Reading}
+use Rattle.cli_traces.specs.declared.reading.Reading.{Reading}
 use Rattle.cli_traces.specs.Following.{Following, Course, goes, stops, open_of, with_open, act_of, AddsLog, AddsPiece}
 use Rattle.cli_traces.specs.Law.{IsOpenAt, PiecesAddWhole, AddsOneText, CutsAgree}
-use Rattle.cli_traces.specs.Text.{fault_text, wire_name, header_name}
+use Rattle.cli_traces.specs.Text.{fault_text, wire_name, header_name, other_size_name}
 
 -- ---- logs
 
@@ -73,7 +73,7 @@ module _ (asked : Asked) (number : ℕ) (side : Side) (f : Following) where
   waiting x text due mid (is_at_fault fault) log adds = never adds.1
   waiting x text due mid (has_failed (Header fault)) log adds = never adds.1
   waiting x text due mid (has_failed (Wire fault)) log adds = absurd adds
-  waiting x text due mid (has_failed (Session fault)) log adds = absurd adds
+  waiting x text due mid (has_failed (Session fault)) log adds = never adds.1
   waiting x text due mid (has_failed (Inbound fault)) log adds = absurd adds
   waiting x text due mid (has_failed (Bind fault)) log adds = absurd adds
   waiting x text due mid (has_failed OutOfMemory) log adds = absurd adds
@@ -91,7 +91,8 @@ module _ (asked : Asked) (number : ℕ) (side : Side) (f : Following) where
   adds_after text d more c m course (has_failed (Header fault)) adds =
       (ap (λ z. text ++ z) adds.0 ∙ sym (append_assoc text d (fault_text number (header_name fault))), adds.1)
   adds_after text d more c m course (has_failed (Wire fault)) adds = absurd adds
-  adds_after text d more c m course (has_failed (Session fault)) adds = absurd adds
+  adds_after text d more c m course (has_failed (Session fault)) adds =
+      (ap (λ z. text ++ z) adds.0 ∙ sym (append_assoc text d (fault_text number other_size_name)), adds.1)
   adds_after text d more c m course (has_failed (Inbound fault)) adds = absurd adds
   adds_after text d more c m course (has_failed (Bind fault)) adds = absurd adds
   adds_after text d more c m course (has_failed OutOfMemory) adds = absurd adds
@@ -178,7 +179,7 @@ one_end number side f due text other (waits r left) course course' a b = (a.0 �
 one_end number side f due text other (is_at_fault fault) course course' a b = (a.0 ∙ sym b.0, a.1 ∙ sym b.1)
 one_end number side f due text other (has_failed (Header fault)) course course' a b = (a.0 ∙ sym b.0, a.1 ∙ sym b.1)
 one_end number side f due text other (has_failed (Wire fault)) course course' a b = absurd a
-one_end number side f due text other (has_failed (Session fault)) course course' a b = absurd a
+one_end number side f due text other (has_failed (Session fault)) course course' a b = (a.0 ∙ sym b.0, a.1 ∙ sym b.1)
 one_end number side f due text other (has_failed (Inbound fault)) course course' a b = absurd a
 one_end number side f due text other (has_failed (Bind fault)) course course' a b = absurd a
 one_end number side f due text other (has_failed OutOfMemory) course course' a b = absurd a

@@ -1,6 +1,8 @@
 pub mod Alone
 pub mod Costs
 pub mod Cuts
+pub mod FieldLaws
 pub mod Lines
 pub mod Pieces
 pub mod Runs
+pub mod Sizes

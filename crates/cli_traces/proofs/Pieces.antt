@@ -8,7 +8,7 @@ use Rattle.tn_session.specs.declared.fault.RunFault.{RunFault}
 use Rattle.tn_session.specs.declared.fault.RunFault.TheVariants.{Wire, Header, Session, Inbound, Bind, OutOfMemory}
 use Rattle.tn_session.specs.Runs.{Log, fails, GoesOn, EndsBy, EndsAtFault}
 use Rattle.tn_session.proofs.RunLaws.{open_tells, goes-goes, goes-ends, goes-fault, quiet, nothing_yet, one_goes, one_fails, one_fault}
-use Rattle.cli_traces.specs.declared.piece.Reading.{Reading}
+use Rattle.cli_traces.specs.declared.reading.Reading.{Reading}
 use Rattle.cli_traces.specs.Held.{IsOpen}
 use Rattle.cli_traces.specs.Open.{cost_of, cost_in}
 use Rattle.cli_traces.specs.Taking.{TakesEvent, TakesPiece}
@@ -119,9 +119,16 @@ module _ (act : Reading → Told → Log Reading) where
           let exact : EndsBy act before first (so.taken ++ (p.0 ++ after)) so.due (fails (Header fault)) =
           subst (λ z. EndsBy act before first (so.taken ++ (p.0 ++ after)) z (fails (Header fault))) (append-nil so.due) end in
           (so.due, subst (λ z. EndsBy act before first z so.due (fails (Header fault))) (sym (whole p.0 p.1)) exact, went.1 ∙ so.went)
+      piece_fails (Session fault) went =
+          let p = m.fresh so.fresh in
+          let end : EndsBy act before first (so.taken ++ (p.0 ++ after)) (so.due ++ []) (fails (Session fault)) =
+          goes-ends act before so.taken (p.0 ++ after) so.due [] held.content first now (fails (Session fault)) so.log
+          (one_fails act held.content p.0 after new.content now (Session fault) event p.2.answer went.0) in
+          let exact : EndsBy act before first (so.taken ++ (p.0 ++ after)) so.due (fails (Session fault)) =
+          subst (λ z. EndsBy act before first (so.taken ++ (p.0 ++ after)) z (fails (Session fault))) (append-nil so.due) end in
+          (so.due, subst (λ z. EndsBy act before first z so.due (fails (Session fault))) (sym (whole p.0 p.1)) exact, went.1 ∙ so.went)
       piece_fails OutOfMemory went = tt
       piece_fails (Wire fault) went = absurd went
-      piece_fails (Session fault) went = absurd went
       piece_fails (Inbound fault) went = absurd went
       piece_fails (Bind fault) went = absurd went
 

@@ -11,7 +11,7 @@ use Rattle.cli_traces.specs.declared.asked.Asked.{Asked}
 use Rattle.cli_traces.specs.declared.line.Next.{Next}
 use Rattle.cli_traces.specs.declared.line.Next.TheVariants.{Goes, Stops}
 use Rattle.cli_commands.specs.Lines.{lines_in}
-use Rattle.cli_traces.specs.Following.{Following, Course, goes, stops, connection, most_line, said_from, said_of, Adds, AddsSaid, Leads, left_text, EndsEarly}
+use Rattle.cli_traces.specs.Following.{Following, Course, goes, stops, beginning, most_line, said_from, said_of, Adds, AddsSaid, Leads, left_text, EndsEarly}
 use Rattle.cli_traces.specs.Held.{course_seen}
 use Rattle.cli_commands.specs.NextLine.{ReadsFirst, ReadsLine}
 use Rattle.cli_commands.specs.Causes.{EndsBy}
@@ -78,7 +78,7 @@ pub record LinesSoFar (asked : Asked) (lines : List (List ℕ)) (old new : Optio
   pub text : List ℕ
   pub whole : lines ≡ front ++ left
   pub count : number ≡ 1 + length front
-  pub leads : Leads asked 1 (connection 0) front text now
+  pub leads : Leads asked 1 beginning front text now
   pub writes : Appends old new text
 
 -- the lines of a front of the input were taken, and their text was written
@@ -86,7 +86,7 @@ abbrev pub SoFar : Asked → Option (List ℕ) → Option (List ℕ) → Option 
 SoFar asked input left old new number now =
     IfSome input (λ xs. (rest : List ℕ) × (left ≡ Some rest) × LinesSoFar asked (lines_in xs) old new number now (lines_in rest))
 
-pub begins : (asked : Asked) (input old : Option (List ℕ)) (now : Following) → now ≡ connection 0 → SoFar asked input input old old 1 now
+pub begins : (asked : Asked) (input old : Option (List ℕ)) (now : Following) → now ≡ beginning → SoFar asked input input old old 1 now
 begins asked None old now is = tt
 begins asked (Some xs) old now is =
     (xs, refl, record { front = []; text = []; whole = refl; count = refl; leads = (refl, is); writes = nothing_written old })
@@ -110,7 +110,7 @@ module _ (asked : Asked) (lines : List (List ℕ)) (old mid after : Option (List
       text = so.text ++ added;
       whole = more_whole;
       count = let is : number ≡ 1 + length so.front = so.count in omega (arith, length-append so.front (line ∷ []));
-      leads = leads_more asked 1 (connection 0) so.front line so.text added now next so.leads (here added (goes next) adds);
+      leads = leads_more asked 1 beginning so.front line so.text added now next so.leads (here added (goes next) adds);
       writes = appends_more old mid after so.text added so.writes writes;
     }
 
@@ -136,7 +136,7 @@ module _ (asked : Asked) (lines : List (List ℕ)) (old mid after : Option (List
         more = left;
         last = next;
         whole = more_whole;
-        leads = leads_more asked 1 (connection 0) so.front line so.text added now next so.leads (here added (goes next) adds);
+        leads = leads_more asked 1 beginning so.front line so.text added now next so.leads (here added (goes next) adds);
       }),
       front_more old mid after so.text added so.writes front,
     )
@@ -191,13 +191,13 @@ module _ (asked : Asked) (left left' old mid after : Option (List ℕ)) (number 
   ends_all xs rest so none Done writes =
       let all : lines_in xs ≡ so.front = so.whole ∙ ap (λ z. so.front ++ z) none.0 ∙ append-nil so.front in (
         so.text ++ left_text asked now,
-        record { before = so.text; last = now; leads = subst (λ z. Leads asked 1 (connection 0) z so.text now) (sym all) so.leads; joined = refl },
+        record { before = so.text; last = now; leads = subst (λ z. Leads asked 1 beginning z so.text now) (sym all) so.leads; joined = refl },
         appends_more old mid after so.text (left_text asked now) so.writes writes,
       )
   ends_all xs rest so none Failed writes =
       let all : lines_in xs ≡ so.front = so.whole ∙ ap (λ z. so.front ++ z) none.0 ∙ append-nil so.front in (
         so.text ++ left_text asked now,
-        inr (inr (record { before = so.text; last = now; leads = subst (λ z. Leads asked 1 (connection 0) z so.text now) (sym all) so.leads; joined = refl })),
+        inr (inr (record { before = so.text; last = now; leads = subst (λ z. Leads asked 1 beginning z so.text now) (sym all) so.leads; joined = refl })),
         front_more old mid after so.text (left_text asked now) so.writes writes,
       )
   ends_all xs rest so none NoMemory same =
@@ -250,7 +250,7 @@ run_fails asked (Some xs) left old mid number now Findings so fails = absurd fai
 run_fails asked (Some xs) left old mid number now BadInput so fails = absurd fails
 
 pub no_memory : (asked : Asked) (input old : Option (List ℕ)) → IfSome input (λ xs. PrintsRecords asked xs old old NoMemory)
-no_memory asked input old = run_fails asked input input old old 1 (connection 0) NoMemory (begins asked input old (connection 0) refl) tt
+no_memory asked input old = run_fails asked input input old old 1 beginning NoMemory (begins asked input old beginning refl) tt
 
 -- ---- why it ends
 

@@ -1,36 +1,49 @@
 -- What is printed of a trace or a captured stream: each line adds its text, and the lines follow one another.
-use Rattle.std.specs.Prelude.{ℕ, ◌+◌, ◌≡◌, nat_lt, List, [], ◌∷◌, ◌++◌, length, if◌then◌else◌}
+use Rattle.std.specs.List.{filter}
+use Rattle.std.specs.Prelude.{ℕ, ◌+◌, ◌≡◌, ◌==◌, not, nat_lt, Bool, true, false, ◌&&◌, List, [], ◌∷◌, ◌++◌, length, if◌then◌else◌}
 use Rattle.tn_wire.specs.Stream.{Told}
-use Rattle.tn_session.specs.declared.fault.RunFault.TheVariants.{Header as HeaderFails}
+use Rattle.tn_session.specs.declared.fault.RunFault.TheVariants.{Header as HeaderFails, Session as SessionFails}
 use Rattle.tn_session.specs.Runs.{Log}
 use Rattle.tn_session.specs.OneLog.{Standing, waits, has_failed, is_at_fault, HasLog}
 use Rattle.tn_traces.specs.declared.line.Side.{Side}
 use Rattle.tn_traces.specs.declared.line.Side.TheVariants.{Host, Terminal}
-use Rattle.tn_traces.specs.declared.negotiated.Negotiated.TheVariants.{Classic}
-use Rattle.tn_traces.specs.declared.negotiated.Sender.{Sender}
-use Rattle.tn_traces.specs.declared.negotiated.Sender.TheVariants as sends
-use Rattle.tn_traces.specs.declared.negotiated.Sender.TheVariants.{OnlyHost, OnlyTerminal}
 use Rattle.tn_traces.specs.Line.{Said, nothing, connected, piece, bad, trace_said, stream_said}
 use Rattle.cli_traces.specs.declared.asked.Asked.{Asked}
 use Rattle.cli_traces.specs.declared.asked.Source.{Source}
 use Rattle.cli_traces.specs.declared.asked.Source.TheVariants.{Trace, Stream}
-use Rattle.cli_traces.specs.declared.piece.Reading.{Reading}
+use Rattle.cli_traces.specs.declared.reading.Reading.{Reading}
+use Rattle.cli_traces.specs.declared.turn.Turns.{Turns}
+use Rattle.cli_traces.specs.declared.turn.Turns.TheVariants.{Unmarked, Marked, UpTo}
 use Rattle.cli_traces.specs.Open.{open_text}
-use Rattle.cli_traces.specs.Reading.{event_log, same_side}
-use Rattle.cli_traces.specs.Text.{connection_text, refused_text, wire_name, header_name, fault_text}
+use Rattle.cli_traces.specs.Reading.{again, at_first, event_log}
+use Rattle.cli_traces.specs.Text.{connection_text, refused_text, wire_name, header_name, other_size_name, fault_text}
 
 -- ---- what is asked for
 
--- a trace shows both sides, a stream one
-abbrev pub sender_of : Source → Side → Sender
-sender_of Trace Host = sends.Host
-sender_of Trace Terminal = sends.Terminal
-sender_of Stream Host = OnlyHost
-sender_of Stream Terminal = OnlyTerminal
+-- the records of a side alone
+abbrev pub plain : Source → Side → Asked
+plain source side = record { source = source; side = side; turns = Unmarked; all = false; size = false }
+
+-- turns are asked of a stream, which shows one side and so tells of none
+abbrev pub is_stream : Source → Bool
+is_stream Trace = false
+is_stream Stream = true
+
+abbrev pub is_unmarked : Turns → Bool
+is_unmarked Unmarked = true
+is_unmarked Marked = false
+is_unmarked (UpTo last) = false
+
+abbrev pub is_one_sided : Asked → Bool
+is_one_sided asked = is_stream asked.source && not (is_unmarked asked.turns)
+
+-- bytes may be parted by colons, as by spaces
+abbrev pub without_colons : List ℕ → List ℕ
+without_colons line = filter (λ b. not (b == 0x3A)) line
 
 abbrev pub said_from : Source → Side → List ℕ → Said
 said_from Trace side line = trace_said line
-said_from Stream side line = stream_said side line
+said_from Stream side line = stream_said side (without_colons line)
 
 -- the most bytes of a line, without its end
 abbrev pub most_line : ℕ
@@ -48,9 +61,12 @@ pub record Following : Type 0 where
   pub terminal : List ℕ
   pub reading : Reading
 
--- a connection begins in a classic session, and the count goes on
-abbrev pub connection : ℕ → Following
-connection count = record { host = []; terminal = []; reading = record { now = Classic; count = count } }
+abbrev pub connection : Reading → Following
+connection reading = record { host = []; terminal = []; reading = reading }
+
+-- before the first line
+abbrev pub beginning : Following
+beginning = connection at_first
 
 abbrev pub open_of : Side → Following → List ℕ
 open_of Host following = following.host
@@ -73,9 +89,9 @@ pub data Course : Type 0 where
 
 -- what an event does that this side sent
 abbrev pub act_of : Asked → Side → ℕ → Reading → Told → Log Reading
-act_of asked side number = event_log (sender_of asked.source side) (same_side side asked.side) number
+act_of asked side number = event_log asked side number
 
--- The log of a piece is its text; after a fault of the stream or of a header there is a line of it, and the end.
+-- The log of a piece is its text; after a fault of the stream, of a header or of the sizes there is a line of it, and the end.
 abbrev pub AddsLog : ℕ → Side → Following → List ℕ → Standing Reading → List ℕ → Course → Type 0
 AddsLog number side following due (waits reading left) text course =
     (text ≡ due) × (course ≡ goes (with_open side following left reading))
@@ -83,6 +99,8 @@ AddsLog number side following due (is_at_fault fault) text course =
     (text ≡ due ++ fault_text number (wire_name fault)) × (course ≡ stops)
 AddsLog number side following due (has_failed (HeaderFails fault)) text course =
     (text ≡ due ++ fault_text number (header_name fault)) × (course ≡ stops)
+AddsLog number side following due (has_failed (SessionFails fault)) text course =
+    (text ≡ due ++ fault_text number other_size_name) × (course ≡ stops)
 AddsLog number side following due standing text course = ⊥
 
 -- a piece of what this side sent
@@ -95,7 +113,7 @@ pub record AddsPiece (asked : Asked) (number : ℕ) (side : Side) (following : F
 abbrev pub AddsSaid : Asked → ℕ → Following → Said → List ℕ → Course → Type 0
 AddsSaid asked number following nothing text course = (text ≡ []) × (course ≡ goes following)
 AddsSaid asked number following connected text course =
-    (text ≡ left_text asked following ++ connection_text number) × (course ≡ goes (connection following.reading.count))
+    (text ≡ left_text asked following ++ connection_text number) × (course ≡ goes (connection (again following.reading)))
 AddsSaid asked number following (piece side bytes) text course = AddsPiece asked number side following bytes text course
 AddsSaid asked number following bad text course = (text ≡ refused_text number) × (course ≡ stops)
 
@@ -117,13 +135,13 @@ pub record IsSoFar (asked : Asked) (lines : List (List ℕ)) (text : List ℕ) :
   pub more : List (List ℕ)
   pub last : Following
   pub whole : lines ≡ front ++ more
-  pub leads : Leads asked 1 (connection 0) front text last
+  pub leads : Leads asked 1 beginning front text last
 
 -- all lines lead to this text, with what is left open at their end
 pub record IsAll (asked : Asked) (lines : List (List ℕ)) (text : List ℕ) : Type 0 where
   pub before : List ℕ
   pub last : Following
-  pub leads : Leads asked 1 (connection 0) lines before last
+  pub leads : Leads asked 1 beginning lines before last
   pub joined : text ≡ before ++ left_text asked last
 
 -- some line is the last that counts: it is refused, or has a fault
@@ -135,6 +153,6 @@ pub record EndsEarly (asked : Asked) (lines : List (List ℕ)) (text : List ℕ)
   pub end : List ℕ
   pub last : Following
   pub whole : lines ≡ front ++ line ∷ more
-  pub leads : Leads asked 1 (connection 0) front before last
+  pub leads : Leads asked 1 beginning front before last
   pub ends : Adds asked (1 + length front) last line end stops
   pub joined : text ≡ before ++ end

@@ -1,8 +1,12 @@
 -- How a stream is cut in pieces doesn't matter.
-use Rattle.std.specs.Prelude.{ℕ, ◌≡◌, ◌⊎◌, List, [], ◌∷◌, ◌++◌}
+use Rattle.std.specs.Prelude.{ℕ, ◌≡◌, ◌⊎◌, List, [], ◌∷◌, ◌++◌, codes, Some}
 use Rattle.std.specs.List.{flat_map}
 use Rattle.tn_wire.specs.Stream.{Tells}
+use Rattle.tn_cores.specs.declared.device.ScreenModel.{ScreenModel}
+use Rattle.tn_cores.specs.Devices.{sizes_of}
 use Rattle.tn_traces.specs.declared.line.Side.{Side}
+use Rattle.cli_commands.specs.Sizes.{geometry_told}
+use Rattle.cli_traces.specs.Device.{size_words}
 use Rattle.cli_traces.specs.declared.asked.Asked.{Asked}
 use Rattle.cli_traces.specs.Following.{Following, Course, goes, stops, open_of, AddsPiece, IsAll, EndsEarly}
 
@@ -40,6 +44,12 @@ CutsAgree =
     → IsOpenAt side following → flat_map (λ piece. piece) pieces ≡ flat_map (λ piece. piece) others
     → AddPieces asked number side following pieces text course → AddPieces asked number side following others other course'
     → (text ≡ other) × (course ≡ course')
+
+-- ---- sizes
+
+-- every command reads the line of a model's sizes as the sizes of that model's devices
+abbrev pub SizesAreRead : Type 0
+SizesAreRead = (model : ScreenModel) → geometry_told (codes "size " ++ size_words model) ≡ Some (sizes_of model)
 
 -- ---- lines
 

@@ -1,3 +1,5 @@
+pub mod Device
+pub mod Fields
 pub mod Following
 pub mod Held
 pub mod Law
@@ -7,3 +9,4 @@ pub mod Reading
 pub mod Taking
 pub mod Text
 pub mod Told
+pub mod Turns

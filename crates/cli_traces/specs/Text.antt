@@ -1,5 +1,5 @@
 -- The text of records, and of what else is told of a stream.
-use Rattle.std.specs.Prelude.{ℕ, ◌+◌, min, Bool, true, false, ◌&&◌, List, [], ◌∷◌, ◌++◌, codes, if◌then◌else◌, Option, Some, None}
+use Rattle.std.specs.Prelude.{ℕ, ◌==◌, ◌||◌, drop, Bool, true, false, ◌&&◌, List, [], ◌∷◌, ◌++◌, codes, if◌then◌else◌, Option, Some, None}
 use Rattle.std.specs.Fmt.{decimal}
 use Rattle.hex.specs.Hex.{encode_upper}
 use Rattle.tn_wire.specs.declared.header.DataType.{DataType}
@@ -9,7 +9,12 @@ use Rattle.tn_wire.specs.declared.header.HeaderFault.{HeaderFault}
 use Rattle.tn_wire.specs.declared.header.HeaderFault.TheVariants.{ShortHeader, UnknownType}
 use Rattle.tn_wire.specs.declared.event.WireFault.{WireFault}
 use Rattle.tn_wire.specs.declared.event.WireFault.TheVariants.{RecordTooLong, SubTooLong, BadSub}
+use Rattle.tn_traces.specs.declared.line.Side.{Side}
+use Rattle.tn_traces.specs.declared.line.Side.TheVariants.{Host, Terminal}
 use Rattle.tn_traces.specs.Record.{Kept}
+use Rattle.cli_traces.specs.declared.text.Shape.{Shape}
+use Rattle.cli_traces.specs.declared.text.Shape.TheVariants.{Comment, Line, Fields}
+use Rattle.cli_traces.specs.Fields.{fields_in, names_of}
 
 -- ---- a record
 
@@ -62,9 +67,40 @@ bytes_text kept = if is_line kept then encode_upper kept.body ++ codes "\n" else
 abbrev pub record_text : ℕ → ℕ → Kept → List ℕ
 record_text count line kept = comment_text count line kept ++ bytes_text kept
 
--- the count stops at 2^64 - 1
-abbrev pub count_after : ℕ → Kept → ℕ
-count_after count kept = if is_line kept then min (count + 1) 18446744073709551615 else count
+-- ---- structured fields
+
+-- Write Structured Field of the host, and the terminal's AID of structured fields (GA23-0059, "Commands" and "Attention
+-- identification")
+abbrev pub is_fields_code : Side → ℕ → Bool
+is_fields_code Host code = code == 0xF3 || code == 0x11
+is_fields_code Terminal aid = aid == 0x88
+
+unfoldable pub has_fields : Side → List ℕ → Bool
+has_fields side [] = false
+has_fields side (code ∷ rest) = is_fields_code side code
+
+-- a record of 3270 data is a line, or fields where not all are lines
+abbrev pub data_shape : Bool → Side → List ℕ → Shape
+data_shape all side body = if all then Line else (if has_fields side body then Fields else Line)
+
+abbrev pub shape_of : Bool → Side → Kept → Shape
+shape_of all side kept = if is_line kept then data_shape all side kept.body else Comment
+
+-- the comment of fields, after so many such records; the first byte is a command or an AID
+unfoldable pub fields_word : List ℕ
+fields_word = codes "# structured field "
+
+unfoldable pub fields_number : ℕ → List ℕ
+fields_number count = codes "# structured field " ++ decimal count
+
+abbrev pub fields_head : ℕ → ℕ → Option Header → List ℕ
+fields_head count line header = fields_number count ++ (codes " at line " ++ (decimal line ++ (header_words header ++ codes "\n")))
+
+abbrev pub fields_line : List ℕ → List ℕ
+fields_line body = fields_word ++ (encode_upper body ++ (names_of (fields_in (drop 1 body)) ++ codes "\n"))
+
+abbrev pub fields_text : ℕ → ℕ → Kept → List ℕ
+fields_text count line kept = fields_head count line kept.header ++ fields_line kept.body
 
 -- ---- what else is told, with the number of the line
 
@@ -82,6 +118,10 @@ wire_name BadSub = codes "W3 BadSub"
 abbrev pub header_name : HeaderFault → List ℕ
 header_name ShortHeader = codes "H1 ShortHeader"
 header_name UnknownType = codes "H2 UnknownType"
+
+-- the name of a fault where a device's sizes aren't those of the line of sizes
+abbrev pub other_size_name : List ℕ
+other_size_name = codes "S1 OtherSize"
 
 abbrev pub fault_text : ℕ → List ℕ → List ℕ
 fault_text line name = codes "line " ++ (decimal line ++ (codes " fault " ++ (name ++ codes "\n")))

@@ -1,9 +1,12 @@
 //! What is asked of a trace or a captured stream.
 
-ghost use Rattle.std.specs.Prelude.{◌≡◌, IfOk};
+ghost use Rattle.std.specs.Prelude.{◌≡◌, ◌==◌, not, IfOk, OnOk};
+ghost use Rattle.std.specs.List.{filter};
 ghost use Rattle.tn_traces.specs.Held.{said_seen};
-ghost use Rattle.cli_traces.specs.Following.{sender_of, said_of};
+ghost use Rattle.cli_traces.specs.Following.{is_one_sided, plain, said_of, without_colons};
+ghost use Rattle.cli_traces.specs.Reading.{sender_of};
 
+use crate::turn::Turns;
 use std::alloc::{AllocError, Global};
 use tn_traces::{Said, Sender, Side, stream_line, trace_line};
 
@@ -15,7 +18,7 @@ const MOST_LINE: usize = 16_777_216;
 pub enum Source {
     /// A trace of x3270, s3270 or c3270, version 4: both sides of sessions.
     Trace,
-    /// Pieces of what the side sent whose records are asked for, in hexadecimal, one a line.
+    /// Pieces of what the side sent whose records are asked for, in hexadecimal, one a line; colons may part the bytes.
     Stream,
 }
 
@@ -26,9 +29,48 @@ pub struct Asked {
     pub source: Source,
     /// Whose records they are.
     pub side: Side,
+    /// How the turns of the dialogue are printed. A stream shows one side, and so one turn.
+    pub turns: Turns,
+    /// Whether records of structured fields are printed as records, and not as comments.
+    pub all: bool,
+    /// Whether the sizes of the device that is named are printed before the first record.
+    pub size: bool,
+}
+
+/// The text without its colons.
+fn without_colons(alloc: Global, line: &[u8]) -> Result<Vec<u8>, AllocError>
+    ensures { IfOk result (λ digits. digits.items ≡ without_colons line.now) }
+{
+    let mut digits = Vec::new(alloc);
+    for byte in line {
+        if *byte != b':' {
+            digits.push(*byte)?;
+        }
+    }
+    Ok(digits)
 }
 
 impl Asked {
+    /// The records of a side alone.
+    pub fn records(source: Source, side: Side) -> Asked
+        ensures { result ≡ plain source side }
+    {
+        Asked {
+            source,
+            side,
+            turns: Turns::Unmarked,
+            all: false,
+            size: false,
+        }
+    }
+
+    /// Whether turns are asked of a stream, which shows one side and so tells of none.
+    pub fn is_one_sided(self) -> bool
+        ensures { result ≡ is_one_sided self }
+    {
+        self.source == Source::Stream && self.turns != Turns::Unmarked
+    }
+
     /// Who sends what a side sent: a trace shows both sides, a stream one.
     pub(crate) fn sender(self, side: Side) -> Sender
         ensures { result ≡ sender_of self.source side }
@@ -50,7 +92,7 @@ impl Asked {
         }
         match self.source {
             Source::Trace => trace_line(alloc, line),
-            Source::Stream => stream_line(alloc, self.side, line),
+            Source::Stream => stream_line(alloc, self.side, &without_colons(alloc, line)?),
         }
     }
 }

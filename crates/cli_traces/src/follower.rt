@@ -5,13 +5,14 @@ ghost use Rattle.std.specs.String.{string_bytes};
 ghost use Rattle.tn_wire.specs.Stream.{Told};
 ghost use Rattle.cli_traces.specs.Following.{connection, open_of};
 ghost use Rattle.cli_traces.specs.Held.{following_seen, IsReady, TakesSide};
-ghost use Rattle.cli_traces.specs.Reading.{event_log};
+ghost use Rattle.cli_traces.specs.Reading.{again, event_log};
 ghost use Rattle.cli_traces.specs.Taking.{TakesPiece};
 
-use crate::piece::{Reading, Task, take_piece};
+use crate::piece::take_piece;
+use crate::reading::{Reading, Task};
 use std::alloc::{AllocError, Global};
 use tn_session::RunFault;
-use tn_traces::{Negotiated, Side};
+use tn_traces::Side;
 use tn_wire::Deframer;
 
 /// The streams of a connection.
@@ -26,9 +27,9 @@ pub(crate) struct Follower {
 }
 
 impl Follower {
-    /// The beginning of a connection, after so many records that were printed as lines.
-    pub(crate) fn new(alloc: Global, count: u64) -> Result<Follower, AllocError>
-        ensures begins { IfOk result (λ follower. following_seen follower ≡ connection count) }
+    /// The beginning of a connection, of which this is known.
+    pub(crate) fn new(alloc: Global, reading: Reading) -> Result<Follower, AllocError>
+        ensures begins { IfOk result (λ follower. following_seen follower ≡ connection reading) }
         ensures ready { IfOk result IsReady }
     {
         Ok(Follower {
@@ -36,20 +37,17 @@ impl Follower {
             terminal: Deframer::new(alloc)?,
             host_count: 0,
             terminal_count: 0,
-            reading: Reading {
-                now: Negotiated::Classic,
-                count,
-            },
+            reading,
         })
     }
 
     /// Begins the next connection.
     pub(crate) fn reconnect(&mut self, alloc: Global) -> Result<(), AllocError>
         ensures begins { OnOk result
-            (following_seen self.new ≡ connection self.old.reading.count) }
+            (following_seen self.new ≡ connection (again self.old.reading)) }
         ensures ready { OnOk result (IsReady self.new) }
     {
-        *self = Follower::new(alloc, self.reading.count)?;
+        *self = Follower::new(alloc, self.reading.again())?;
         Ok(())
     }
 
@@ -57,16 +55,15 @@ impl Follower {
     pub(crate) fn take(
         &mut self,
         task: Task,
-        side: Side,
         piece: &[u8],
         out: &mut String,
     ) -> Result<(), RunFault>
         requires ready { IsReady self.old }
-        ensures taken { TakesSide task side (following_seen self.old) piece.now
+        ensures taken { TakesSide task task.side (following_seen self.old) piece.now
             (string_bytes out.old) result (following_seen self.new) (string_bytes out.new) }
         ensures ready { OnOk result (IsReady self.new) }
     {
-        match side {
+        match task.side {
             Side::Host => take_piece(
                 task,
                 &mut self.host,

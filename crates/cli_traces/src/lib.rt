@@ -3,16 +3,22 @@
 #![tactic(auto)]
 
 mod asked;
+mod device;
+mod fields;
 mod follower;
 mod law;
 mod line;
 mod piece;
+mod reading;
+mod record;
 mod run;
 mod spelled;
 mod text;
 mod told;
+mod turn;
 
 pub use asked::{Asked, Source};
-pub use law::{pieces_law, text_law};
+pub use law::{pieces_law, sizes_law, text_law};
 pub use run::run_records;
 pub use told::{Told, records_text};
+pub use turn::Turns;

@@ -5,11 +5,10 @@ ghost use Rattle.std.specs.String.{string_bytes};
 ghost use Rattle.cli_traces.specs.declared.line.Next.TheVariants.{Goes, Stops};
 ghost use Rattle.cli_traces.specs.Following.{Adds, AddsPiece};
 ghost use Rattle.cli_traces.specs.Held.{following_seen, course_seen, AddsFault, IsReady};
-ghost use Rattle.cli_traces.specs.Reading.{same_side};
 
 use crate::asked::Asked;
 use crate::follower::Follower;
-use crate::piece::Task;
+use crate::reading::Task;
 use crate::text::{header_name, push_connection, push_fault, push_open, push_refused, wire_name};
 use std::alloc::{AllocError, Global};
 use tn_session::RunFault;
@@ -24,13 +23,6 @@ pub(crate) enum Next {
     Stops,
 }
 
-/// Whether the records of a side are asked for.
-fn is_same(side: Side, other: Side) -> bool
-    ensures { result ≡ same_side side other }
-{
-    side == other
-}
-
 /// The line of a fault, unless memory was refused.
 fn push_run_fault(out: &mut String, number: u64, fault: RunFault) -> Result<Next, AllocError>
     ensures text { OnOk result
@@ -40,6 +32,7 @@ fn push_run_fault(out: &mut String, number: u64, fault: RunFault) -> Result<Next
     match fault {
         RunFault::Wire(fault) => push_fault(out, number, wire_name(fault))?,
         RunFault::Header(fault) => push_fault(out, number, header_name(fault))?,
+        RunFault::Session(_) => push_fault(out, number, "S1 OtherSize")?,
         _ => return Err(AllocError),
     }
     Ok(Next::Stops)
@@ -62,11 +55,11 @@ fn take_piece_line(
     ensures ready { IfOk result (λ next. next ≡ Goes → IsReady follower.new) }
 {
     let task = Task {
-        sender: asked.sender(side),
-        wanted: is_same(side, asked.side),
+        asked,
+        side,
         line: number,
     };
-    match follower.take(task, side, piece, out) {
+    match follower.take(task, piece, out) {
         Ok(()) => Ok(Next::Goes),
         Err(fault) => push_run_fault(out, number, fault),
     }

@@ -14,6 +14,7 @@ ghost use Rattle.cli_traces.specs.Printed.{AddsBy, PrintsLine, PrintsRecords, Tr
 use crate::asked::Asked;
 use crate::follower::Follower;
 use crate::line::{Next, take_line};
+use crate::reading::Reading;
 use crate::text::push_open;
 use cli_commands::{
     Answer, CommandError, GivesBytes, ReadAhead, Status, TakesBytes, finish, next_line, without_end,
@@ -123,7 +124,7 @@ pub fn run_records<R: GivesBytes, W: TakesBytes>(
     let Ok(mut ahead) = ReadAhead::new(alloc, PIECE) else {
         return Status::NoMemory;
     };
-    let Ok(mut follower) = Follower::new(alloc, 0) else {
+    let Ok(mut follower) = Follower::new(alloc, Reading::first()) else {
         return Status::NoMemory;
     };
     let mut line = Vec::new(alloc);

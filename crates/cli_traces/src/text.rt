@@ -4,11 +4,12 @@ ghost use Rattle.std.specs.Prelude.{◌≡◌, ◌++◌, OnOk};
 ghost use Rattle.std.specs.String.{string_bytes};
 ghost use Rattle.tn_traces.specs.Held.{kept_seen};
 ghost use Rattle.cli_traces.specs.Open.{open_text};
-ghost use Rattle.cli_traces.specs.Text.{is_3270, is_line, type_name, header_words, number_words, comment_text, bytes_text, record_text, connection_text, refused_text, wire_name, header_name, fault_text};
+ghost use Rattle.cli_traces.specs.Text.{has_fields, shape_of, fields_word, fields_number, fields_head, fields_line, fields_text, is_3270, is_line, type_name, header_words, number_words, comment_text, bytes_text, record_text, connection_text, refused_text, wire_name, header_name, fault_text};
 
+use crate::fields::{after_first, push_names};
 use order_lines::push_bytes;
 use std::alloc::AllocError;
-use tn_traces::Kept;
+use tn_traces::{Kept, Side};
 use tn_wire::{DataType, Header, HeaderFault, WireFault};
 
 fn is_3270(header: &Option<Header>) -> bool
@@ -20,11 +21,48 @@ fn is_3270(header: &Option<Header>) -> bool
     }
 }
 
-/// Whether a record is printed as a line of bytes.
-pub(crate) fn is_line(kept: &Kept<'_>) -> bool
+/// How a record is printed.
+#[derive(Clone, Copy, Debug, PartialEq, Eq)]
+pub(crate) enum Shape {
+    /// A comment alone: it isn't 3270 data, or has no byte.
+    Comment,
+    /// A comment and a line of bytes.
+    Line,
+    /// Structured fields: a comment with their bytes and names, and the records that they draw.
+    Fields,
+}
+
+/// Whether a record of 3270 data has a byte.
+fn is_line(kept: &Kept<'_>) -> bool
     ensures { result ≡ is_line (kept_seen kept.now) }
 {
     is_3270(&kept.header) && !kept.body.is_empty()
+}
+
+/// Write Structured Field of the host, and the terminal's AID of structured fields.
+#[tactic(auto, unfolding(crate::specs::Text::has_fields))]
+fn has_fields(side: Side, body: &[u8]) -> bool
+    ensures { result ≡ has_fields side body.now }
+{
+    match (side, body) {
+        (Side::Host, [code, ..]) => *code == 0xF3 || *code == 0x11,
+        (Side::Terminal, [aid, ..]) => *aid == 0x88,
+        (_, []) => false,
+    }
+}
+
+/// How a record is printed, where `all` says whether structured fields are lines.
+pub(crate) fn shape_of(all: bool, side: Side, kept: &Kept<'_>) -> Shape
+    ensures { result ≡ shape_of all side (kept_seen kept.now) }
+{
+    if !is_line(kept) {
+        return Shape::Comment;
+    }
+    if !all && has_fields(side, kept.body) {
+        Shape::Fields
+    } else {
+        Shape::Line
+    }
 }
 
 fn type_name(data_type: DataType) -> &'static str
@@ -103,6 +141,58 @@ pub(crate) fn push_record(
 {
     push_comment(out, count, line, kept)?;
     push_line(out, kept)
+}
+
+#[tactic(auto, unfolding(crate::specs::Text::fields_number))]
+fn push_fields_number(out: &mut String, count: u64) -> Result<(), AllocError>
+    ensures { OnOk result (string_bytes out.new ≡ string_bytes out.old ++ fields_number count) }
+{
+    write!(out, "# structured field {count}")
+}
+
+fn push_fields_head(
+    out: &mut String,
+    count: u64,
+    line: u64,
+    header: &Option<Header>,
+) -> Result<(), AllocError>
+    ensures { OnOk result (string_bytes out.new ≡ string_bytes out.old
+        ++ fields_head count line header.now) }
+{
+    push_fields_number(out, count)?;
+    write!(out, " at line {line}")?;
+    push_header(out, header)?;
+    out.push_str("\n")
+}
+
+#[tactic(auto, unfolding(crate::specs::Text::fields_word))]
+fn push_fields_word(out: &mut String) -> Result<(), AllocError>
+    ensures { OnOk result (string_bytes out.new ≡ string_bytes out.old ++ fields_word) }
+{
+    out.push_str("# structured field ")
+}
+
+fn push_fields_line(out: &mut String, body: &[u8]) -> Result<(), AllocError>
+    ensures { OnOk result (string_bytes out.new ≡ string_bytes out.old ++ fields_line body.now) }
+{
+    push_fields_word(out)?;
+    push_bytes(out, body)?;
+    push_names(out, after_first(body))?;
+    out.push_str("\n")
+}
+
+/// The comment of structured fields, after so many such records.
+pub(crate) fn push_fields(
+    out: &mut String,
+    count: u64,
+    line: u64,
+    kept: &Kept<'_>,
+) -> Result<(), AllocError>
+    ensures { OnOk result (string_bytes out.new ≡ string_bytes out.old
+        ++ fields_text count line (kept_seen kept.now)) }
+{
+    push_fields_head(out, count, line, &kept.header)?;
+    push_fields_line(out, kept.body)
 }
 
 /// That a new connection begins after a line.

@@ -4,15 +4,18 @@ use crate::files::texts_of;
 use crate::notation::push_written;
 use anyhow::{Context, Result, ensure};
 use bms_map::Control;
+use cli_characters::{run_convert_back_characters, run_convert_characters, run_press_typed};
 use cli_commands::{
     Demos, GivesBytes, Status, TakesBytes, Watched, failure, run_check, run_convert,
     run_convert_back, run_press, run_press_strokes, run_show, run_talk,
 };
 use cli_maps::{Asked, Form, Rendering, Report, run_check_map, run_map, run_render_map};
+use cli_traces::{Asked as Traced, Source, Turns, run_records};
 use std::alloc::Global;
 use std::io;
 use std::io::{Read, Write};
 use test_words::{Row, push_word_number};
+use tn_traces::Side;
 
 /// A command of the program.
 #[derive(Clone, Copy)]
@@ -20,6 +23,9 @@ pub(crate) enum Command {
     Show,
     Convert,
     Back,
+    Characters,
+    BackCharacters,
+    Type,
     Press,
     Strike,
     Check,
@@ -31,6 +37,10 @@ pub(crate) enum Command {
     MapReport,
     MapLog,
     MapShow,
+    Turns,
+    TurnsOfAnswers,
+    Sizes,
+    Lines,
 }
 
 /// The command of a name.
@@ -39,6 +49,9 @@ pub(crate) fn command_of(name: &str) -> Option<Command> {
         "show" => Some(Command::Show),
         "convert" => Some(Command::Convert),
         "back" => Some(Command::Back),
+        "characters" => Some(Command::Characters),
+        "back-characters" => Some(Command::BackCharacters),
+        "type" => Some(Command::Type),
         "press" => Some(Command::Press),
         "strike" => Some(Command::Strike),
         "check" => Some(Command::Check),
@@ -50,6 +63,10 @@ pub(crate) fn command_of(name: &str) -> Option<Command> {
         "map-report" => Some(Command::MapReport),
         "map-log" => Some(Command::MapLog),
         "map-show" => Some(Command::MapShow),
+        "turns" => Some(Command::Turns),
+        "turns-of-answers" => Some(Command::TurnsOfAnswers),
+        "sizes" => Some(Command::Sizes),
+        "stream" => Some(Command::Lines),
         _ => None,
     }
 }
@@ -81,6 +98,27 @@ fn run_on_maps<R: GivesBytes, W: TakesBytes>(
     }
 }
 
+/// What a command asks of a trace, or of a stream.
+fn traced_of(command: Command) -> Traced {
+    let host = Traced::records(Source::Trace, Side::Host);
+    match command {
+        Command::Turns => Traced {
+            turns: Turns::Marked,
+            ..host
+        },
+        Command::TurnsOfAnswers => Traced {
+            turns: Turns::Marked,
+            ..Traced::records(Source::Trace, Side::Terminal)
+        },
+        Command::Sizes => Traced {
+            turns: Turns::UpTo(0),
+            size: true,
+            ..host
+        },
+        _ => Traced::records(Source::Stream, Side::Host),
+    }
+}
+
 /// Runs a command that reads at most one file.
 fn run_with_file<R: GivesBytes, F: GivesBytes, W: TakesBytes>(
     alloc: Global,
@@ -93,6 +131,9 @@ fn run_with_file<R: GivesBytes, F: GivesBytes, W: TakesBytes>(
         Command::Show => run_show(alloc, input, writer),
         Command::Convert => run_convert(alloc, input, writer),
         Command::Back => run_convert_back(alloc, input, writer),
+        Command::Characters => run_convert_characters(alloc, input, writer),
+        Command::BackCharacters => run_convert_back_characters(alloc, input, writer),
+        Command::Type => run_press_typed(alloc, input, file, writer),
         Command::Press => run_press(alloc, input, file, writer),
         Command::Strike => run_press_strokes(alloc, input, file, writer),
         Command::Check => run_check(alloc, file, input, writer, Demos::Omitted),
@@ -102,6 +143,9 @@ fn run_with_file<R: GivesBytes, F: GivesBytes, W: TakesBytes>(
         | Command::MapReport
         | Command::MapLog
         | Command::MapShow => run_on_maps(alloc, command, input, writer),
+        Command::Turns | Command::TurnsOfAnswers | Command::Sizes | Command::Lines => {
+            run_records(alloc, traced_of(command), input, writer)
+        }
         _ => run_check(alloc, file, input, writer, Demos::Printed),
     }
 }

@@ -12,6 +12,9 @@
 //! this command, where `^` stands for the file. In texts `\n`, `\r` and `\xFF` are bytes; a line that is printed 32 times or
 //! more one after the other is printed once, as `[F2*32]`.
 //!
+//! `suite FORM TEXT` is the suite of a manifest, and `suite-folder FORM PATH..` that of paths, over the files that the line `file` gives,
+//! `PATH=TEXT` each, with `|` between two of them.
+//!
 //! `terminal classic responses HEX` and `host enhanced none HEX` say which core events come to below, each time a new one
 //! that first takes the events HEX. `event LABEL > HEX` prints what it answers to each event of HEX: the reply's bytes and
 //! what is told, or a dash. `name TEXT` prints the device of a name, `layout A B` what a host for these sizes says first, and
@@ -22,6 +25,7 @@
 //! process, and `many-sessions N` so many of each, one after the other.
 #![tactic(auto)]
 
+mod actions;
 mod asked;
 mod attach;
 mod both_ends;
@@ -42,6 +46,7 @@ mod objects;
 mod reports;
 mod runs;
 mod scripted;
+mod suites;
 mod told;
 
 use crate::attach::Flush;
@@ -66,6 +71,7 @@ fn push_laws(row: &mut Row) {
     cli_pictures::looks_law();
     cli_pictures::names_law();
     cli_traces::pieces_law();
+    cli_traces::sizes_law();
     cli_traces::text_law();
     row.word("done");
 }
@@ -113,6 +119,7 @@ fn push_read(row: &mut Row, file: &[u8], verb: &str, words: &str) -> bool {
         "same" => forms::push_form(row, file, words),
         "next" => lines::push_read(row, words),
         "told" => told::push_told(row, words),
+        "action" => actions::push_first(row, words),
         _ => return false,
     }
     true
@@ -125,6 +132,7 @@ fn push_answer(row: &mut Row, given: &Given, verb: &str, words: &str) {
     let is_verb = cores::push_answer(row, &given.core, verb, words)
         || runs::push_answer(row, verb, words)
         || findings::push_answer(row, verb)
+        || suites::push_answer(row, file, verb, words)
         || push_read(row, file, verb, words)
         || push_words(row, file, verb, words);
     row.word_if(!is_verb, "no such verb");

@@ -22,6 +22,7 @@ mod marked;
 mod screens;
 mod steps;
 mod streams;
+mod structured;
 mod wire_codes;
 mod words;
 
@@ -105,6 +106,7 @@ fn push_answer(row: &mut Row, setup: &Setup, verb: &str, words: &str) -> bool {
         || words::push_answer(row, verb)
         || streams::push_answer(row, verb, words)
         || wire_codes::push_answer(row, verb, words)
+        || structured::push_answer(row, setup, verb, words)
         || screens::push_answer(row, setup, verb, words)
 }
 

@@ -15,6 +15,7 @@ use Rattle.cli_pictures.specs.declared.drawing.Drawing.TheVariants.{Json, Svg}
 use Rattle.cli_traces.specs.declared.asked.Asked.{Asked}
 use Rattle.cli_traces.specs.declared.asked.Source.{Source}
 use Rattle.cli_traces.specs.declared.asked.Source.TheVariants.{Trace, Stream}
+use Rattle.cli_traces.specs.Following.{plain}
 use Rattle.cli_traces.specs.Told.{TellsRecords}
 use Rattle.tn_traces.specs.declared.line.Side.{Side}
 use Rattle.tn_traces.specs.declared.line.Side.TheVariants.{Host, Terminal}
@@ -57,7 +58,7 @@ side_of true = Terminal
 side_of false = Host
 
 abbrev pub asked_of : Bool → Bool → Asked
-asked_of stream answers = record { source = source_of stream; side = side_of answers }
+asked_of stream answers = plain (source_of stream) (side_of answers)
 
 -- demos are printed where they are asked for
 abbrev pub demos_of : Bool → Demos

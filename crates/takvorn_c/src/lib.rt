@@ -68,7 +68,7 @@ fn asked_of(stream: bool, answers: bool) -> Asked
         Source::Trace
     };
     let side = if answers { Side::Terminal } else { Side::Host };
-    Asked { source, side }
+    Asked::records(source, side)
 }
 
 /// `show`: the screen that records leave.

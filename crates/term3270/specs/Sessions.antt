@@ -7,7 +7,7 @@ use Rattle.cli_commands.specs.Fault.{fault_line}
 use Rattle.cli_commands.specs.Keys.{keys_in}
 use Rattle.cli_commands.specs.Printed.{printed}
 use Rattle.cli_commands.specs.Streams.{IsWantOrFailure, Prints}
-use Rattle.cli_commands.specs.Strokes.{strokes_in}
+use Rattle.cli_characters.specs.Strokes.{typed_in}
 use Rattle.tn_cores.specs.declared.device.Device.{Device}
 use Rattle.tn_session.specs.Strikes.{Strike, by_key, by_stroke}
 use Rattle.tn_session.specs.Wire.{WireState, fresh}
@@ -16,8 +16,8 @@ use Rattle.cli_sessions.specs.Tolerant.{AttachesTolerant}
 use Rattle.cli_sessions.specs.Prepare.{Prepared, ready, stops}
 use Rattle.cli_sessions.specs.Printing.{Printing}
 use Rattle.cli_sessions.specs.Serve.{ServesAnew}
-use Rattle.term3270.specs.declared.asked.KeyLines.{KeyLines}
-use Rattle.term3270.specs.declared.asked.KeyLines.TheVariants.{Keys, Strokes}
+use Rattle.cli_words.specs.declared.asked.KeyLines.{KeyLines}
+use Rattle.cli_words.specs.declared.asked.KeyLines.TheVariants.{Keys, Strokes}
 
 -- nothing was written, and the status is that of a failure
 abbrev pub HasFailed : Printing → Printing → Status → Type 0
@@ -50,4 +50,4 @@ AttachesNamed strike Session old new status (Ok keys) = Session (map strike keys
 -- the keys of lines are pressed, or their strokes struck
 abbrev pub AttachesLines : KeyLines → Attached → Printing → Printing → Status → List ℕ → Type 0
 AttachesLines Keys Session old new status lines = AttachesNamed by_key Session old new status (keys_in lines)
-AttachesLines Strokes Session old new status lines = AttachesNamed by_stroke Session old new status (strokes_in lines)
+AttachesLines Strokes Session old new status lines = AttachesNamed by_stroke Session old new status (typed_in lines)

@@ -1,179 +1,14 @@
 //! The command line: its commands and options, and the help of each.
 
+use crate::help::{
+    ATTACH, BIND, CHECK, CONVERT, DRAFT, EXPLAIN_HELP, FREEKB_HELP, FRSET_HELP, KEYS_HELP,
+    LAYOUT_HELP, MAP, PRESS, RECORDS, SERVE, SHOW, STATUSES, SUITE, TALK, WITH_FREEKB_HELP,
+    WITH_FRSET_HELP,
+};
 use clap::{Arg, ArgAction, ArgMatches, Command, Error};
 use std::alloc::{AllocError, Global};
 
 const VERSION: &str = "1.0.0";
-
-const LAYOUT_HELP: &str = "The file of the layout, in TOML";
-
-const KEYS_HELP: &str = "The file of the keys, one a line";
-
-const STATUSES: &str = "Statuses:
-  0  done, or yes
-  1  check, talk, draft or serve has findings
-  2  bad input, or a fault of the command line
-  3  a file, a read, a write, a connection or a session failed
-  4  out of memory";
-
-const SHOW: &str = "Input:
-  Records in hexadecimal, one a line, on standard input. Spaces, empty lines and lines that begin with '#'
-  are ignored. The first other line may be 'size RxC' or 'size RxC RxC': the default and the alternate size,
-  24x80 without it. A last word '16' is for addresses of 16 bits.
-
-Example:
-  $ printf 'size 2x10\\nF5C21D60C11D40131140C61DF0\\n' | term3270 show
-  screen 2x10 cursor 3 keyboard free aid 60
-  field 0 attr 20 place 1 length 1
-  field 2 attr 00 place 3 length 3
-  field 6 attr 30 place 7 length 13
-  |@A@...@...|
-  |..........|
-
-Forms:
-  svg and html are a picture of the screen as a terminal shows it, json is one object, screen is the rows alone, as
-  an operator sees them (docs/PICTURES.md). Text has the looks of its cells where standard output is a terminal and
-  the environment doesn't say NO_COLOR.
-
-  With --layout svg and html have the name of each field of the layout at its place, and a red frame at each
-  finding of check, which tells its words. The sizes are the layout's.
-
-  With --map the screen is that of a map, and svg and html have the names of its fields (docs/MAPS.md).
-
-Statuses:
-  0 done, 2 bad input, 3 a file can't be read, or a read or a write failed, 4 out of memory";
-
-const CHECK: &str = "Input:
-  The layout is a file in TOML (docs/LAYOUTS.md). Records are in hexadecimal, one a line, on standard input or
-  in the file that --records names; the sizes are the layout's. Spaces, empty lines and lines that begin with
-  '#' are ignored.
-
-Example:
-  $ term3270 check examples/signon.toml < examples/signon.hex
-  yes
-
-Forms:
-  --explain prints under each finding where its field is on the screen, what it means, and what mends it.
-
-  json is an object a line for each finding, with what its keys send, and one with the verdict; sarif is a log
-  of SARIF 2.1.0, with the lines of the files at which findings stand (docs/FINDINGS.md). With --map they tell the
-  map, the field, and the line and the column of its macro, and what to write (docs/MAPS.md).
-
-Statuses:
-  0 yes, 1 findings, 2 bad input, 3 a file can't be read, or a read or a write failed, 4 out of memory";
-
-const TALK: &str = "Input:
-  Each layout is a file in TOML (docs/LAYOUTS.md), of one turn, in order, and all are for one terminal. Records
-  are in hexadecimal, one a line, on standard input, with a line 'turn' between two turns. Spaces, empty lines
-  and lines that begin with '#' are ignored.
-
-Output:
-  'yes', or 'turn K', counted from 0, for the first turn with findings, and a line for each, as check prints
-  them. After turn 0 the keys of a finding are 0 and 0.
-
-Forms:
-  --explain prints under each finding where its field is on the screen, what it means, and what mends it. json is an
-  object a line for each finding, with its turn, and one with the verdict; sarif is a log of SARIF 2.1.0, whose messages
-  begin with the turn (docs/FINDINGS.md).
-
-Example:
-  $ term3270 talk examples/signon.toml examples/menu.toml < examples/signon_menu.hex
-  yes
-
-Statuses:
-  0 yes, 1 findings, 2 bad input, 3 a layout can't be read, or a read or a write failed, 4 out of memory";
-
-const PRESS: &str = "Input:
-  Keys are one a line: 'type XX' (a code from 40 to FE), left, right, up, down, tab, backtab, newline, home,
-  eraseeof, eraseinput, delete, reset, enter, clear, pf1 to pf24, pa1 to pa3. Records are in hexadecimal, one
-  a line, on standard input, as for show. Empty lines and lines that begin with '#' are ignored.
-  With --strokes lines are also 'insert' (insert mode, until reset or a key that sends), 'dup' (the character 1C,
-  and then Tab) and 'fieldmark' (1E).
-
-Example:
-  $ printf 'type C2\\nenter\\n' > keys
-  $ printf 'size 2x10\\nF5C21D60C11D40131140C61DF0\\n' | term3270 press keys
-  done 4
-  sent 7D40C41140C3C2
-
-Statuses:
-  0 done, 2 bad input, 3 the keys can't be read, or a read or a write failed, 4 out of memory";
-
-const CONVERT: &str = "Input:
-  Records in hexadecimal, one a line, on standard input, as for show. With --back the lines that convert
-  prints: a command, an order a line, an empty line.
-
-Example:
-  $ printf 'F5C21D60C1\\n' | term3270 convert
-  EW C2
-  SF 20
-  TEXT C1
-
-  $ printf 'EW C2\\nSF 20\\nTEXT C1C2\\n' | term3270 convert --back
-  F5C21D60C1C2
-
-Statuses:
-  0 done, 2 bad input, 3 a read or a write failed, 4 out of memory";
-
-const DRAFT: &str = "Input:
-  Records in hexadecimal, one a line, on standard input, as for show.
-
-Output:
-  A layout in TOML (docs/LAYOUTS.md), with a field for each that an operator can change or that is sent, named
-  by the text before it; these records conform to it if they do to any. Or what no layout can mend, as check prints it.
-  With --map the screen is that of a map: fields without a label are named too, as 'map --layout' doesn't.
-
-Example:
-  $ term3270 draft < examples/signon.hex > signon.toml
-
-Statuses:
-  0 done, 1 findings, 2 bad input, 3 a read or a write failed, 4 out of memory";
-
-const BIND: &str = "Input:
-  The layout is a file in TOML (docs/LAYOUTS.md). Answers of a terminal are in hexadecimal, one a line, on
-  standard input; the sizes are the layout's. Spaces, empty lines and lines that begin with '#' are ignored.
-
-Output:
-  'answer K aid XX cursor N' for each answer, counted from 0 (no cursor for a short one), and 'NAME HEX' for
-  each field that it has; or 'answer K refused at A' and the refusal, or 'answer K unbound' and the fault.
-
-Example:
-  $ printf '7DC4C811C4C3E4E2C5D9F1\\n' | term3270 bind examples/signon.toml --text
-  answer 0 aid 7D cursor 264
-  userid USER1
-
-Statuses:
-  0 done, 2 bad input, or an answer is refused or unbound, 3 the layout can't be read, or a read or a write
-  failed, 4 out of memory";
-
-const MAP: &str = "Input:
-  The source of BMS maps: DFHMSD, DFHMDI and DFHMDF as an assembler reads them (docs/MAPS.md).
-
-Output:
-  For each map a comment with its name, the line of its DFHMDI and its screen, and the record that SEND MAP
-  MAPONLY ERASE sends, in hexadecimal, as show, press and check take it. With --layout the layout of the one map:
-  what the symbolic map says that the program reads.
-
-Example:
-  $ term3270 map examples/signon.bms | term3270 show
-  screen 24x80 cursor 259 keyboard free aid 60
-  ..
-
-Statuses:
-  0 done, 2 the source is refused, 3 the file can't be read, or a write failed, 4 out of memory";
-
-const FREEKB_HELP: &str = "SEND MAP says FREEKB: the keyboard is freed, whatever CTRL says";
-
-const FRSET_HELP: &str = "SEND MAP says FRSET: modified data tags are reset, whatever CTRL says";
-
-const WITH_FREEKB_HELP: &str =
-    "With --map: SEND MAP says FREEKB: the keyboard is freed, whatever CTRL says";
-
-const WITH_FRSET_HELP: &str =
-    "With --map: SEND MAP says FRSET: modified data tags are reset, whatever CTRL says";
-
-const EXPLAIN_HELP: &str =
-    "Print under each finding where its field is, what it means, and what mends it";
 
 const SCREEN_FORMS: &[&str] = &["text", "svg", "html", "json", "screen"];
 
@@ -181,53 +16,9 @@ const WHEN: &[&str] = &["auto", "always", "never"];
 
 const FINDING_FORMS: &[&str] = &["text", "json", "sarif"];
 
+const SUITE_FORMS: &[&str] = &["text", "json", "junit"];
+
 const SOURCES: &[&str] = &["trace", "stream"];
-
-const RECORDS: &str = "Input:
-  A trace of x3270, s3270 or c3270 (-trace -tracefile FILE), or with --from stream pieces of what one side
-  sent, in hexadecimal, one a line, on standard input. Other lines of a trace are passed over.
-
-Output:
-  A comment and a line of hexadecimal for each record, as the other commands read them; a comment alone for a
-  record that isn't of 3270 data.
-
-Example:
-  $ printf '< 0x0   f5c21d60c1ffef\\n' | term3270 records
-  # record 0 at line 1
-  F5C21D60C1
-
-Statuses:
-  0 done, 2 bad input, 3 a read or a write failed, 4 out of memory";
-
-const SERVE: &str = "Input:
-  A layout and records as for check. They are checked first, and a model must have the layout's sizes.
-
-Output:
-  'terminal K aid XX' for each terminal, counted from 1, and 'NAME HEX' for each field that it sent; or
-  'terminal K fault' and the fault's number (docs/SESSIONS.md).
-
-Example:
-  $ term3270 serve examples/signon.toml --port 3270 --count 1 < examples/signon.hex
-
-Statuses:
-  0 done, 1 findings, 2 bad input, 3 the layout can't be read, the port can't be bound, or a session, a read
-  or a write failed, 4 out of memory";
-
-const ATTACH: &str = "Input:
-  Keys are a file, one a line, as for press, with --strokes those of press --strokes. They are pressed as soon
-  as the keyboard is free.
-
-Output:
-  'answers A passed B refused C end E': what the terminal sent, the records that it ignored and refused, and
-  keys or closed; or 'fault' and the fault's number (docs/SESSIONS.md). With --tolerant 'ignored D inhibited F'
-  stand before 'end': what came before the session was ready, and keys that couldn't act.
-
-Example:
-  $ term3270 attach localhost keys --port 3270
-
-Statuses:
-  0 done, 1 fewer answers than --expect says, 2 bad input, 3 the keys can't be read, the host can't be
-  reached, or the session, a read or a write failed, 4 out of memory";
 
 /// What an argument of a command takes.
 #[derive(Clone, Copy)]
@@ -236,6 +27,8 @@ enum Takes<'a> {
     Operand,
     /// A number from 1 to 65,535 of this name, which goes with the option of that one.
     NumberWith(&'a str, &'a str),
+    /// A number from 0 to 65,535 of this name, where the option of that one isn't given.
+    CountWithout(&'a str, &'a str),
     /// One operand or more.
     Operands,
     /// Nothing: the option is there or not.
@@ -279,7 +72,7 @@ struct Described<'a> {
     arguments: &'a [Argument<'a>],
 }
 
-/// The commands, in the order in which help lists them.
+/// The commands that show a screen and check one, in the order in which help lists them, as those below.
 const SCREENS: &[Described<'_>] = &[
     Described {
         name: "show",
@@ -380,6 +173,10 @@ const SCREENS: &[Described<'_>] = &[
             },
         ],
     },
+];
+
+/// The commands on maps, dialogues and suites, and on keys.
+const DIALOGUES: &[Described<'_>] = &[
     Described {
         name: "map",
         about: "Print the records of BMS maps, or the layout of one",
@@ -435,6 +232,28 @@ const SCREENS: &[Described<'_>] = &[
         ],
     },
     Described {
+        name: "suite",
+        about: "Check all screens of a manifest or a folder, and print a line for each, or a report",
+        after_help: SUITE,
+        arguments: &[
+            Argument {
+                name: "SUITE",
+                takes: Takes::Operand,
+                help: "The file of the manifest, in TOML, or a folder",
+            },
+            Argument {
+                name: "format",
+                takes: Takes::OneOf("FORM", SUITE_FORMS, "text"),
+                help: "How the screens are reported",
+            },
+            Argument {
+                name: "only",
+                takes: Takes::Value("NAME"),
+                help: "Check the screen of this name alone",
+            },
+        ],
+    },
+    Described {
         name: "press",
         about: "Press keys on the screen that the records leave, and print what is sent",
         after_help: PRESS,
@@ -447,29 +266,41 @@ const SCREENS: &[Described<'_>] = &[
             Argument {
                 name: "strokes",
                 takes: Takes::Nothing,
-                help: "Take the lines 'insert', 'dup' and 'fieldmark' too",
+                help: "Take the lines 'string', 'insert', 'dup' and 'fieldmark' too",
             },
         ],
     },
 ];
 
-/// The commands that turn records and answers into other texts, and those over the net.
-const OTHERS: &[Described<'_>] = &[
+/// The commands that turn records and answers into other texts.
+const TEXTS: &[Described<'_>] = &[
     Described {
         name: "convert",
         about: "Print each record as lines: its command and its orders",
         after_help: CONVERT,
-        arguments: &[Argument {
-            name: "back",
-            takes: Takes::Nothing,
-            help: "Read such lines, and print the records",
-        }],
+        arguments: &[
+            Argument {
+                name: "back",
+                takes: Takes::Nothing,
+                help: "Read such lines, and print the records",
+            },
+            Argument {
+                name: "chars",
+                takes: Takes::Nothing,
+                help: "Print texts as characters between quotes; with --back read them",
+            },
+        ],
     },
     Described {
         name: "draft",
         about: "Print a layout for the screen that the records leave",
         after_help: DRAFT,
         arguments: &[
+            Argument {
+                name: "turns",
+                takes: Takes::NothingWithout(&["map"]),
+                help: "Draft a layout for each turn of a dialogue, with lines 'turn' between the records",
+            },
             Argument {
                 name: "map",
                 takes: Takes::File,
@@ -499,13 +330,18 @@ const OTHERS: &[Described<'_>] = &[
         arguments: &[
             Argument {
                 name: "LAYOUT",
-                takes: Takes::Operand,
+                takes: Takes::Operands,
                 help: LAYOUT_HELP,
             },
             Argument {
                 name: "text",
                 takes: Takes::Nothing,
                 help: "Print fields as text, and not in hexadecimal",
+            },
+            Argument {
+                name: "turns",
+                takes: Takes::Nothing,
+                help: "Take a layout for each turn, with lines 'turn' between the answers",
             },
         ],
     },
@@ -524,8 +360,32 @@ const OTHERS: &[Described<'_>] = &[
                 takes: Takes::Nothing,
                 help: "Print what the terminal sent, and not the host",
             },
+            Argument {
+                name: "turns",
+                takes: Takes::Nothing,
+                help: "Print a line 'turn' wherever the operator answered, as talk takes it",
+            },
+            Argument {
+                name: "turn",
+                takes: Takes::CountWithout("K", "turns"),
+                help: "Print the records up to turn K, counted from 0, or the answers of it",
+            },
+            Argument {
+                name: "size",
+                takes: Takes::Nothing,
+                help: "Print the sizes of the traced terminal before the first record, as show takes them",
+            },
+            Argument {
+                name: "all",
+                takes: Takes::Nothing,
+                help: "Print structured fields as records too",
+            },
         ],
     },
+];
+
+/// The commands over the net.
+const SESSIONS: &[Described<'_>] = &[
     Described {
         name: "serve",
         about: "Serve the screen to terminals over TCP, and print what they send",
@@ -571,7 +431,7 @@ const OTHERS: &[Described<'_>] = &[
             Argument {
                 name: "strokes",
                 takes: Takes::Nothing,
-                help: "Take the lines 'insert', 'dup' and 'fieldmark' too",
+                help: "Take the lines 'string', 'insert', 'dup' and 'fieldmark' too",
             },
             Argument {
                 name: "port",
@@ -641,6 +501,18 @@ fn number_with<'a>(
         .requires_arg(other)
 }
 
+/// An option with a number from 0 to 65,535, which conflicts with this other one.
+fn count_without<'a>(
+    alloc: Global,
+    name: &'a str,
+    value: &'a str,
+    other: &'a str,
+) -> Result<Arg<'a>, AllocError> {
+    option(alloc, name, value)
+        .value_parser(clap::value_parser!(u16).range(0..=65535))
+        .conflicts_with(other)
+}
+
 /// An argument that conflicts with these others.
 fn alone<'a>(mut argument: Arg<'a>, others: &[&'a str]) -> Result<Arg<'a>, AllocError> {
     for other in others {
@@ -663,6 +535,7 @@ fn bare<'a>(alloc: Global, name: &'a str, takes: Takes<'a>) -> Result<Arg<'a>, A
         Takes::Text(value, text) => Ok(with_default(alloc, name, value, text)),
         Takes::Number(value, most) => Ok(number(alloc, name, value, most)),
         Takes::NumberWith(value, other) => number_with(alloc, name, value, other),
+        Takes::CountWithout(value, other) => count_without(alloc, name, value, other),
         Takes::Optional => Ok(Arg::new(alloc, name)),
         Takes::Value(value) => Ok(option(alloc, name, value)),
         Takes::FileAlone(others) => alone(option(alloc, name, "FILE"), others),
@@ -719,11 +592,27 @@ fn with_screens<'a>(alloc: Global, program: Command<'a>) -> Result<Command<'a>, 
     with_commands(alloc, program, SCREENS)
 }
 
-fn with_others<'a>(alloc: Global, program: Command<'a>) -> Result<Command<'a>, AllocError> {
-    with_commands(alloc, program, OTHERS)
+fn with_dialogues<'a>(alloc: Global, program: Command<'a>) -> Result<Command<'a>, AllocError> {
+    with_commands(alloc, program, DIALOGUES)
+}
+
+fn with_texts<'a>(alloc: Global, program: Command<'a>) -> Result<Command<'a>, AllocError> {
+    with_commands(alloc, program, TEXTS)
+}
+
+fn with_sessions<'a>(alloc: Global, program: Command<'a>) -> Result<Command<'a>, AllocError> {
+    with_commands(alloc, program, SESSIONS)
+}
+
+/// The program with all its commands.
+fn whole<'a>(alloc: Global) -> Result<Command<'a>, AllocError> {
+    let shows = with_screens(alloc, program(alloc))?;
+    let checks = with_dialogues(alloc, shows)?;
+    let converts = with_texts(alloc, checks)?;
+    with_sessions(alloc, converts)
 }
 
 /// The words of the command line, parsed.
 pub(crate) fn parsed<'a>(alloc: Global, words: &'a [String]) -> Result<ArgMatches<'a>, Error> {
-    with_others(alloc, with_screens(alloc, program(alloc))?)?.try_get_matches_from(words)
+    whole(alloc)?.try_get_matches_from(words)
 }

@@ -1,10 +1,9 @@
 //! Each command on the standard streams, and on the files that it was given.
 
-use crate::asked::{KeyLines, ReportForm, When};
 use crate::file::FileAt;
 use crate::reasons::{
-    HeardFile, HeardInput, heard_file, heard_input, says, says_first, told, told_first, told_last,
-    told_traces,
+    HeardFile, HeardInput, heard_file, heard_input, says, says_first, told, told_check, told_first,
+    told_last, told_traces,
 };
 use crate::sessions::{run_attach, run_serve};
 use crate::stream::Named;
@@ -13,9 +12,10 @@ use crate::tolerant::{Limits, run_tolerant};
 use crate::withheld::Withheld;
 use clap::ArgMatches;
 use cli_binds::{Form, run_bind};
+use cli_characters::{run_convert_back_characters, run_convert_characters, run_press_typed};
 use cli_commands::{
     Demos, Status, Watched, failure, run_check, run_check_pen, run_convert, run_convert_back,
-    run_press, run_press_strokes, run_show, run_talk,
+    run_press, run_show, run_talk,
 };
 use cli_drafts::run_draft;
 use cli_findings::{Paths, Pen, Report, run_report};
@@ -27,11 +27,12 @@ use cli_pictures::{Annotated, Drawing, run_annotated, run_picture};
 use cli_reasons::{Heard, Lines, Names};
 use cli_sessions::Output;
 use cli_traces::{Asked, Source, run_records};
+use cli_turns::{run_bind_turns, run_draft_turns};
+use cli_words::{KeyLines, ReportForm, When};
 use std::alloc::AllocError;
 use std::env;
 use std::env::VarError;
 use std::io::{IsTerminal, Read, Stdout};
-use tn_traces::Side;
 
 /// A stream, and what people call it.
 fn named<'a, S>(rt: &'a HostRuntime, name: &'a str, stream: S) -> Watched<Named<'a, S>> {
@@ -163,13 +164,13 @@ pub(crate) fn press(rt: &HostRuntime, keys: &str) -> Status {
 pub(crate) fn strike(rt: &HostRuntime, strokes: &str) -> Status {
     let mut strokes = heard_file(rt, Lines::Names(Names::Strokes), strokes);
     let mut records = heard_input(rt, Lines::Records);
-    let status = run_press_strokes(rt.alloc(), &mut records, &mut strokes, &mut output(rt));
+    let status = run_press_typed(rt.alloc(), &mut records, &mut strokes, &mut output(rt));
     told_first(rt, status, &mut records, &mut strokes)
 }
 
 /// `convert`.
 pub(crate) fn convert(rt: &HostRuntime) -> Status {
-    let mut records = heard_input(rt, Lines::Records);
+    let mut records = heard_input(rt, Lines::ReadRecords);
     let status = run_convert(rt.alloc(), &mut records, &mut output(rt));
     told(rt, status, &mut records)
 }
@@ -181,6 +182,20 @@ pub(crate) fn convert_back(rt: &HostRuntime) -> Status {
     told(rt, status, &mut orders)
 }
 
+/// `convert --chars`.
+pub(crate) fn convert_characters(rt: &HostRuntime) -> Status {
+    let mut records = heard_input(rt, Lines::ReadRecords);
+    let status = run_convert_characters(rt.alloc(), &mut records, &mut output(rt));
+    told(rt, status, &mut records)
+}
+
+/// `convert --back --chars`.
+pub(crate) fn convert_back_characters(rt: &HostRuntime) -> Status {
+    let mut orders = heard_input(rt, Lines::Characters);
+    let status = run_convert_back_characters(rt.alloc(), &mut orders, &mut output(rt));
+    told(rt, status, &mut orders)
+}
+
 /// `draft`.
 pub(crate) fn draft(rt: &HostRuntime) -> Status {
     let mut records = heard_input(rt, Lines::Records);
@@ -188,18 +203,67 @@ pub(crate) fn draft(rt: &HostRuntime) -> Status {
     told(rt, status, &mut records)
 }
 
+/// `draft` of each turn.
+pub(crate) fn draft_turns(rt: &HostRuntime) -> Status {
+    let mut records = named(rt, "standard input", rt.stdin());
+    run_draft_turns(rt.alloc(), &mut records, &mut output(rt))
+}
+
+/// Whether a command was given several layouts.
+fn has_layouts(matches: &ArgMatches<'_>) -> bool {
+    match matches.subcommand() {
+        Some((_, words)) => match words.get_strs("LAYOUT") {
+            Some(paths) => paths.len() > 1,
+            None => false,
+        },
+        None => false,
+    }
+}
+
 /// `bind`, with the layout of a file.
-pub(crate) fn bind(rt: &HostRuntime, layout: &str, form: Form) -> Status {
+pub(crate) fn bind(rt: &HostRuntime, matches: &ArgMatches<'_>, layout: &str, form: Form) -> Status {
+    if has_layouts(matches) {
+        let _ = eprintln!(rt; "error: several layouts go with '--turns'");
+        return Status::BadInput;
+    }
     let mut layout = heard_file(rt, Lines::Layout, layout);
     let mut answers = heard_input(rt, Lines::SizedRecords);
     let status = run_bind(rt.alloc(), &mut layout, &mut answers, &mut output(rt), form);
     told_first(rt, status, &mut layout, &mut answers)
 }
 
+/// `bind` of each turn, with the layouts of files.
+pub(crate) fn bind_turns(rt: &HostRuntime, matches: &ArgMatches<'_>, form: Form) -> Status {
+    match matches.subcommand() {
+        Some((_, words)) => match words.get_strs("LAYOUT") {
+            Some(paths) => bind_over(rt, paths, form),
+            None => Status::BadInput,
+        },
+        None => Status::BadInput,
+    }
+}
+
+/// Runs `bind --turns` on these files and the standard streams.
+fn bind_over(rt: &HostRuntime, paths: &[&str], form: Form) -> Status {
+    match files_at(rt, paths) {
+        Ok(mut layouts) => {
+            let mut answers = heard_input(rt, Lines::Turns);
+            let status = run_bind_turns(
+                rt.alloc(),
+                layouts.as_mut_slice(),
+                &mut answers,
+                &mut output(rt),
+                form,
+            );
+            told_last(rt, status, layouts.as_mut_slice(), &mut answers)
+        }
+        Err(_) => Status::NoMemory,
+    }
+}
+
 /// `records`.
-pub(crate) fn records(rt: &HostRuntime, source: Source, side: Side) -> Status {
-    let asked = Asked { source, side };
-    let mut lines = heard_input(rt, traced_lines(source));
+pub(crate) fn records(rt: &HostRuntime, asked: Asked) -> Status {
+    let mut lines = heard_input(rt, traced_lines(asked.source));
     let status = run_records(rt.alloc(), asked, &mut lines, &mut output(rt));
     told_traces(rt, status, &mut lines)
 }
@@ -290,7 +354,7 @@ fn check_over<R: Read>(
         Pen::Ignored => run_check(rt.alloc(), &mut layout, records, &mut output(rt), demos),
         Pen::Asked => run_check_pen(rt.alloc(), &mut layout, records, &mut output(rt), demos),
     };
-    told_first(rt, status, &mut layout, records)
+    told_check(rt, status, &mut layout, records)
 }
 
 /// Runs `check` for tools on a layout's file and the records of this path.
@@ -318,7 +382,7 @@ fn report_over<R: Read>(
         records,
         &mut output(rt),
     );
-    told_first(rt, status, &mut layout, records)
+    told_check(rt, status, &mut layout, records)
 }
 
 /// Says on standard error that a form doesn't draw a layout.
@@ -363,6 +427,14 @@ pub(crate) fn render_map(
 /// Says that `check` has nothing to check with.
 pub(crate) fn refuse_no_layout(rt: &HostRuntime) -> Status {
     let _ = eprintln!(rt; "error: 'check' needs a layout, or '--map <FILE>'");
+    Status::BadInput
+}
+
+/// Says that a stream has no turns.
+pub(crate) fn refuse_one_side(rt: &HostRuntime) -> Status {
+    let _ = eprintln!(rt;
+        "error: a stream shows one side, and so no turns: '--turns' and '--turn' need a trace"
+    );
     Status::BadInput
 }
 

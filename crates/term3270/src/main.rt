@@ -1,22 +1,23 @@
 //! The program `term3270`: shows, checks, converts and serves the screens of outbound 3270 records, and attaches to hosts.
 #![tactic(auto)]
 
-mod asked;
 mod bad_word;
 mod command_line;
 mod commands;
 mod file;
+mod help;
 mod manners;
 mod prompt;
 mod reasons;
 mod reports;
 mod sessions;
 mod stream;
+mod suite;
 mod tcp;
 mod tolerant;
+mod walk;
 mod withheld;
 
-use crate::asked::Asked;
 use crate::bad_word::tell_bad_word;
 use crate::command_line::parsed;
 use crate::manners::{bare_host, tell_records_place};
@@ -27,6 +28,7 @@ use clap::ArgMatches;
 use clap::error::ErrorKind;
 use cli_commands::{Status, failure};
 use cli_maps::Asked as MapsAsked;
+use cli_words::Asked;
 use std::process::ExitCode;
 use std::{env, io};
 
@@ -39,40 +41,86 @@ fn maps_asked(name: Option<&str>, control: Control) -> MapsAsked<'_> {
     MapsAsked { name, control }
 }
 
-/// Runs a command on the standard streams, and on the files that it was given.
-fn run(rt: &HostRuntime, asked: Asked<'_>, matches: &ArgMatches<'_>) -> Status {
+/// Runs a command that shows a screen, or a map; none where another command is asked for.
+fn show(rt: &HostRuntime, asked: Asked<'_>) -> Option<Status> {
     match asked {
-        Asked::Show { color } => commands::show(rt, color),
-        Asked::Draw { drawing } => commands::draw(rt, drawing),
-        Asked::Annotate { layout, form } => commands::annotate(rt, layout, form),
-        Asked::Undrawn => commands::refuse_undrawn(rt),
+        Asked::Show { color } => Some(commands::show(rt, color)),
+        Asked::Draw { drawing } => Some(commands::draw(rt, drawing)),
+        Asked::Annotate { layout, form } => Some(commands::annotate(rt, layout, form)),
+        Asked::Undrawn => Some(commands::refuse_undrawn(rt)),
+        Asked::Map {
+            source,
+            name,
+            control,
+            form,
+        } => Some(commands::map(rt, source, maps_asked(name, control), form)),
+        Asked::RenderMap {
+            source,
+            name,
+            control,
+            rendering,
+        } => Some(commands::render_map(rt, source, maps_asked(name, control), rendering)),
+        _ => None,
+    }
+}
+
+/// Runs a command that checks; none where another command is asked for.
+fn check(rt: &HostRuntime, asked: Asked<'_>, matches: &ArgMatches<'_>) -> Option<Status> {
+    match asked {
         Asked::Check {
             layout,
             records,
             demos,
             pen,
-        } => commands::check(rt, layout, records, demos, pen),
+        } => Some(commands::check(rt, layout, records, demos, pen)),
         Asked::Report {
             layout,
             records,
             form,
             pen,
-        } => commands::report(rt, layout, records, form, pen),
+        } => Some(commands::report(rt, layout, records, form, pen)),
         Asked::Explain {
             layout,
             records,
             pen,
-        } => reports::explain(rt, layout, records, pen),
-        Asked::Talk => commands::talk(rt, matches),
-        Asked::ReportTalk { form } => reports::report_talk(rt, matches, form),
-        Asked::LogTalk => reports::log_talk(rt, matches),
-        Asked::Press { keys } => commands::press(rt, keys),
-        Asked::Strike { strokes } => commands::strike(rt, strokes),
-        Asked::Convert => commands::convert(rt),
-        Asked::ConvertBack => commands::convert_back(rt),
-        Asked::Draft => commands::draft(rt),
-        Asked::Bind { layout, form } => commands::bind(rt, layout, form),
-        Asked::Records { source, side } => commands::records(rt, source, side),
+        } => Some(reports::explain(rt, layout, records, pen)),
+        Asked::Talk => Some(commands::talk(rt, matches)),
+        Asked::ReportTalk { form } => Some(reports::report_talk(rt, matches, form)),
+        Asked::LogTalk => Some(reports::log_talk(rt, matches)),
+        Asked::CheckMap {
+            source,
+            name,
+            control,
+            form,
+        } => Some(commands::check_map(rt, source, maps_asked(name, control), form)),
+        Asked::Suite { path, only, form } => Some(suite::suite(rt, path, only, form)),
+        Asked::NoLayout => Some(commands::refuse_no_layout(rt)),
+        _ => None,
+    }
+}
+
+/// Runs a command that makes another text of its input; none where another command is asked for.
+fn convert(rt: &HostRuntime, asked: Asked<'_>, matches: &ArgMatches<'_>) -> Option<Status> {
+    match asked {
+        Asked::Press { keys } => Some(commands::press(rt, keys)),
+        Asked::Strike { strokes } => Some(commands::strike(rt, strokes)),
+        Asked::Convert => Some(commands::convert(rt)),
+        Asked::ConvertCharacters => Some(commands::convert_characters(rt)),
+        Asked::ConvertBack => Some(commands::convert_back(rt)),
+        Asked::ConvertBackCharacters => Some(commands::convert_back_characters(rt)),
+        Asked::Draft => Some(commands::draft(rt)),
+        Asked::DraftTurns => Some(commands::draft_turns(rt)),
+        Asked::Bind { layout, form } => Some(commands::bind(rt, matches, layout, form)),
+        Asked::BindTurns { form } => Some(commands::bind_turns(rt, matches, form)),
+        Asked::Records { traced } => Some(commands::records(rt, traced)),
+        Asked::OneSided => Some(commands::refuse_one_side(rt)),
+        _ => None,
+    }
+}
+
+/// Runs a command over the net; none where another command is asked for.
+fn connect(rt: &HostRuntime, asked: Asked<'_>) -> Option<Status> {
+    match asked {
         Asked::Serve {
             layout,
             address,
@@ -80,7 +128,7 @@ fn run(rt: &HostRuntime, asked: Asked<'_>, matches: &ArgMatches<'_>) -> Status {
             count,
         } => {
             let host = bare_host(address);
-            commands::serve(rt, layout, Place { host, port }, count)
+            Some(commands::serve(rt, layout, Place { host, port }, count))
         }
         Asked::AttachTolerant {
             host,
@@ -91,9 +139,12 @@ fn run(rt: &HostRuntime, asked: Asked<'_>, matches: &ArgMatches<'_>) -> Status {
             expect,
             timeout,
         } => {
-            let host = bare_host(host);
+            let place = Place {
+                host: bare_host(host),
+                port,
+            };
             let limits = Limits { expect, timeout };
-            commands::attach_tolerant(rt, Place { host, port }, keys, lines, device, limits)
+            Some(commands::attach_tolerant(rt, place, keys, lines, device, limits))
         }
         Asked::Attach {
             host,
@@ -103,27 +154,26 @@ fn run(rt: &HostRuntime, asked: Asked<'_>, matches: &ArgMatches<'_>) -> Status {
             device,
         } => {
             let host = bare_host(host);
-            commands::attach(rt, Place { host, port }, keys, lines, device)
+            Some(commands::attach(rt, Place { host, port }, keys, lines, device))
         }
-        Asked::Map {
-            source,
-            name,
-            control,
-            form,
-        } => commands::map(rt, source, maps_asked(name, control), form),
-        Asked::CheckMap {
-            source,
-            name,
-            control,
-            form,
-        } => commands::check_map(rt, source, maps_asked(name, control), form),
-        Asked::RenderMap {
-            source,
-            name,
-            control,
-            rendering,
-        } => commands::render_map(rt, source, maps_asked(name, control), rendering),
-        Asked::NoLayout => commands::refuse_no_layout(rt),
+        _ => None,
+    }
+}
+
+/// Runs a command on the standard streams, and on the files that it was given.
+fn run(rt: &HostRuntime, asked: Asked<'_>, matches: &ArgMatches<'_>) -> Status {
+    if let Some(status) = show(rt, asked) {
+        return status;
+    }
+    if let Some(status) = check(rt, asked, matches) {
+        return status;
+    }
+    if let Some(status) = convert(rt, asked, matches) {
+        return status;
+    }
+    match connect(rt, asked) {
+        Some(status) => status,
+        None => Status::BadInput,
     }
 }
 

@@ -18,7 +18,7 @@ pub(crate) type HeardFile<'a> = Heard<Watched<Named<'a, FileAt<'a>>>>;
 /// What people type where lines are read from a terminal.
 fn asked_for(lines: Lines) -> &'static str {
     match lines {
-        Lines::Orders => "commands and orders, one a line",
+        Lines::Orders | Lines::Characters => "commands and orders, one a line",
         Lines::Trace => "a trace of x3270, s3270 or c3270",
         Lines::Stream => "bytes of one side in hexadecimal",
         Lines::Turns => "records in hexadecimal, with a line 'turn' between two turns",
@@ -86,13 +86,29 @@ pub(crate) fn says_first<S, T>(
     says(rt, status, first) || says(rt, status, second)
 }
 
+/// Says why a record of an input is refused, where the status says that something is, and tells whether it said so.
+fn says_refusal<S>(rt: &HostRuntime, status: Status, input: &Heard<Watched<Named<'_, S>>>) -> bool {
+    if !matches!(status, Status::BadInput) {
+        return false;
+    }
+    match input.ear.refusal(input.stream.stream.name) {
+        Some(text) => {
+            let _ = eprint!(rt; "{text}");
+            true
+        }
+        None => false,
+    }
+}
+
 /// Says why an input is refused, where one is, and tells the status.
 pub(crate) fn told<S>(
     rt: &HostRuntime,
     status: Status,
     input: &mut Heard<Watched<Named<'_, S>>>,
 ) -> Status {
-    says(rt, status, input);
+    if !says(rt, status, input) {
+        says_refusal(rt, status, input);
+    }
     status
 }
 
@@ -103,7 +119,25 @@ pub(crate) fn told_first<S, T>(
     first: &mut Heard<Watched<Named<'_, S>>>,
     second: &mut Heard<Watched<Named<'_, T>>>,
 ) -> Status {
-    says_first(rt, status, first, second);
+    if !says_first(rt, status, first, second) && !says_refusal(rt, status, first) {
+        says_refusal(rt, status, second);
+    }
+    status
+}
+
+/// The same of the layout and the records of `check`, and where records are given if a file of records stands in the layout's place.
+pub(crate) fn told_check<S, T>(
+    rt: &HostRuntime,
+    status: Status,
+    layout: &mut Heard<Watched<Named<'_, S>>>,
+    records: &mut Heard<Watched<Named<'_, T>>>,
+) -> Status {
+    says_first(rt, status, layout, records);
+    if matches!(status, Status::BadInput) && layout.ear.holds_records() {
+        let _ = eprintln!(rt;
+            "tip: records come on standard input, or from the file after '--records'; a layout comes first"
+        );
+    }
     status
 }
 

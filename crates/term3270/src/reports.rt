@@ -1,10 +1,13 @@
 //! `check` and `talk` with their findings explained, and `talk` for tools.
 
 use crate::commands::{files_at, output, sized_file, sized_input};
-use crate::reasons::{HeardFile, HeardInput, heard_file, heard_input, told_first, told_last};
+use crate::reasons::{HeardFile, HeardInput, heard_file, heard_input, told_check, told_last};
 use crate::stream::Named;
 use clap::ArgMatches;
-use cli_commands::{Answer, CommandError, GivesBytes, Status, Watched, finish, lent, read_text};
+use cli_commands::{
+    Answer, CommandError, Fault, GivesBytes, Status, Watched, finish, judge_talk, layout_in, lent,
+    read_text,
+};
 use cli_findings::Pen;
 use cli_reasons::{Heard, Lines};
 use cli_reports::{TalkForm, run_explained, talk_log_texts, talk_report_texts};
@@ -27,7 +30,7 @@ fn explain_over<R: Read>(
 ) -> Status {
     let mut layout = heard_file(rt, Lines::Layout, layout);
     let status = run_explained(rt.alloc(), pen, &mut layout, records, &mut output(rt));
-    told_first(rt, status, &mut layout, records)
+    told_check(rt, status, &mut layout, records)
 }
 
 /// `talk` in a form, on the files that its words name.
@@ -79,20 +82,39 @@ fn talk_read(
     records: &mut HeardInput<'_>,
 ) -> Result<Answer, CommandError> {
     let texts = texts_of(alloc, files)?;
-    let records = read_text(alloc, records)?;
     let layouts = lent(alloc, texts.as_slice())?;
     let layouts = layouts.as_slice();
+    let records = records_after(alloc, layouts, records)?;
     match form {
         Some(form) => talk_report_texts(alloc, form, layouts, records.as_slice()),
         None => talk_log_texts(alloc, paths, "stdin", layouts, records.as_slice()),
     }
 }
 
-/// What readers give, one after the other.
+/// The layouts that readers give, one after the other, up to the first that is refused.
 fn texts_of<R: GivesBytes>(alloc: Global, readers: &mut [R]) -> Result<Vec<Vec<u8>>, CommandError> {
     let mut texts = Vec::new(alloc);
     for index in 0..readers.len() {
-        texts.push(read_text(alloc, &mut readers[index])?)?;
+        let text = read_text(alloc, &mut readers[index])?;
+        let is_refused = layout_in(alloc, text.as_slice()).is_err();
+        texts.push(text)?;
+        if is_refused {
+            break;
+        }
     }
     Ok(texts)
+}
+
+/// The records, which aren't read where a layout is refused.
+fn records_after<R: GivesBytes>(
+    alloc: Global,
+    layouts: &[&[u8]],
+    records: &mut R,
+) -> Result<Vec<u8>, CommandError> {
+    match judge_talk(alloc, layouts, b"".as_slice()) {
+        Err(CommandError::Fault(Fault::TurnLayoutRefused(_, _) | Fault::OtherGeometry(_))) => {
+            Ok(Vec::new(alloc))
+        }
+        _ => read_text(alloc, records),
+    }
 }

@@ -5,18 +5,19 @@ ghost use Rattle.tn_cores.specs.declared.device.Device.{Device};
 ghost use Rattle.cli_commands.specs.declared.status.Status.TheVariants.{BadInput};
 ghost use Rattle.cli_commands.specs.Held.{records_held};
 ghost use Rattle.cli_commands.specs.Keys.{keys_in};
-ghost use Rattle.cli_commands.specs.Strokes.{strokes_in};
+ghost use Rattle.cli_characters.specs.Strokes.{typed_in};
 ghost use Rattle.tn_cores.specs.Devices.{device_of};
 ghost use Rattle.tn_session.specs.Strikes.{by_key, by_stroke};
 ghost use Rattle.cli_sessions.specs.Prepare.{prepare};
 ghost use Rattle.cli_sessions.specs.Serve.{ServesAnew};
 ghost use Rattle.term3270.specs.Sessions.{AttachesLines, AttachesNamed, AttachesSocket, HasFailed, ServesPrepared};
 
-use crate::asked::KeyLines;
 use crate::manners::{tell_listening, tell_unknown_device};
 use crate::tcp::{Listening, Place, TcpLine};
-use cli_commands::{GivesBytes, Status, TakesBytes, finish, read_keys, read_strokes};
+use cli_characters::read_typed;
+use cli_commands::{GivesBytes, Status, TakesBytes, finish, read_keys};
 use cli_sessions::{Output, Prepared, Screen, Visits, attach_on, prepare_serve, serve_on};
+use cli_words::KeyLines;
 use tn_session::{Device, Keystroke};
 
 /// Serves a layout's screen at a place to so many terminals. The port is bound once the screen is found fit.
@@ -109,9 +110,9 @@ fn attach_with_strokes<K: GivesBytes, W: TakesBytes>(
     output: &mut Output<W>,
 ) -> Status
     ensures { IfSome (K.remaining strokes.old) (λ lines.
-        AttachesNamed by_stroke (AttachesSocket device) output.old output.new result (strokes_in lines)) }
+        AttachesNamed by_stroke (AttachesSocket device) output.old output.new result (typed_in lines)) }
 {
-    match read_strokes(rt.alloc(), strokes) {
+    match read_typed(rt.alloc(), strokes) {
         Ok(named) => attach_at(rt, place, device, named.strokes.as_slice(), output),
         Err(error) => finish(rt.alloc(), output, Err(error)),
     }

@@ -5,15 +5,16 @@ ghost use Rattle.tn_cores.specs.declared.device.Device.{Device};
 ghost use Rattle.tn_cores.specs.Devices.{device_of};
 ghost use Rattle.cli_commands.specs.declared.status.Status.TheVariants.{BadInput};
 ghost use Rattle.cli_commands.specs.Keys.{keys_in};
-ghost use Rattle.cli_commands.specs.Strokes.{strokes_in};
+ghost use Rattle.cli_characters.specs.Strokes.{typed_in};
 ghost use Rattle.tn_session.specs.Strikes.{by_key, by_stroke};
 ghost use Rattle.term3270.specs.Sessions.{AttachesLines, AttachesNamed, AttachesTolerantly, HasFailed};
 
-use crate::asked::KeyLines;
 use crate::manners::tell_unknown_device;
 use crate::tcp::{Place, TcpLine};
-use cli_commands::{GivesBytes, Status, TakesBytes, finish, read_keys, read_strokes};
+use cli_characters::read_typed;
+use cli_commands::{GivesBytes, Status, TakesBytes, finish, read_keys};
 use cli_sessions::{Output, attach_tolerant_on};
+use cli_words::KeyLines;
 use tn_session::{Device, Keystroke};
 
 /// What is expected of a session, and how long a wait takes; 0 is no limit.
@@ -78,9 +79,9 @@ fn tolerant_with_strokes<K: GivesBytes, W: TakesBytes>(
     output: &mut Output<W>,
 ) -> Status
     ensures { IfSome (K.remaining strokes.old) (λ lines. AttachesNamed by_stroke
-        (AttachesTolerantly device limits.expect) output.old output.new result (strokes_in lines)) }
+        (AttachesTolerantly device limits.expect) output.old output.new result (typed_in lines)) }
 {
-    match read_strokes(rt.alloc(), strokes) {
+    match read_typed(rt.alloc(), strokes) {
         Ok(named) => tolerant_at(rt, place, device, named.strokes.as_slice(), limits, output),
         Err(error) => finish(rt.alloc(), output, Err(error)),
     }

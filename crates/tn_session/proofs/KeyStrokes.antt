@@ -12,6 +12,8 @@ use Rattle.ds_strokes.specs.StrokeStep.{operating, after_stroke, stroke_answer, 
 use Rattle.ds_strokes.proofs.PressLaws.{struck_without}
 use Rattle.ds_terminal.specs.Terminal.{Reply, shown, answered, nothing, refused, KeyReply, done, inhibited, ignored, sent, KeyTurn, key_turn, key_reply, received, pressed}
 use Rattle.ds_terminal.specs.Strokes.{key_aid}
+use Rattle.ds_structured.specs.Fields.{Field, query, draw, fields_in}
+use Rattle.ds_terminal.specs.declared.refused.Refused.{Refused}
 use Rattle.tn_wire.specs.declared.header.DataType.{DataType}
 use Rattle.tn_wire.specs.declared.header.DataType.TheVariants.{Data3270, ScsData, Response, BindImage, Unbind, NvtData, Request, SscpLuData, PrintEoj}
 use Rattle.tn_wire.specs.declared.header.Header.{Header}
@@ -36,7 +38,7 @@ use Rattle.tn_session.specs.Runs.{Course, goes, finishes, fails, Log, going, fin
 use Rattle.tn_session.specs.Sent.{data_header}
 use Rattle.tn_session.specs.Strikes.{Strike, by_key, by_stroke, Struck, struck, struck_by}
 use Rattle.tn_session.specs.TerminalLog as log
-use Rattle.tn_session.specs.TerminalLog.{TerminalRunning, Doing, Typing, is_waiting, operator_at, typing, before, then_typed, standing, key_turned, typed_key, received_data, taken_data, taken_typed, taken_headed, taken_record, passed_over, with_core, stepped, by_core, terminal_start, terminal_act, strictly_taken, goes_with, one_passed, one_ignored, one_more, positive, noting, dropped, tolerated_data, tolerated_typed, tolerated_headed, tolerated, dropping, fitted, renewed, heeding}
+use Rattle.tn_session.specs.TerminalLog.{TerminalRunning, Doing, Typing, is_waiting, operator_at, typing, before, then_typed, standing, key_turned, typed_key, received_data, taken_data, taken_typed, taken_headed, taken_record, passed_over, with_core, stepped, by_core, terminal_start, terminal_act, strictly_taken, goes_with, one_passed, one_ignored, one_more, positive, noting, dropped, tolerated_fields, field_obeyed, then_obeyed, fields_obeyed, responded, obeyed, Fielding, tolerated_data, tolerated_typed, tolerated_headed, tolerated, dropping, fitted, renewed, heeding}
 use Rattle.tn_session.specs.TerminalTalk.{key_answer, worked_under}
 
 -- ---- one
@@ -103,6 +105,29 @@ replied_off agreed header state (refused why) = refl
 
 received_off : (agreed : Agreed) (header : Header) (state : TerminalState) (bytes : List ℕ) → (received_data agreed header state bytes).state.inserts ≡ state.inserts
 received_off agreed header state bytes = replied_off agreed header (log.after_record state bytes (received state.terminal bytes)) (received state.terminal bytes).reply
+
+field_off : (agreed : Agreed) (state : TerminalState) (field : Field) → (field_obeyed agreed state field).state.inserts ≡ state.inserts
+field_off agreed state (query wanted) = refl
+field_off agreed state (draw bytes) = refl
+
+then_off : (inserts : Bool) (did : Fielding) (why : Option Refused) (others : TerminalState → Fielding) → did.state.inserts ≡ inserts
+    → ((next : TerminalState) → (others next).state.inserts ≡ next.inserts) → (then_obeyed did why others).state.inserts ≡ inserts
+then_off inserts did None others same rest = rest did.state ∙ same
+then_off inserts did (Some why) others same rest = same
+
+fields_off : (agreed : Agreed) (state : TerminalState) (fields : List Field) → (fields_obeyed agreed state fields).state.inserts ≡ state.inserts
+fields_off agreed state [] = refl
+fields_off agreed state (field ∷ fields) =
+    then_off state.inserts (field_obeyed agreed state field) (field_obeyed agreed state field).refused (λ next. fields_obeyed agreed next fields)
+    (field_off agreed state field) (λ next. fields_off agreed next fields)
+
+responded_off : (agreed : Agreed) (header : Header) (did : Fielding) (why : Option Refused) → (responded agreed header did why).state.inserts ≡ did.state.inserts
+responded_off agreed header did None = refl
+responded_off agreed header did (Some why) = refl
+
+obeyed_off : (agreed : Agreed) (header : Header) (state : TerminalState) (fields : List Field) → (obeyed agreed header state fields).state.inserts ≡ state.inserts
+obeyed_off agreed header state fields =
+    responded_off agreed header (fields_obeyed agreed state fields) (fields_obeyed agreed state fields).refused ∙ fields_off agreed state fields
 
 -- ---- the keys that a run has
 
@@ -179,13 +204,17 @@ standing_same typed pressing =
       goes_on = so.goes_on;
     }
 
+did_same : (agreed : Agreed) (running : TerminalRunning) (did : Doing) → did.state.inserts ≡ running.state.inserts → IsPressing running
+    → SameLog (standing (then_typed agreed (striking running).keys did)) (standing (then_typed agreed running.keys did))
+did_same agreed running did same pressing =
+    let typed = typing_same agreed did.state running.keys pressing.keys (same ∙ pressing.off) in
+    let stood = standing_same (then_typed agreed running.keys did) typed.goes_on in
+    record { is = ap (λ (t : Typing). standing (before did.due t)) typed.is ∙ stood.is; goes_on = stood.goes_on }
+
 data_same : (agreed : Agreed) (header : Header) (running : TerminalRunning) (bytes : List ℕ) → IsPressing running
     → SameLog (taken_data agreed header (striking running) bytes) (taken_data agreed header running bytes)
 data_same agreed header running bytes pressing =
-    let did : Doing = received_data agreed header running.state bytes in
-    let typed = typing_same agreed did.state running.keys pressing.keys (received_off agreed header running.state bytes ∙ pressing.off) in
-    let stood = standing_same (then_typed agreed running.keys did) typed.goes_on in
-    record { is = ap (λ (t : Typing). standing (before did.due t)) typed.is ∙ stood.is; goes_on = stood.goes_on }
+    did_same agreed running (received_data agreed header running.state bytes) (received_off agreed header running.state bytes) pressing
 
 passed_same : (running : TerminalRunning) → IsPressing running → SameLog (passed_over (striking running)) (passed_over running)
 passed_same running pressing = record { is = refl; goes_on = record { keys = pressing.keys; off = pressing.off } }
@@ -218,12 +247,18 @@ dropped_inserts : (t : Bool) (state : TerminalState)
 dropped_inserts true state = refl
 dropped_inserts false state = refl
 
+obeyed_same : (agreed : Agreed) (header : Header) (running : TerminalRunning) (bytes : List ℕ) (fields : Option (List Field)) → IsPressing running
+    → SameLog (tolerated_fields agreed header (striking running) bytes fields) (tolerated_fields agreed header running bytes fields)
+obeyed_same agreed header running bytes None pressing = data_same agreed header running bytes pressing
+obeyed_same agreed header running bytes (Some fields) pressing =
+    did_same agreed running (obeyed agreed header running.state fields) (obeyed_off agreed header running.state fields) pressing
+
 empty_same : (agreed : Agreed) (header : Header) (running : TerminalRunning) (bytes : List ℕ) → IsPressing running
     → SameLog (tolerated_data agreed header (striking running) bytes) (tolerated_data agreed header running bytes)
 empty_same agreed header running bytes pressing =
-    test_same (nat_eq (length bytes) 0) (goes_with (positive agreed header) (striking running) (one_passed running.state)) (taken_data agreed header (striking running) bytes)
-    (goes_with (positive agreed header) running (one_passed running.state)) (taken_data agreed header running bytes)
-    (state_same (positive agreed header) running (one_passed running.state) refl pressing) (data_same agreed header running bytes pressing)
+    test_same (nat_eq (length bytes) 0) (goes_with (positive agreed header) (striking running) (one_passed running.state)) (tolerated_fields agreed header (striking running) bytes (fields_in bytes))
+    (goes_with (positive agreed header) running (one_passed running.state)) (tolerated_fields agreed header running bytes (fields_in bytes))
+    (state_same (positive agreed header) running (one_passed running.state) refl pressing) (obeyed_same agreed header running bytes (fields_in bytes) pressing)
 
 tolerated_type_same : (agreed : Agreed) (header : Header) (running : TerminalRunning) (bytes : List ℕ) (data_type : DataType) → IsPressing running
     → SameLog (tolerated_typed agreed header (striking running) bytes data_type) (tolerated_typed agreed header running bytes data_type)

@@ -2,6 +2,8 @@
 use Rattle.std.proofs.Common.{◌≡◌, ℕ, nat_eq, ◌&&◌, Bool, true, false, cond, List, [], ◌∷◌, ◌++◌, length, None, Some, Ok, Err, refl, sym, ◌∙◌, ap, append_assoc}
 use Rattle.std.specs.Prelude.{Option, Result}
 use Rattle.std.proofs.lemmas.List.{append-nil}
+use Rattle.ds_structured.specs.Fields.{Field, query, draw, fields_in}
+use Rattle.ds_terminal.specs.declared.refused.Refused.{Refused}
 use Rattle.ds_terminal.specs.Terminal.{Reply, shown, answered, nothing, refused, KeyReply, done, inhibited, ignored, sent, received}
 use Rattle.tn_wire.specs.declared.header.DataType.{DataType}
 use Rattle.tn_wire.specs.declared.header.DataType.TheVariants.{Data3270, ScsData, Response, BindImage, Unbind, NvtData, Request, SscpLuData, PrintEoj}
@@ -21,7 +23,7 @@ use Rattle.tn_session.specs.Acts.{Deed, came, pressed, worked_log, events_in, ke
 use Rattle.tn_session.specs.Runs.{Course, goes, finishes, fails, Log, going, finished, failed, log_on, log_of}
 use Rattle.tn_session.specs.Strikes.{Strike, strike_aid, Struck, struck_by}
 use Rattle.tn_session.specs.TerminalLog as log
-use Rattle.tn_session.specs.TerminalLog.{TerminalRunning, Doing, Typing, is_waiting, typing, before, then_typed, standing, typed_key, received_data, taken_data, taken_typed, taken_headed, strictly_taken, taken_record, passed_over, positive, tolerated_data, tolerated_typed, tolerated_headed, tolerated, one_passed, one_ignored, noting, dropped, heeding, with_core, stepped, by_core, terminal_act}
+use Rattle.tn_session.specs.TerminalLog.{TerminalRunning, Doing, Typing, is_waiting, typing, before, then_typed, standing, typed_key, received_data, taken_data, taken_typed, taken_headed, strictly_taken, taken_record, passed_over, positive, tolerated_data, tolerated_fields, field_obeyed, then_obeyed, fields_obeyed, responded, obeyed, Fielding, tolerated_typed, tolerated_headed, tolerated, one_passed, one_ignored, noting, dropped, heeding, with_core, stepped, by_core, terminal_act}
 use Rattle.tn_session.specs.Sent.{data_header}
 use Rattle.tn_session.specs.TerminalTalk.{unkeyed, heard_act, worked_under, worked}
 
@@ -49,6 +51,29 @@ record_replied agreed header state (refused why) = refl
 
 received_core : (agreed : Agreed) (header : Header) (state : TerminalState) (bytes : List ℕ) → (received_data agreed header state bytes).state.core ≡ state.core
 received_core agreed header state bytes = record_replied agreed header (log.after_record state bytes (received state.terminal bytes)) (received state.terminal bytes).reply
+
+field_core : (agreed : Agreed) (state : TerminalState) (field : Field) → (field_obeyed agreed state field).state.core ≡ state.core
+field_core agreed state (query wanted) = refl
+field_core agreed state (draw bytes) = refl
+
+then_core : (core : EndCore) (did : Fielding) (why : Option Refused) (others : TerminalState → Fielding) → did.state.core ≡ core
+    → ((next : TerminalState) → (others next).state.core ≡ next.core) → (then_obeyed did why others).state.core ≡ core
+then_core core did None others same rest = rest did.state ∙ same
+then_core core did (Some why) others same rest = same
+
+fields_core : (agreed : Agreed) (state : TerminalState) (fields : List Field) → (fields_obeyed agreed state fields).state.core ≡ state.core
+fields_core agreed state [] = refl
+fields_core agreed state (field ∷ fields) =
+    then_core state.core (field_obeyed agreed state field) (field_obeyed agreed state field).refused (λ next. fields_obeyed agreed next fields)
+    (field_core agreed state field) (λ next. fields_core agreed next fields)
+
+responded_core : (agreed : Agreed) (header : Header) (did : Fielding) (why : Option Refused) → (responded agreed header did why).state.core ≡ did.state.core
+responded_core agreed header did None = refl
+responded_core agreed header did (Some why) = refl
+
+obeyed_core : (agreed : Agreed) (header : Header) (state : TerminalState) (fields : List Field) → (obeyed agreed header state fields).state.core ≡ state.core
+obeyed_core agreed header state fields =
+    responded_core agreed header (fields_obeyed agreed state fields) (fields_obeyed agreed state fields).refused ∙ fields_core agreed state fields
 
 -- ---- the keys that a run presses after a record
 
@@ -167,12 +192,19 @@ headed_follows agreed keys state (Err why) ready = fail_follows keys (faults.Hea
 
 -- the same at a tolerant terminal
 
+obeyed_follows : (agreed : Agreed) (header : Header) (keys : List Strike) (state : TerminalState) (bytes : List ℕ) (fields : Option (List Field))
+    → core_agreed state.core ≡ Some agreed
+    → Follows keys (tolerated_fields agreed header (run_of state []) bytes fields) (tolerated_fields agreed header (run_of state keys) bytes fields)
+obeyed_follows agreed header keys state bytes None ready = data_follows agreed header keys state bytes ready
+obeyed_follows agreed header keys state bytes (Some fields) ready =
+    typed_follows agreed keys (obeyed agreed header state fields) (ap core_agreed (obeyed_core agreed header state fields) ∙ ready)
+
 empty_follows : (agreed : Agreed) (header : Header) (keys : List Strike) (state : TerminalState) (bytes : List ℕ) → core_agreed state.core ≡ Some agreed
     → Follows keys (tolerated_data agreed header (run_of state []) bytes) (tolerated_data agreed header (run_of state keys) bytes)
 empty_follows agreed header keys state bytes ready =
-    test_follows keys (nat_eq (length bytes) 0) (going (positive agreed header) (run_of (one_passed state) [])) (taken_data agreed header (run_of state []) bytes)
-    (going (positive agreed header) (run_of (one_passed state) keys)) (taken_data agreed header (run_of state keys) bytes)
-    (going_follows keys (positive agreed header) (one_passed state)) (data_follows agreed header keys state bytes ready)
+    test_follows keys (nat_eq (length bytes) 0) (going (positive agreed header) (run_of (one_passed state) [])) (tolerated_fields agreed header (run_of state []) bytes (fields_in bytes))
+    (going (positive agreed header) (run_of (one_passed state) keys)) (tolerated_fields agreed header (run_of state keys) bytes (fields_in bytes))
+    (going_follows keys (positive agreed header) (one_passed state)) (obeyed_follows agreed header keys state bytes (fields_in bytes) ready)
 
 tolerated_type_follows : (agreed : Agreed) (header : Header) (keys : List Strike) (state : TerminalState) (bytes : List ℕ) (data_type : DataType)
     → core_agreed state.core ≡ Some agreed

@@ -6,6 +6,8 @@ use Rattle.ds_screen.specs.declared.lock.Lock.{Lock}
 use Rattle.ds_screen.specs.declared.lock.Lock.TheVariants.{Free, Waiting, Error}
 use Rattle.ds_screen.specs.Records.{new_picture}
 use Rattle.ds_strokes.specs.StrokeStep.{Operating, operating}
+use Rattle.ds_structured.specs.Fields.{Field, query, draw, fields_in}
+use Rattle.ds_structured.specs.Replies.{query_reply}
 use Rattle.ds_terminal.specs.declared.refused.Refused.{Refused}
 use Rattle.ds_terminal.specs.declared.refused.Refused.TheVariants.{Read, Apply}
 use Rattle.ds_terminal.specs.Terminal.{Reply, shown, answered, nothing, refused, KeyReply, done, inhibited, ignored, sent, Turn, received}
@@ -161,6 +163,58 @@ turned agreed header state bytes turn = replied agreed header (after_record stat
 abbrev pub received_data : Agreed → Header → TerminalState → List ℕ → Doing
 received_data agreed header state bytes = turned agreed header state bytes (received state.terminal bytes)
 
+-- ---- structured fields, which a tolerant terminal obeys
+
+-- what fields lead to: the bytes of their answers, what the terminal then keeps, and why one is refused
+pub record Fielding : Type 0 where
+  pub due : List ℕ
+  pub state : TerminalState
+  pub refused : Option Refused
+
+-- why a record is refused, where it is
+abbrev pub refusal_in : Reply → Option Refused
+refusal_in (refused why) = Some why
+refusal_in (shown effect) = None
+refusal_in (answered bytes) = None
+refusal_in nothing = None
+
+-- a query's answer has a number, and is counted among none
+abbrev pub after_query : TerminalState → TerminalState
+after_query state = record state { sequence = next_sequence state.sequence }
+
+-- a record that a field holds is taken as any other
+abbrev pub drawn : TerminalState → List ℕ → Turn → Fielding
+drawn state bytes turn = record { due = []; state = after_record state bytes turn; refused = refusal_in turn.reply }
+
+abbrev pub field_obeyed : Agreed → TerminalState → Field → Fielding
+field_obeyed agreed state (query wanted) =
+    record { due = answer_due agreed state (query_reply state.terminal.geometry wanted); state = after_query state; refused = None }
+field_obeyed agreed state (draw bytes) = drawn state bytes (received state.terminal bytes)
+
+-- these bytes first
+abbrev pub answering : List ℕ → Fielding → Fielding
+answering due later = record { due = due ++ later.due; state = later.state; refused = later.refused }
+
+-- the first that is refused ends them
+abbrev pub then_obeyed : Fielding → Option Refused → (TerminalState → Fielding) → Fielding
+then_obeyed did None others = answering did.due (others did.state)
+then_obeyed did (Some why) others = did
+
+abbrev pub fields_obeyed : Agreed → TerminalState → List Field → Fielding
+fields_obeyed agreed state [] = record { due = []; state = state; refused = None }
+fields_obeyed agreed state (field ∷ fields) =
+    then_obeyed (field_obeyed agreed state field) (field_obeyed agreed state field).refused (λ next. fields_obeyed agreed next fields)
+
+-- the response to their record comes before their answers
+abbrev pub responded : Agreed → Header → Fielding → Option Refused → Doing
+responded agreed header did None = doing (positive agreed header ++ did.due) (one_taken did.state)
+responded agreed header did (Some why) =
+    doing (negative agreed header why ++ did.due) (record did.state { refused = one_more did.state.refused })
+
+abbrev pub obeyed : Agreed → Header → TerminalState → List Field → Doing
+obeyed agreed header state fields =
+    responded agreed header (fields_obeyed agreed state fields) (fields_obeyed agreed state fields).refused
+
 -- ---- keys
 
 -- a key that sends is answered
@@ -243,10 +297,17 @@ abbrev pub dropped : TerminalState → List ℕ → TerminalState
 dropped state bytes =
     if length bytes == 0 then record state { drops = false } else record state { drops = false; ignored = one_more state.ignored }
 
+-- structured fields that can be obeyed are, and others are refused as a record of them is
+abbrev pub tolerated_fields : Agreed → Header → TerminalRunning → List ℕ → Option (List Field) → Log TerminalRunning
+tolerated_fields agreed header running bytes None = taken_data agreed header running bytes
+tolerated_fields agreed header running bytes (Some fields) =
+    standing (then_typed agreed running.keys (obeyed agreed header running.state fields))
+
 -- a record without data is passed over, and answered where a response is wanted always
 abbrev pub tolerated_data : Agreed → Header → TerminalRunning → List ℕ → Log TerminalRunning
 tolerated_data agreed header running bytes =
-    if length bytes == 0 then goes_with (positive agreed header) running (one_passed running.state) else taken_data agreed header running bytes
+    if length bytes == 0 then goes_with (positive agreed header) running (one_passed running.state)
+    else tolerated_fields agreed header running bytes (fields_in bytes)
 
 -- the text of NVT-DATA is kept
 abbrev pub noting : TerminalState → List ℕ → TerminalState

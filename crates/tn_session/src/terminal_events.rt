@@ -6,6 +6,8 @@ ghost use Rattle.tn_wire.specs.Header.{header_of};
 ghost use Rattle.tn_session.specs.Ran.{Does};
 ghost use Rattle.tn_session.specs.EndCores.{core_agreed};
 ghost use Rattle.tn_session.specs.TerminalLog.{taken_data, taken_headed, strictly_taken, taken_record, terminal_act};
+ghost use Rattle.ds_structured.specs.Fields.{fields_in, field_seen};
+ghost use Rattle.tn_session.specs.TerminalLog.{doing, then_typed, standing, obeyed, tolerated_fields};
 ghost use Rattle.tn_session.specs.TerminalLog.{dropped, tolerated_data, tolerated_headed, tolerated};
 
 use crate::fault::RunFault;
@@ -14,6 +16,7 @@ use crate::responses::push_positive;
 use crate::terminal_state::TerminalState;
 use crate::terminal_turns::one_more;
 use crate::turn::Turn;
+use ds_structured::{StructuredField, read_fields};
 use std::alloc::Global;
 use tn_cores::{Agreed, Out};
 use tn_wire::{DataType, Event, Header};
@@ -25,6 +28,26 @@ const CLASSIC: Header = Header {
     response: 0,
     seq: 0,
 };
+
+/// Presses keys after a record.
+fn press_on<K: Keystroke>(
+    alloc: Global,
+    due: &mut Vec<u8>,
+    state: &mut TerminalState,
+    keys: &mut &[K],
+    agreed: Agreed,
+) -> Result<Turn, RunFault>
+    ensures { Does (standing (then_typed agreed (map K.strike keys.old.now)
+        (doing due.old.items state.old))) result
+        (record { state = state.new; keys = map K.strike keys.new.now }) due.new.items }
+{
+    state.press_all(alloc, due, agreed, keys)?;
+    if state.was_free && keys.is_empty() {
+        Ok(Turn::Finishes)
+    } else {
+        Ok(Turn::Goes)
+    }
+}
 
 /// Takes a record of 3270 data, and presses keys.
 fn take_data<K: Keystroke>(
@@ -42,12 +65,26 @@ fn take_data<K: Keystroke>(
         (record { state = state.new; keys = map K.strike keys.new.now }) due.new.items }
 {
     state.receive(alloc, due, agreed, header, bytes)?;
-    state.press_all(alloc, due, agreed, keys)?;
-    if state.was_free && keys.is_empty() {
-        Ok(Turn::Finishes)
-    } else {
-        Ok(Turn::Goes)
-    }
+    press_on(alloc, due, state, keys, agreed)
+}
+
+/// Obeys the structured fields of a record, and presses keys.
+fn obey_fields<K: Keystroke>(
+    alloc: Global,
+    due: &mut Vec<u8>,
+    state: &mut TerminalState,
+    keys: &mut &[K],
+    agreed: Agreed,
+    header: Header,
+    fields: &[StructuredField<'_>],
+) -> Result<Turn, RunFault>
+    requires empty { due.old.items ≡ [] }
+    ensures { Does (standing (then_typed agreed (map K.strike keys.old.now)
+        (obeyed agreed header state.old (map field_seen fields.now)))) result
+        (record { state = state.new; keys = map K.strike keys.new.now }) due.new.items }
+{
+    state.obey(alloc, due, agreed, header, fields)?;
+    press_on(alloc, due, state, keys, agreed)
 }
 
 /// Takes a record of a TN3270E session: its header says what becomes of it.
@@ -77,6 +114,28 @@ fn take_headed<K: Keystroke>(
     }
 }
 
+/// Takes a record with data at a tolerant terminal: structured fields that can be obeyed are.
+fn tolerate_fields<K: Keystroke>(
+    alloc: Global,
+    due: &mut Vec<u8>,
+    state: &mut TerminalState,
+    keys: &mut &[K],
+    agreed: Agreed,
+    header: Header,
+    bytes: &[u8],
+) -> Result<Turn, RunFault>
+    requires empty { due.old.items ≡ [] }
+    ensures { Does (tolerated_fields agreed header
+        (record { state = state.old; keys = map K.strike keys.old.now }) bytes.now
+        (fields_in bytes.now)) result
+        (record { state = state.new; keys = map K.strike keys.new.now }) due.new.items }
+{
+    match read_fields(alloc, bytes)? {
+        Some(fields) => obey_fields(alloc, due, state, keys, agreed, header, &fields),
+        None => take_data(alloc, due, state, keys, agreed, header, bytes),
+    }
+}
+
 /// Takes a record of 3270 data at a tolerant terminal.
 fn tolerate_data<K: Keystroke>(
     alloc: Global,
@@ -93,7 +152,7 @@ fn tolerate_data<K: Keystroke>(
         (record { state = state.new; keys = map K.strike keys.new.now }) due.new.items }
 {
     if !bytes.is_empty() {
-        return take_data(alloc, due, state, keys, agreed, header, bytes);
+        return tolerate_fields(alloc, due, state, keys, agreed, header, bytes);
     }
     push_positive(due, agreed, header)?;
     state.passed = one_more(state.passed);

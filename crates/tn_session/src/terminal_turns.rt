@@ -3,6 +3,10 @@
 ghost use Rattle.std.specs.Prelude.{◌≡◌, ◌++◌, map, IfOk, OnOk, OnErr};
 ghost use Rattle.tn_session.specs.declared.pressed.Pressed.TheVariants.{Sent};
 ghost use Rattle.tn_session.specs.TerminalLog.{one_more, is_free, is_waiting, answer_due, after_answer, replied, received_data, operator_at, key_replied, typed_key, typing};
+ghost use Rattle.tn_session.specs.TerminalLog.{after_record, refusal_in, after_query, field_obeyed, fields_obeyed, obeyed};
+ghost use Rattle.ds_structured.specs.Fields.{wanted_seen, field_seen};
+ghost use Rattle.ds_structured.specs.Replies.{query_reply};
+ghost use Rattle.ds_terminal.specs.Terminal.{received};
 ghost use Rattle.tn_session.specs.Kept.{keep_record, keep_key};
 ghost use Rattle.tn_session.specs.Strikes.{struck_by};
 ghost use Rattle.tn_session.specs.TerminalTalk.{key_answer, worked};
@@ -16,7 +20,8 @@ use crate::responses::{push_negative, push_positive};
 use crate::sent::{next_sequence, push_data};
 use crate::terminal_state::TerminalState;
 use ds_screen::Lock;
-use ds_terminal::{KeyReply, RecordReply};
+use ds_structured::{StructuredField, Wanted, write_query_reply};
+use ds_terminal::{KeyReply, RecordReply, Refused};
 use std::alloc::{AllocError, Global};
 use tn_cores::Agreed;
 use tn_wire::Header;
@@ -135,6 +140,117 @@ impl TerminalState {
                 Ok(())
             }
         }
+    }
+
+    /// Takes a record that a structured field holds, and tells why it is refused, where it is.
+    fn draw(&mut self, alloc: Global, bytes: &[u8]) -> Result<Option<Refused>, AllocError>
+        ensures after { OnOk result
+            (self.new ≡ after_record self.old bytes.now (received self.old.terminal bytes.now)) }
+        ensures why { IfOk result
+            (λ why. why ≡ refusal_in (received self.old.terminal bytes.now).reply) }
+    {
+        let reply = self.terminal.receive(alloc, bytes)?;
+        self.was_free = self.was_free || is_free(self.terminal.screen().lock());
+        keep_record(alloc, &mut self.kept, bytes, &reply)?;
+        match reply {
+            RecordReply::Refused(why) => Ok(Some(why)),
+            RecordReply::Shown(_) | RecordReply::Sent(_) | RecordReply::Nothing => Ok(None),
+        }
+    }
+
+    /// Answers a query.
+    fn answer_query(
+        &mut self,
+        alloc: Global,
+        due: &mut Vec<u8>,
+        agreed: Agreed,
+        wanted: Wanted<'_>,
+    ) -> Result<(), AllocError>
+        ensures due { OnOk result (due.new.items ≡ due.old.items ++ answer_due agreed self.old
+            (query_reply self.old.terminal.geometry (wanted_seen wanted.entry))) }
+        ensures after { OnOk result (self.new ≡ after_query self.old) }
+    {
+        let geometry = self.terminal.screen().geometry();
+        let bytes = write_query_reply(alloc, &geometry, wanted)?;
+        push_data(due, agreed, 0, self.sequence, &bytes)?;
+        self.sequence = next_sequence(self.sequence);
+        Ok(())
+    }
+
+    /// Obeys a structured field, and tells why its record is refused, where it is.
+    fn obey_field(
+        &mut self,
+        alloc: Global,
+        due: &mut Vec<u8>,
+        agreed: Agreed,
+        field: &StructuredField<'_>,
+    ) -> Result<Option<Refused>, AllocError>
+        ensures due { OnOk result (due.new.items
+            ≡ due.old.items ++ (field_obeyed agreed self.old (field_seen field.now)).due) }
+        ensures after { OnOk result
+            (self.new ≡ (field_obeyed agreed self.old (field_seen field.now)).state) }
+        ensures why { IfOk result
+            (λ why. why ≡ (field_obeyed agreed self.old (field_seen field.now)).refused) }
+    {
+        match field {
+            StructuredField::Query(wanted) => {
+                self.answer_query(alloc, due, agreed, *wanted)?;
+                Ok(None)
+            }
+            StructuredField::Draw(bytes) => self.draw(alloc, *bytes),
+        }
+    }
+
+    /// Obeys structured fields in turn, up to one whose record is refused, and tells why.
+    fn obey_fields(
+        &mut self,
+        alloc: Global,
+        due: &mut Vec<u8>,
+        agreed: Agreed,
+        fields: &[StructuredField<'_>],
+    ) -> Result<Option<Refused>, AllocError>
+        ensures due { OnOk result (due.new.items ≡ due.old.items
+            ++ (fields_obeyed agreed self.old (map field_seen fields.now)).due) }
+        ensures after { OnOk result
+            (self.new ≡ (fields_obeyed agreed self.old (map field_seen fields.now)).state) }
+        ensures why { IfOk result
+            (λ why. why ≡ (fields_obeyed agreed self.old (map field_seen fields.now)).refused) }
+    {
+        'fields: for field in fields {
+            let why = self.obey_field(alloc, due, agreed, field)?;
+            if why.is_some() {
+                return Ok(why);
+            }
+        }
+        Ok(None)
+    }
+
+    /// Obeys the structured fields of a record.
+    pub(crate) fn obey(
+        &mut self,
+        alloc: Global,
+        due: &mut Vec<u8>,
+        agreed: Agreed,
+        header: Header,
+        fields: &[StructuredField<'_>],
+    ) -> Result<(), AllocError>
+        ensures due { OnOk result (due.new.items ≡ due.old.items
+            ++ (obeyed agreed header self.old (map field_seen fields.now)).due) }
+        ensures after { OnOk result
+            (self.new ≡ (obeyed agreed header self.old (map field_seen fields.now)).state) }
+    {
+        let mut answers = Vec::new(alloc);
+        match self.obey_fields(alloc, &mut answers, agreed, fields)? {
+            None => {
+                push_positive(due, agreed, header)?;
+                self.taken = one_more(self.taken);
+            }
+            Some(why) => {
+                push_negative(due, agreed, header, why)?;
+                self.refused = one_more(self.refused);
+            }
+        }
+        due.extend_from_slice(&answers)
     }
 
     /// Presses a key, or strikes.

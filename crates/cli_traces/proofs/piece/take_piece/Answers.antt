@@ -15,7 +15,7 @@ use Rattle.cli_traces.proofs.piece.take_piece.Goals as goal
 
 pub events-init : goal.events-init
 events-init c =
-    piece_begins (event_log c.args.task.sender c.args.task.wanted c.args.task.line) c.args.deframer.now c.args.count.now c.args.reading.now c.args.piece.now (string_bytes c.args.out.now)
+    piece_begins (event_log c.args.task.asked c.args.task.side c.args.task.line) c.args.deframer.now c.args.count.now c.args.reading.now c.args.piece.now (string_bytes c.args.out.now)
     c.requires.open
 
 tells_of : (result : Result Step WireFault) (told : Result (List Told) WireFault) (old new : Held) (before after : List ℕ) → events_in result ≡ told
@@ -24,7 +24,7 @@ tells_of result told old new before after is m = subst (λ z. Moves old before z
 
 pub returns-in-Ok-NeedMore-clause-taken : goal.returns-in-Ok-NeedMore-clause-taken
 returns-in-Ok-NeedMore-clause-taken c =
-    piece_quiet (event_log c.args.task.sender c.args.task.wanted c.args.task.line) c.args.deframer.now.content c.args.reading.now c.args.piece.now (string_bytes c.args.out.now)
+    piece_quiet (event_log c.args.task.asked c.args.task.side c.args.task.line) c.args.deframer.now.content c.args.reading.now c.args.piece.now (string_bytes c.args.out.now)
     c.events.deframer c.events.count c.events.reading (string_bytes c.events.out) c.events.rest.now c.events.invariant c.next.follows.lender-at-none c.next.new.input.now
     (tells_of c.next.result (Ok []) c.events.deframer c.next.follows.lender-at-none c.events.rest.now c.next.new.input.now
     (ap events_in (c.in-Ok-NeedMore.is ∙ ap Ok c.in-Ok-NeedMore.field-0-is)) c.next.follows.holds-at-none)
@@ -33,12 +33,12 @@ pub returns-in-Ok-NeedMore-clause-open : goal.returns-in-Ok-NeedMore-clause-open
 returns-in-Ok-NeedMore-clause-open c = (
   (let m = (tells_of c.next.result (Ok []) c.events.deframer c.next.follows.lender-at-none c.events.rest.now c.next.new.input.now
       (ap events_in (c.in-Ok-NeedMore.is ∙ ap Ok c.in-Ok-NeedMore.field-0-is)) c.next.follows.holds-at-none) in m.kept),
-  goes_open (event_log c.args.task.sender c.args.task.wanted c.args.task.line) c.args.deframer.now.content c.args.reading.now c.args.piece.now (string_bytes c.args.out.now)
+  goes_open (event_log c.args.task.asked c.args.task.side c.args.task.line) c.args.deframer.now.content c.args.reading.now c.args.piece.now (string_bytes c.args.out.now)
       c.next.follows.lender-at-none.content c.events.reading (string_bytes c.events.out) (returns-in-Ok-NeedMore-clause-taken c),
   omega (
     arith,
     c.len_of-left.ensures.value,
-    count_quiet (event_log c.args.task.sender c.args.task.wanted c.args.task.line) c.args.deframer.now.content c.args.reading.now c.args.piece.now (string_bytes c.args.out.now)
+    count_quiet (event_log c.args.task.asked c.args.task.side c.args.task.line) c.args.deframer.now.content c.args.reading.now c.args.piece.now (string_bytes c.args.out.now)
         c.events.deframer c.events.count c.events.reading (string_bytes c.events.out) c.events.rest.now c.events.invariant c.next.follows.lender-at-none c.next.new.input.now
         (tells_of c.next.result (Ok []) c.events.deframer c.next.follows.lender-at-none c.events.rest.now c.next.new.input.now
         (ap events_in (c.in-Ok-NeedMore.is ∙ ap Ok c.in-Ok-NeedMore.field-0-is)) c.next.follows.holds-at-none),
@@ -48,7 +48,7 @@ returns-in-Ok-NeedMore-clause-open c = (
 pub overflow_add-count : goal.overflow_add-count
 overflow_add-count c = omega (
   arith,
-  few_now (event_log c.args.task.sender c.args.task.wanted c.args.task.line) c.args.deframer.now.content c.args.reading.now c.args.piece.now (string_bytes c.args.out.now)
+  few_now (event_log c.args.task.asked c.args.task.side c.args.task.line) c.args.deframer.now.content c.args.reading.now c.args.piece.now (string_bytes c.args.out.now)
       c.events.deframer c.events.count c.events.reading (string_bytes c.events.out) c.events.rest.now c.events.invariant c.next.follows.lender-at-none c.next.new.input.now,
   c.len_of-left.ensures.small,
   c.len_of-left.ensures.value,
@@ -57,7 +57,7 @@ overflow_add-count c = omega (
 pub open_after-requires-clause-fits : goal.open_after-requires-clause-fits
 open_after-requires-clause-fits c = omega (
   arith,
-  few_now (event_log c.args.task.sender c.args.task.wanted c.args.task.line) c.args.deframer.now.content c.args.reading.now c.args.piece.now (string_bytes c.args.out.now)
+  few_now (event_log c.args.task.asked c.args.task.side c.args.task.line) c.args.deframer.now.content c.args.reading.now c.args.piece.now (string_bytes c.args.out.now)
       c.events.deframer c.events.count c.events.reading (string_bytes c.events.out) c.events.rest.now c.events.invariant c.next.follows.lender-at-none c.next.new.input.now,
   c.len_of-left.ensures.small,
   c.len_of-left.ensures.value,
@@ -68,7 +68,7 @@ open_after-requires-clause-covers c =
     omega (
       arith,
       c.len_of-left.ensures.value,
-      count_event (event_log c.args.task.sender c.args.task.wanted c.args.task.line) c.args.deframer.now.content c.args.reading.now c.args.piece.now (string_bytes c.args.out.now)
+      count_event (event_log c.args.task.asked c.args.task.side c.args.task.line) c.args.deframer.now.content c.args.reading.now c.args.piece.now (string_bytes c.args.out.now)
           c.events.deframer c.events.count c.events.reading (string_bytes c.events.out) c.events.rest.now c.events.invariant c.next.follows.lender-at-none c.next.new.input.now
           (told_of c.in-Ok-Event.event) (tells_of c.next.result (Ok (told_of c.in-Ok-Event.event ∷ [])) c.events.deframer c.next.follows.lender-at-none c.events.rest.now c.next.new.input.now
           (ap events_in (c.in-Ok-Event.is ∙ ap Ok c.in-Ok-Event.field-0-is)) c.next.follows.holds-at-none),
@@ -76,7 +76,7 @@ open_after-requires-clause-covers c =
 
 pub events-preserved : goal.events-preserved
 events-preserved c =
-    piece_goes (event_log c.args.task.sender c.args.task.wanted c.args.task.line) c.args.deframer.now.content c.args.reading.now c.args.piece.now (string_bytes c.args.out.now)
+    piece_goes (event_log c.args.task.asked c.args.task.side c.args.task.line) c.args.deframer.now.content c.args.reading.now c.args.piece.now (string_bytes c.args.out.now)
     c.events.deframer c.events.count c.events.reading (string_bytes c.events.out) c.events.rest.now c.events.invariant c.next.follows.lender-at-none c.next.new.input.now
     (told_of c.in-Ok-Event.event) c.take_event.new.reading (string_bytes c.take_event.new.out)
     (tells_of c.next.result (Ok (told_of c.in-Ok-Event.event ∷ [])) c.events.deframer c.next.follows.lender-at-none c.events.rest.now c.next.new.input.now
@@ -85,11 +85,11 @@ events-preserved c =
       arith,
       c.len_of-left.ensures.value,
       c.open_after.ensures,
-      count_event (event_log c.args.task.sender c.args.task.wanted c.args.task.line) c.args.deframer.now.content c.args.reading.now c.args.piece.now (string_bytes c.args.out.now)
+      count_event (event_log c.args.task.asked c.args.task.side c.args.task.line) c.args.deframer.now.content c.args.reading.now c.args.piece.now (string_bytes c.args.out.now)
           c.events.deframer c.events.count c.events.reading (string_bytes c.events.out) c.events.rest.now c.events.invariant c.next.follows.lender-at-none c.next.new.input.now
           (told_of c.in-Ok-Event.event) (tells_of c.next.result (Ok (told_of c.in-Ok-Event.event ∷ [])) c.events.deframer c.next.follows.lender-at-none c.events.rest.now c.next.new.input.now
           (ap events_in (c.in-Ok-Event.is ∙ ap Ok c.in-Ok-Event.field-0-is)) c.next.follows.holds-at-none),
-      event_shorter (event_log c.args.task.sender c.args.task.wanted c.args.task.line) c.args.deframer.now.content c.args.reading.now c.args.piece.now (string_bytes c.args.out.now)
+      event_shorter (event_log c.args.task.asked c.args.task.side c.args.task.line) c.args.deframer.now.content c.args.reading.now c.args.piece.now (string_bytes c.args.out.now)
           c.events.deframer c.events.count c.events.reading (string_bytes c.events.out) c.events.rest.now c.events.invariant c.next.follows.lender-at-none c.next.new.input.now
           (told_of c.in-Ok-Event.event) (tells_of c.next.result (Ok (told_of c.in-Ok-Event.event ∷ [])) c.events.deframer c.next.follows.lender-at-none c.events.rest.now c.next.new.input.now
           (ap events_in (c.in-Ok-Event.is ∙ ap Ok c.in-Ok-Event.field-0-is)) c.next.follows.holds-at-none),
@@ -102,9 +102,9 @@ returns-in_err-take_event-in-Ok-Event-clause-taken c =
     let p = err_from_is_err_and c.from_residual.result c.from_residual.ensures.1 in
     let why : RunFault = c.in_err-take_event-in-Ok-Event.field-0.0 in
     let is : c.from_residual.result ≡ Err why = p.1 ∙ ap Err p.2 in
-    subst (λ z. TakesPiece (event_log c.args.task.sender c.args.task.wanted c.args.task.line) c.args.deframer.now.content c.args.reading.now c.args.piece.now
+    subst (λ z. TakesPiece (event_log c.args.task.asked c.args.task.side c.args.task.line) c.args.deframer.now.content c.args.reading.now c.args.piece.now
     (string_bytes c.args.out.now) z c.next.follows.lender-at-none.content c.take_event.new.reading (string_bytes c.take_event.new.out)) (sym is)
-    (piece_fails (event_log c.args.task.sender c.args.task.wanted c.args.task.line) c.args.deframer.now.content c.args.reading.now c.args.piece.now (string_bytes c.args.out.now)
+    (piece_fails (event_log c.args.task.asked c.args.task.side c.args.task.line) c.args.deframer.now.content c.args.reading.now c.args.piece.now (string_bytes c.args.out.now)
     c.events.deframer c.events.count c.events.reading (string_bytes c.events.out) c.events.rest.now c.events.invariant c.next.follows.lender-at-none c.next.new.input.now
     (told_of c.in-Ok-Event.event) c.take_event.new.reading (string_bytes c.take_event.new.out)
     (tells_of c.next.result (Ok (told_of c.in-Ok-Event.event ∷ [])) c.events.deframer c.next.follows.lender-at-none c.events.rest.now c.next.new.input.now
@@ -113,7 +113,7 @@ returns-in_err-take_event-in-Ok-Event-clause-taken c =
 
 pub returns-in-Err-clause-taken : goal.returns-in-Err-clause-taken
 returns-in-Err-clause-taken c =
-    piece_at_fault (event_log c.args.task.sender c.args.task.wanted c.args.task.line) c.args.deframer.now.content c.args.reading.now c.args.piece.now (string_bytes c.args.out.now)
+    piece_at_fault (event_log c.args.task.asked c.args.task.side c.args.task.line) c.args.deframer.now.content c.args.reading.now c.args.piece.now (string_bytes c.args.out.now)
     c.events.deframer c.events.count c.events.reading (string_bytes c.events.out) c.events.rest.now c.events.invariant c.next.follows.lender-at-none c.next.new.input.now
     c.in-Err.fault
     (tells_of c.next.result (Err c.in-Err.fault) c.events.deframer c.next.follows.lender-at-none c.events.rest.now c.next.new.input.now

@@ -6,7 +6,7 @@ use Rattle.cli_traces.proofs.piece.take_piece.Given as goal
 
 abbrev pub invariant-events : goal.invariant-events
 invariant-events l =
-    PieceSoFar (event_log l.task.sender l.task.wanted l.task.line) l.initial.deframer.content l.initial.reading l.piece (string_bytes l.initial.out)
+    PieceSoFar (event_log l.task.asked l.task.side l.task.line) l.initial.deframer.content l.initial.reading l.piece (string_bytes l.initial.out)
     l.deframer l.count l.reading (string_bytes l.out) l.rest
 
 abbrev pub decreases-events : goal.decreases-events

@@ -2,6 +2,7 @@ use Rattle.std.proofs.Common.{◌∙◌, ◌+◌, sym, refl, arith, ap, subst, E
 use Rattle.std.specs.Io.KnownBytes.{prepend_known}
 use Rattle.bstr.specs.Text.{without_terminator}
 use Rattle.cli_commands.specs.declared.status.Status.TheVariants.{Done, Failed}
+use Rattle.cli_traces.specs.Following.{connection}
 use Rattle.cli_traces.specs.Held.{following_seen}
 use Rattle.cli_traces.specs.Printed.{PrintsLine}
 use Rattle.cli_traces.proofs.Runs.{SoFar, begins, nothing_ahead, turn_goes, turn_ends, turn_stops, turn_fails, run_fails, traced_known, read_ends, write_ends, stopped_known, counted_known}
@@ -65,7 +66,7 @@ loop-number-init g c =
       wrote = refl;
       so_far = subst (λ left. SoFar c.args.asked (g.R.GivesBytes.remaining c.args.reader.now) left (g.W.TakesBytes.contents c.args.writer.now) (g.W.TakesBytes.contents c.args.writer.now) 1 (following_seen c.in-Ok-new.follower))
           (sym (nothing_ahead c.in-Ok.ahead (g.R.GivesBytes.remaining c.args.reader.now) c.in-Ok.ensures))
-          (begins c.args.asked (g.R.GivesBytes.remaining c.args.reader.now) (g.W.TakesBytes.contents c.args.writer.now) (following_seen c.in-Ok-new.follower) c.in-Ok-new.ensures.begins);
+          (begins c.args.asked (g.R.GivesBytes.remaining c.args.reader.now) (g.W.TakesBytes.contents c.args.writer.now) (following_seen c.in-Ok-new.follower) (c.in-Ok-new.ensures.begins ∙ ap connection c.first.ensures));
     }
 
 pub returns-in-Ok-false-clause-cause : goal.returns-in-Ok-false-clause-cause

@@ -1,5 +1,5 @@
 use Rattle.cli_commands.specs.Held.{strokes_seen}
-use Rattle.cli_commands.specs.Strokes.{strokes_in}
+use Rattle.cli_characters.specs.Strokes.{typed_in}
 use Rattle.tn_session.specs.Strikes.{by_stroke}
 use Rattle.term3270.specs.Sessions.{AttachesSocket}
 use Rattle.term3270.proofs.Ended.{if_some, attach_ends}
@@ -8,5 +8,5 @@ use Rattle.term3270.proofs.sessions.attach_with_strokes.Goals as goal
 pub returns-in-Err : goal.returns-in-Err
 returns-in-Err g c =
     if_some (g.K.GivesBytes.remaining c.args.strokes.now) (λ lines gives.
-    attach_ends strokes_seen by_stroke (AttachesSocket c.args.device) c.args.output.now c.finish.new.writer c.finish.result c.in-Err.error (strokes_in lines) gives c.finish.ensures.writes)
+    attach_ends strokes_seen by_stroke (AttachesSocket c.args.device) c.args.output.now c.finish.new.writer c.finish.result c.in-Err.error (typed_in lines) gives c.finish.ensures.writes)
     c.in-Err.ensures.strokes

@@ -1,0 +1,6 @@
+mod Parts
+mod Codes
+mod KeyLines
+mod Read
+mod PlainRuns
+mod Back

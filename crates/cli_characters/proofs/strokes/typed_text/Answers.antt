@@ -1,0 +1,11 @@
+use Rattle.cli_characters.specs.Strokes.{typed_line}
+use Rattle.cli_characters.proofs.Parts.{goes_on, ends_so}
+use Rattle.cli_characters.proofs.strokes.typed_text.Goals as goal
+
+pub loop-line-preserved : goal.loop-line-preserved
+loop-line-preserved c =
+    rw (c.in_ok-push.ensures.items, c.in_ok-push_typed_line.ensures)
+    (goes_on typed_line c.loop-line.out.items c.loop-line.rest.now _ c.in-Some.line.now c.in-Some.others.now c.loop-line.invariant c.in-Some.ensures)
+
+pub returns : goal.returns
+returns c = rw (c.in_ok-push_typed_line-2.ensures) (ends_so typed_line c.loop-line.out.items c.loop-line.rest.now _ c.loop-line.invariant c.in_default.ensures)

@@ -1,0 +1,9 @@
+pub mod Table
+pub mod Lines
+pub mod Runs
+pub mod Operand
+pub mod Orders
+pub mod Strokes
+pub mod Convert
+pub mod Press
+pub mod Laws

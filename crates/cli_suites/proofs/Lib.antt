@@ -1,0 +1,6 @@
+mod Keys
+mod Rows
+mod Loop
+mod Texts
+mod Plain
+mod Known

@@ -1,0 +1,16 @@
+pub mod Fault
+pub mod Results
+pub mod Job
+pub mod Values
+pub mod Tables
+pub mod Manifest
+pub mod Count
+pub mod Answers
+pub mod Settled
+pub mod Text
+pub mod Escaped
+pub mod Json
+pub mod Junit
+pub mod Report
+pub mod Folder
+pub mod Suite

@@ -1,0 +1,2 @@
+pub mod BindLaws
+pub mod DraftLaws

@@ -1,0 +1,10 @@
+//! Commands over the turns of a dialogue, each by itself.
+#![tactic(auto)]
+
+mod bind;
+mod draft;
+mod layouts;
+mod part;
+
+pub use bind::run_bind_turns;
+pub use draft::{draft_turns_text, run_draft_turns};

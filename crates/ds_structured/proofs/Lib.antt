@@ -1,0 +1,2 @@
+mod FieldLaws
+mod Rows

@@ -1,0 +1,4 @@
+mod Tests
+mod QuotedLaws
+mod ArgumentLaws
+mod Rows
