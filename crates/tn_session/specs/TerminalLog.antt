@@ -141,6 +141,9 @@ after_answer state = record state { sequence = next_sequence state.sequence; ans
 abbrev pub one_taken : TerminalState → TerminalState
 one_taken state = record state { taken = one_more state.taken }
 
+abbrev pub one_refused : TerminalState → TerminalState
+one_refused state = record state { refused = one_more state.refused }
+
 -- what a record makes of the screen, and of the records that are kept
 abbrev pub after_record : TerminalState → List ℕ → Turn → TerminalState
 after_record state bytes turn = record state {
@@ -154,7 +157,7 @@ replied agreed header state (shown effect) = doing (positive agreed header) (one
 replied agreed header state (answered bytes) =
     doing (positive agreed header ++ answer_due agreed state bytes) (after_answer (one_taken state))
 replied agreed header state nothing = doing (positive agreed header) (one_taken state)
-replied agreed header state (refused why) = doing (negative agreed header why) (record state { refused = one_more state.refused })
+replied agreed header state (refused why) = doing (negative agreed header why) (one_refused state)
 
 -- what a turn of the terminal makes of the run
 abbrev pub turned : Agreed → Header → TerminalState → List ℕ → Turn → Doing
@@ -209,7 +212,7 @@ fields_obeyed agreed state (field ∷ fields) =
 abbrev pub responded : Agreed → Header → Fielding → Option Refused → Doing
 responded agreed header did None = doing (positive agreed header ++ did.due) (one_taken did.state)
 responded agreed header did (Some why) =
-    doing (negative agreed header why ++ did.due) (record did.state { refused = one_more did.state.refused })
+    doing (negative agreed header why ++ did.due) (one_refused did.state)
 
 abbrev pub obeyed : Agreed → Header → TerminalState → List Field → Doing
 obeyed agreed header state fields =

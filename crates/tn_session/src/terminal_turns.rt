@@ -3,7 +3,7 @@
 ghost use Rattle.std.specs.Prelude.{◌≡◌, ◌++◌, map, IfOk, OnOk, OnErr};
 ghost use Rattle.tn_session.specs.declared.pressed.Pressed.TheVariants.{Sent};
 ghost use Rattle.tn_session.specs.TerminalLog.{one_more, is_free, is_waiting, answer_due, after_answer, replied, received_data, operator_at, key_replied, typed_key, typing};
-ghost use Rattle.tn_session.specs.TerminalLog.{after_record, refusal_in, after_query, field_obeyed, fields_obeyed, obeyed};
+ghost use Rattle.tn_session.specs.TerminalLog.{positive, negative, one_taken, one_refused, after_record, refusal_in, after_query, field_obeyed, fields_obeyed, obeyed};
 ghost use Rattle.ds_structured.specs.Fields.{wanted_seen, field_seen};
 ghost use Rattle.ds_structured.specs.Replies.{query_reply};
 ghost use Rattle.ds_terminal.specs.Terminal.{received};
@@ -78,16 +78,65 @@ fn keep_key(
 }
 
 impl TerminalState {
+    /// Sends a record of the next number.
+    fn send(&mut self, due: &mut Vec<u8>, agreed: Agreed, bytes: &[u8]) -> Result<(), AllocError>
+        ensures due { OnOk result
+            (due.new.items ≡ due.old.items ++ answer_due agreed self.old bytes.now) }
+        ensures after { OnOk result (self.new ≡ after_query self.old) }
+    {
+        push_data(due, agreed, 0, self.sequence, bytes)?;
+        self.sequence = next_sequence(self.sequence);
+        Ok(())
+    }
+
     /// Answers, as to Read Modified.
     fn answer(&mut self, due: &mut Vec<u8>, agreed: Agreed, bytes: &[u8]) -> Result<(), AllocError>
         ensures due { OnOk result
             (due.new.items ≡ due.old.items ++ answer_due agreed self.old bytes.now) }
         ensures after { OnOk result (self.new ≡ after_answer self.old) }
     {
-        push_data(due, agreed, 0, self.sequence, bytes)?;
-        self.sequence = next_sequence(self.sequence);
+        self.send(due, agreed, bytes)?;
         self.answers = one_more(self.answers);
         Ok(())
+    }
+
+    /// Responds that a record was taken, where that is wanted, and counts it.
+    fn accept(&mut self, due: &mut Vec<u8>, agreed: Agreed, header: Header) -> Result<(), AllocError>
+        ensures due { OnOk result (due.new.items ≡ due.old.items ++ positive agreed header) }
+        ensures after { OnOk result (self.new ≡ one_taken self.old) }
+    {
+        push_positive(due, agreed, header)?;
+        self.taken = one_more(self.taken);
+        Ok(())
+    }
+
+    /// Responds that a record was refused, where that is wanted, and counts it.
+    fn refuse(
+        &mut self,
+        due: &mut Vec<u8>,
+        agreed: Agreed,
+        header: Header,
+        why: Refused,
+    ) -> Result<(), AllocError>
+        ensures due { OnOk result (due.new.items ≡ due.old.items ++ negative agreed header why) }
+        ensures after { OnOk result (self.new ≡ one_refused self.old) }
+    {
+        push_negative(due, agreed, header, why)?;
+        self.refused = one_more(self.refused);
+        Ok(())
+    }
+
+    /// Has the screen take a record, and keeps what that leaves.
+    fn take(&mut self, alloc: Global, bytes: &[u8]) -> Result<RecordReply, AllocError>
+        ensures after { OnOk result
+            (self.new ≡ after_record self.old bytes.now (received self.old.terminal bytes.now)) }
+        ensures reply { IfOk result
+            (λ reply. reply_seen reply ≡ (received self.old.terminal bytes.now).reply) }
+    {
+        let reply = self.terminal.receive(alloc, bytes)?;
+        self.was_free = self.was_free || is_free(self.terminal.screen().lock());
+        keep_record(alloc, &mut self.kept, bytes, &reply)?;
+        Ok(reply)
     }
 
     /// Takes a record of 3270 data.
@@ -104,9 +153,7 @@ impl TerminalState {
         ensures after { OnOk result
             (self.new ≡ (received_data agreed header self.old bytes.now).state) }
     {
-        let reply = self.terminal.receive(alloc, bytes)?;
-        self.was_free = self.was_free || is_free(self.terminal.screen().lock());
-        keep_record(alloc, &mut self.kept, bytes, &reply)?;
+        let reply = self.take(alloc, bytes)?;
         self.reply(due, agreed, header, reply)
     }
 
@@ -124,21 +171,12 @@ impl TerminalState {
             (self.new ≡ (replied agreed header self.old (reply_seen reply)).state) }
     {
         match reply {
-            RecordReply::Shown(_) | RecordReply::Nothing => {
-                push_positive(due, agreed, header)?;
-                self.taken = one_more(self.taken);
-                Ok(())
-            }
+            RecordReply::Shown(_) | RecordReply::Nothing => self.accept(due, agreed, header),
             RecordReply::Sent(answer) => {
-                push_positive(due, agreed, header)?;
-                self.taken = one_more(self.taken);
+                self.accept(due, agreed, header)?;
                 self.answer(due, agreed, &answer)
             }
-            RecordReply::Refused(why) => {
-                push_negative(due, agreed, header, why)?;
-                self.refused = one_more(self.refused);
-                Ok(())
-            }
+            RecordReply::Refused(why) => self.refuse(due, agreed, header, why),
         }
     }
 
@@ -149,10 +187,7 @@ impl TerminalState {
         ensures why { IfOk result
             (λ why. why ≡ refusal_in (received self.old.terminal bytes.now).reply) }
     {
-        let reply = self.terminal.receive(alloc, bytes)?;
-        self.was_free = self.was_free || is_free(self.terminal.screen().lock());
-        keep_record(alloc, &mut self.kept, bytes, &reply)?;
-        match reply {
+        match self.take(alloc, bytes)? {
             RecordReply::Refused(why) => Ok(Some(why)),
             RecordReply::Shown(_) | RecordReply::Sent(_) | RecordReply::Nothing => Ok(None),
         }
@@ -172,9 +207,7 @@ impl TerminalState {
     {
         let geometry = self.terminal.screen().geometry();
         let bytes = write_query_reply(alloc, &geometry, wanted)?;
-        push_data(due, agreed, 0, self.sequence, &bytes)?;
-        self.sequence = next_sequence(self.sequence);
-        Ok(())
+        self.send(due, agreed, &bytes)
     }
 
     /// Obeys a structured field, and tells why its record is refused, where it is.
@@ -241,14 +274,8 @@ impl TerminalState {
     {
         let mut answers = Vec::new(alloc);
         match self.obey_fields(alloc, &mut answers, agreed, fields)? {
-            None => {
-                push_positive(due, agreed, header)?;
-                self.taken = one_more(self.taken);
-            }
-            Some(why) => {
-                push_negative(due, agreed, header, why)?;
-                self.refused = one_more(self.refused);
-            }
+            None => self.accept(due, agreed, header)?,
+            Some(why) => self.refuse(due, agreed, header, why)?,
         }
         due.extend_from_slice(&answers)
     }
