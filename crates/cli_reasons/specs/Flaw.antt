@@ -67,7 +67,7 @@ why_words (NoCharacter byte) = codes " is none of the 95 characters from the spa
 why_words SizesOfLayout = codes "the layout gives the sizes; leave this line out"
 why_words SizesTooLate = codes "sizes are told once, before the first record"
 why_words NoSizes = codes "no sizes of a terminal, as in 'size 24x80 43x80'"
-why_words Turn = codes "only 'talk' takes a line 'turn'"
+why_words Turn = codes "a line 'turn' is for 'talk', 'draft --turns' and 'bind --turns'"
 why_words why = other_words why
 
 abbrev pub why_text : Why → List ℕ

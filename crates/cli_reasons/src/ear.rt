@@ -3,6 +3,8 @@
 ghost use Rattle.std.specs.Prelude.{◌≡◌, ◌<◌, ◌≤◌, ◌++◌, length, None, Some, IfSome, IsSome, true};
 ghost use Rattle.cli_reasons.specs.declared.flaw.Why.TheVariants.{TooLong};
 ghost use Rattle.cli_reasons.specs.declared.flaw.Limit.TheVariants.{RecordBytes, Records};
+ghost use Rattle.cli_commands.specs.Fault.{Gives};
+ghost use Rattle.cli_commands.specs.LayoutText.{layout_in};
 ghost use Rattle.cli_commands.specs.Lines.{lines_in};
 ghost use Rattle.cli_reasons.specs.declared.ear.Lines.TheVariants.{Layout};
 ghost use Rattle.cli_reasons.specs.Flaw.{flaw_at};
@@ -19,11 +21,16 @@ use crate::key_line::Names;
 use crate::layout_reason::layout_sentence;
 use crate::record_line::SizesBy;
 use crate::refusal::holds_records;
+use crate::refused_answer::answer_sentences;
 use crate::refused_record::refusal_sentence;
 use crate::telling::sentence;
+use bstr::ByteSlice;
 use cli_characters::convert_back_characters_text;
-use cli_commands::{Answer, CommandError, convert_back_text, convert_text, show_text, without_end};
+use cli_commands::{
+    Answer, CommandError, convert_back_text, convert_text, layout_in, show_text, without_end,
+};
 use memchr::memchr;
+use scr_layout::Layout;
 use std::alloc::Global;
 use std::mem::replace;
 
@@ -55,6 +62,10 @@ pub enum Lines {
     SizedRecords,
     /// Records of several turns.
     Turns,
+    /// What a terminal sent, to the screen of a layout.
+    Answers,
+    /// The same of several turns.
+    AnswersOfTurns,
     Names(Names),
     /// Commands and orders.
     Orders,
@@ -126,6 +137,15 @@ fn split_line(bytes: &[u8]) -> Option<(&[u8], &[u8])>
     Some(bytes.split_at(end + 1))
 }
 
+/// How many turns a text has: one more than it has lines `turn`.
+fn turn_count(text: &[u8]) -> usize {
+    let mut count: usize = 1;
+    for line in text.lines() {
+        count = count.saturating_add(usize::from(line == b"turn".as_slice()));
+    }
+    count
+}
+
 impl Ear {
     /// Hears an input of such lines.
     pub fn new(alloc: Global, lines: Lines) -> Ear
@@ -172,11 +192,16 @@ impl Ear {
         )
     }
 
+    /// Whether something may be said of the lines once all have come.
+    fn needs_text(&self) -> bool {
+        self.tells_records() || matches!(self.lines, Lines::Answers | Lines::AnswersOfTurns)
+    }
+
     /// Keeps what came of a text that isn't long.
     fn keep_text(&mut self, bytes: &[u8])
         ensures { StaysRefused self.old self.new }
     {
-        if !self.tells_records() {
+        if !self.needs_text() {
             return;
         }
         if MOST_TEXT < self.bytes || self.text.extend_from_slice(bytes).is_err() {
@@ -199,7 +224,7 @@ impl Ear {
     pub fn refusal(&self, name: &str) -> Option<String>
         ensures { IsSome self.now.found → result ≡ None }
     {
-        if self.is_done() || self.text.is_empty() || 16_777_216 < self.text.len() {
+        if self.is_done() || !self.tells_records() || 16_777_216 < self.text.len() {
             return None;
         }
         match self.answer() {
@@ -211,6 +236,25 @@ impl Ear {
             }
             _ => None,
         }
+    }
+
+    /// The layout of a text that was heard, or its first fault.
+    pub fn layout(&self) -> Result<Layout, CommandError>
+        ensures { Gives (λ l. l) result (layout_in self.now.open.items) }
+    {
+        layout_in(self.alloc, self.open.as_slice())
+    }
+
+    /// The sentences of the answers that are refused, or aren't those of the screens of these layouts, in the input of this name,
+    /// where no line is refused and there is a layout for each turn.
+    pub fn answers(&self, name: &str, layouts: &[Layout]) -> Option<String>
+        ensures { IsSome self.now.found → result ≡ None }
+    {
+        if self.is_done() || 16_777_216 < self.text.len() || turn_count(&self.text) != layouts.len()
+        {
+            return None;
+        }
+        answer_sentences(self.alloc, name, layouts, self.text.as_slice()).ok()
     }
 
     /// Keeps the beginning of a line.
@@ -276,10 +320,10 @@ impl Ear {
 
     fn judged(&self, line: &[u8]) -> Result<Judged, CommandError> {
         match self.lines {
-            Lines::Records | Lines::ReadRecords | Lines::SizedRecords => {
+            Lines::Records | Lines::ReadRecords | Lines::SizedRecords | Lines::Answers => {
                 judged_record(self.alloc, self.sizes, line)
             }
-            Lines::Turns => judged_turn(self.alloc, line),
+            Lines::Turns | Lines::AnswersOfTurns => judged_turn(self.alloc, line),
             Lines::Names(names) => judged_name(self.alloc, names, line),
             Lines::Orders => judged_order(self.alloc, self.sizes, line),
             Lines::Characters => judged_characters(self.alloc, self.sizes, line),

@@ -215,7 +215,7 @@ impl Why {
             Why::SizesOfLayout => "the layout gives the sizes; leave this line out",
             Why::SizesTooLate => "sizes are told once, before the first record",
             Why::NoSizes => "no sizes of a terminal, as in 'size 24x80 43x80'",
-            Why::Turn => "only 'talk' takes a line 'turn'",
+            Why::Turn => "a line 'turn' is for 'talk', 'draft --turns' and 'bind --turns'",
             _ => self.other_words(),
         }
     }

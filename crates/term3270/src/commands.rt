@@ -2,8 +2,8 @@
 
 use crate::file::FileAt;
 use crate::reasons::{
-    HeardFile, HeardInput, heard_file, heard_input, says, says_first, told, told_check, told_first,
-    told_last, told_traces,
+    HeardFile, HeardInput, heard_file, heard_input, says, says_first, told, told_answers, told_check,
+    told_first, told_last, told_traces,
 };
 use crate::sessions::{run_attach, run_serve};
 use crate::stream::Named;
@@ -226,10 +226,10 @@ pub(crate) fn bind(rt: &HostRuntime, matches: &ArgMatches<'_>, layout: &str, for
         let _ = eprintln!(rt; "error: several layouts go with '--turns'");
         return Status::BadInput;
     }
-    let mut layout = heard_file(rt, Lines::Layout, layout);
-    let mut answers = heard_input(rt, Lines::SizedRecords);
-    let status = run_bind(rt.alloc(), &mut layout, &mut answers, &mut output(rt), form);
-    told_first(rt, status, &mut layout, &mut answers)
+    let mut layouts = [heard_file(rt, Lines::Layout, layout)];
+    let mut answers = heard_input(rt, Lines::Answers);
+    let status = run_bind(rt.alloc(), &mut layouts[0], &mut answers, &mut output(rt), form);
+    told_answers(rt, status, &mut layouts, &mut answers)
 }
 
 /// `bind` of each turn, with the layouts of files.
@@ -247,7 +247,7 @@ pub(crate) fn bind_turns(rt: &HostRuntime, matches: &ArgMatches<'_>, form: Form)
 fn bind_over(rt: &HostRuntime, paths: &[&str], form: Form) -> Status {
     match files_at(rt, paths) {
         Ok(mut layouts) => {
-            let mut answers = heard_input(rt, Lines::Turns);
+            let mut answers = heard_input(rt, Lines::AnswersOfTurns);
             let status = run_bind_turns(
                 rt.alloc(),
                 layouts.as_mut_slice(),
@@ -255,7 +255,7 @@ fn bind_over(rt: &HostRuntime, paths: &[&str], form: Form) -> Status {
                 &mut output(rt),
                 form,
             );
-            told_last(rt, status, layouts.as_mut_slice(), &mut answers)
+            told_answers(rt, status, layouts.as_mut_slice(), &mut answers)
         }
         Err(_) => Status::NoMemory,
     }

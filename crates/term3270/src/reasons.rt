@@ -3,8 +3,9 @@
 use crate::file::FileAt;
 use crate::prompt::Prompt;
 use crate::stream::Named;
-use cli_commands::{Status, Watched};
+use cli_commands::{CommandError, Status, Watched};
 use cli_reasons::{Ear, Heard, Lines};
+use scr_layout::Layout;
 
 /// What people call standard input.
 const INPUT: &str = "standard input";
@@ -22,6 +23,8 @@ fn asked_for(lines: Lines) -> &'static str {
         Lines::Trace => "a trace of x3270, s3270 or c3270",
         Lines::Stream => "bytes of one side in hexadecimal",
         Lines::Turns => "records in hexadecimal, with a line 'turn' between two turns",
+        Lines::Answers => "answers in hexadecimal",
+        Lines::AnswersOfTurns => "answers in hexadecimal, with a line 'turn' between two turns",
         _ => "records in hexadecimal",
     }
 }
@@ -141,6 +144,16 @@ pub(crate) fn told_check<S, T>(
     status
 }
 
+/// Says why the first of some layouts is refused that is, and tells whether it said so.
+fn says_layouts(rt: &HostRuntime, layouts: &mut [HeardFile<'_>]) -> bool {
+    for layout in layouts {
+        if is_told(rt, layout.stream.stream.name, &mut layout.ear) {
+            return true;
+        }
+    }
+    false
+}
+
 /// Says why the first of some layouts and of records after them is refused that is, and tells the status.
 pub(crate) fn told_last(
     rt: &HostRuntime,
@@ -148,15 +161,45 @@ pub(crate) fn told_last(
     layouts: &mut [HeardFile<'_>],
     records: &mut HeardInput<'_>,
 ) -> Status {
-    if !matches!(status, Status::BadInput) {
+    if !matches!(status, Status::BadInput) || says_layouts(rt, layouts) {
         return status;
     }
-    for layout in layouts {
-        if is_told(rt, layout.stream.stream.name, &mut layout.ear) {
-            return status;
-        }
-    }
     told(rt, status, records)
+}
+
+/// The layouts of texts that were heard.
+fn layouts_heard(rt: &HostRuntime, heard: &[HeardFile<'_>]) -> Result<Vec<Layout>, CommandError> {
+    let mut layouts = Vec::new(rt.alloc());
+    for file in heard {
+        layouts.push(file.ear.layout()?)?;
+    }
+    Ok(layouts)
+}
+
+/// Says why answers are refused, or aren't those of the layouts' screens.
+fn says_answers(rt: &HostRuntime, layouts: &[HeardFile<'_>], answers: &HeardInput<'_>) {
+    let Ok(layouts) = layouts_heard(rt, layouts) else {
+        return;
+    };
+    if let Some(text) = answers.ear.answers(INPUT, layouts.as_slice()) {
+        let _ = eprint!(rt; "{text}");
+    }
+}
+
+/// Says why the first of some layouts or a line is refused, or else each answer that is, and tells the status.
+pub(crate) fn told_answers(
+    rt: &HostRuntime,
+    status: Status,
+    layouts: &mut [HeardFile<'_>],
+    answers: &mut HeardInput<'_>,
+) -> Status {
+    if !matches!(status, Status::BadInput) || says_layouts(rt, layouts) {
+        return status;
+    }
+    if !says(rt, status, answers) {
+        says_answers(rt, layouts, answers);
+    }
+    status
 }
 
 /// Says why traces or streams are refused, or that nothing of a session was found in them, and tells the status.
