@@ -46,10 +46,11 @@ abbrev pub is_free : Picture → ℕ → ℕ → Bool
 is_free v p count =
     nat_lt p (length v.cells) && (nat_le (p % v.size.cols + count) v.size.cols && (bare_length v.cells p count == count))
 
--- behind the field, where no other one begins
+-- behind the field and its attribute in the row of its last cell, where no other one begins
 abbrev pub has_room_behind : Picture → List Declared → Declared → Bool
 has_room_behind v entries entry =
-    is_free v (behind entry) (name_width entry) && not (has_place entries (behind entry) (name_width entry))
+    is_free v (behind entry) (name_width entry)
+    && (not (has_place entries (behind entry) (name_width entry)) && nat_lt 1 (behind entry % v.size.cols))
 
 -- above the field's first cells, where no other field begins below, and no name could stand behind another
 abbrev pub has_room_above : Picture → List Declared → Declared → Bool

@@ -120,13 +120,14 @@ fn is_free(screen: &Screen<PlaneCells>, p: u64, count: u64) -> bool
     bare_length(screen, p, count) == count
 }
 
-/// Whether a name has room behind its field, where no other field begins.
+/// Whether a name has room behind its field, in the row of its last cell, where no other field begins.
 fn has_room_behind(screen: &Screen<PlaneCells>, entries: &[Entry], entry: &Entry) -> bool
     ensures { result ≡ has_room_behind screen.now entries.now entry.now }
 {
     let start = behind(entry);
     let count = name_width(entry);
-    is_free(screen, start, count) && !has_place(entries, start, count)
+    let columns = u64::from(screen.size().cols);
+    is_free(screen, start, count) && (!has_place(entries, start, count) && 1 < start % columns)
 }
 
 /// Whether a name has room above its field.
