@@ -6,6 +6,7 @@
 # make edits  tries every edit that the prover must refuse, of all crates or, with CRATE=ds_codec, of one
 # make bench  times the program beside plain Rust, and calls of the C library beside the program
 # make c      builds the C library: out/libtakvorn.a, out/libtakvorn.so and out/takvorn.pc (docs/LIBRARY.md)
+# make wheel  builds the Python package with the C library inside: dist/takvorn-VERSION-py3-none-linux_x86_64.whl (docs/LIBRARY.md)
 # make page   makes the checker for a browser, dist/takvorn.html, and the module that it stands on (docs/PAGE.md)
 # make install PREFIX=/usr/local   puts the program, the C library with its header, the manual page, the completions, the
 #             documents and the examples below PREFIX; with DESTDIR=FOLDER below that folder, for a package
@@ -19,7 +20,7 @@ PREFIX ?= /usr/local
 LIBRARY := out/libtakvorn.so.1
 need_toolchain = $(if $(RT),,$(error missing: the Rattle toolchain's command 'rt' on the PATH))
 
-.PHONY: run build test cases peers edits bench c page install dist clean
+.PHONY: run build test cases peers edits bench c wheel page install dist clean
 
 run:
 	$(if $(wildcard bin/term3270),,$(need_toolchain))
@@ -56,6 +57,9 @@ c: $(LIBRARY)
 $(LIBRARY): $(SOURCES) scripts/library include/takvorn.h include/takvorn.map include/takvorn.pc
 	$(need_toolchain)
 	@PREFIX=$(PREFIX) sh scripts/library
+
+wheel: $(LIBRARY)
+	@sh scripts/wheel
 
 page: $(LIBRARY)
 	@sh scripts/page

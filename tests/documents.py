@@ -24,7 +24,7 @@ import tempfile
 
 root = pathlib.Path(__file__).resolve().parent.parent
 program = pathlib.Path(sys.argv[1]).resolve()
-TREE = ["README.md", "CHANGELOG.md", "Makefile", "docs", "examples", "include", "completions", "scripts", "vectors", "tests/any_terminal.py"]
+TREE = ["README.md", "CHANGELOG.md", "Makefile", "docs", "examples", "include", "completions", "scripts", "vectors", "python", "tests/any_terminal.py"]
 PORT = re.compile(r"(?<=port )3270\b|(?<=[\w\]]:)3270\b")
 SECONDS = 50
 

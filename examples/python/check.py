@@ -1,9 +1,9 @@
-"""Checks records against a layout: check.py LAYOUT RECORDS."""
+"""Checks records against a layout, and shows the screen with what is found: check.py LAYOUT RECORDS."""
 import sys
 from pathlib import Path
 
 import takvorn
 
-layout, records = (Path(name).read_bytes() for name in sys.argv[1:])
+layout, records = takvorn.Layout.read(sys.argv[1]), Path(sys.argv[2]).read_text()
 for finding in takvorn.check(layout, records):
     print(finding)

@@ -1,0 +1,118 @@
+"""The package over the C library; what is expected was worked out on paper, or stands in the project's golden cases."""
+import pathlib
+
+import pytest
+
+import takvorn
+from takvorn.pytest_plugin import assert_conforms
+
+EXAMPLES = pathlib.Path(__file__).parents[2] / "examples"
+SIGNON = (EXAMPLES / "signon.hex").read_text()
+LAYOUT = takvorn.Layout.read(EXAMPLES / "signon.toml")
+
+# Erase/Write: NAME, protected, then an input of six cells with the cursor.
+SMALL = bytes.fromhex("F5C31D60D5C1D4C51D401311404C1D60")
+
+
+def test_a_screen_that_conforms():
+    assert takvorn.check(LAYOUT, SIGNON) == []
+    assert_conforms(SIGNON, LAYOUT)
+
+
+def test_a_finding_has_its_places():
+    (finding,) = takvorn.check(LAYOUT, SIGNON.replace("11C44B1DF0", ""))
+    assert (finding.number, finding.name, finding.entry) == (11, "too-long", "userid")
+    assert (finding.row, finding.column, finding.place) == (4, 20, 259)
+    assert (finding.length, finding.declared) == (69, 8)
+    assert finding.words == "F11 userid length 69, declared 8, keys: right 0, type 69"
+    assert str(finding).endswith("by an attribute after 8 cells")
+
+
+def test_what_is_sent_is_bytes():
+    (finding,) = takvorn.check(LAYOUT, SIGNON.replace("1DF0E2C9", "1DF1E2C9"))
+    assert finding.sends == bytes.fromhex("7DC4C311405EE2C9C7D540D6D5")
+
+
+def test_raw_records_and_text_are_alike():
+    assert takvorn.show(SMALL) == takvorn.show([SMALL]) == takvorn.show(SMALL.hex())
+
+
+def test_a_screen():
+    shown = takvorn.show(SMALL)
+    assert (shown.rows, shown.columns, shown.cursor, shown.keyboard) == (24, 80, 6, "free")
+    assert shown.text[0] == " NAME" + " " * 75
+    assert [(it.place, it.length, it.protected) for it in shown.fields] == [(1, 4, True), (6, 6, False), (13, 1907, True)]
+    assert shown.field_at(1, 7).length == 6
+    with pytest.raises(KeyError):
+        shown.field_at(1, 8)
+
+
+def test_hidden_characters_are_not_shown():
+    shown = takvorn.show(bytes.fromhex("F5C21D4CD7C11D60C1"))
+    assert shown.text[0][:6] == "    A "
+    assert shown.fields[0].characters == "PA"
+
+
+def test_keys_are_pressed():
+    assert takvorn.show(SMALL, "type C1\ntype C2\n").text[0][:9] == " NAME AB "
+    done, sent = takvorn.press(SMALL, "type C1\nenter\n")
+    assert done == takvorn.Pressed("done", cursor=7)
+    assert sent == takvorn.Pressed("sent", sent=bytes.fromhex("7D40C71140C6C1"))
+
+
+def test_answers_are_bound():
+    answer, short = takvorn.bind(LAYOUT, [bytes.fromhex("7DC5D411C4C3E4E2F111C5D3E7"), bytes.fromhex("6D")])
+    assert (answer.aid, answer.cursor) == (0x7D, 340)
+    assert answer.text == {"userid": "US1", "password": "X"}
+    assert answer.codes == {"userid": bytes.fromhex("E4E2F1"), "password": b"\xe7"}
+    assert (short.aid, short.cursor, short.text) == (0x6D, None, {})
+
+
+def test_a_draft_conforms():
+    layout = takvorn.draft(SIGNON)
+    assert 'name = "userid"' in layout
+    assert takvorn.check(layout, SIGNON) == []
+
+
+def test_a_dialogue():
+    assert takvorn.talk([LAYOUT], [SIGNON]) == []
+    assert takvorn.talk([LAYOUT, LAYOUT], [SIGNON, "F1C3C1\n"]) == ["turn 1", "F14 record 0 depends on the cursor"]
+
+
+def test_orders_and_back():
+    lines = takvorn.convert(SMALL)
+    assert lines.startswith("EW C3\nSF 20\nTEXT D5C1D4C5\n")
+    assert takvorn.convert_back(lines) == [SMALL]
+
+
+def test_traces():
+    assert takvorn.records((EXAMPLES / "session.trc").read_bytes()) == [bytes.fromhex("F5C21D60C11D40131140C61DF0")]
+
+
+def test_maps():
+    source = (EXAMPLES / "signon.bms").read_text()
+    assert takvorn.check_map(source) == []
+    (line,) = takvorn.check_map("".join(it for it in source.splitlines(True) if "POS=(4,28)" not in it))
+    assert line == "SIGNON USERID line 8: F11 userid length 69, declared 8, keys: right 0, type 69"
+    assert takvorn.check(takvorn.map_layout(source, "signon", freekb=True), takvorn.map_records(source, "signon", freekb=True)) == []
+
+
+@pytest.mark.parametrize(
+    ("call", "words", "places"),
+    [
+        (lambda: takvorn.show("XY\n"), "line 1 refused", {"line": 1}),
+        (lambda: takvorn.show(b"\xf5\xc2\x11\x80\x40"), "record 0 refused at 2: O7 ReservedAddress", {"number": "O7", "record": 0, "byte": 2}),
+        (lambda: takvorn.check("no layout", SMALL), "layout refused: L1 NotToml", {"number": "L1"}),
+        (lambda: takvorn.bind(LAYOUT, b"\xff"), "answer 0 refused at 0: I2 UnknownAid", {"number": "I2", "byte": 0}),
+    ],
+)
+def test_refusals(call, words, places):
+    with pytest.raises(takvorn.Refused) as refused:
+        call()
+    assert refused.value.words == words
+    for name, value in places.items():
+        assert getattr(refused.value, name) == value
+
+
+def test_the_fixture(screen):
+    assert screen(SMALL).text[0].strip() == "NAME"
