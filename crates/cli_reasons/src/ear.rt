@@ -250,7 +250,9 @@ impl Ear {
     pub fn answers(&self, name: &str, layouts: &[Layout]) -> Option<String>
         ensures { IsSome self.now.found → result ≡ None }
     {
-        if self.is_done() || 16_777_216 < self.text.len() || turn_count(&self.text) != layouts.len()
+        if self.is_done()
+            || 16_777_216 < self.text.len()
+            || turn_count(&self.text) != layouts.len()
         {
             return None;
         }

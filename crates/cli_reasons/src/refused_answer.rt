@@ -32,8 +32,10 @@ fn answer_reason(why: Why) -> &'static str
 {
     match why {
         Why::Empty => "the answer has no byte",
-        Why::UnknownAid => "an answer begins with an attention identifier, as 7D, and this byte is none",
-        Why::Truncated => "bytes of the cursor's address, of a field's place or of a pair are missing",
+        Why::UnknownAid =>
+            "an answer begins with an attention identifier, as 7D, and this byte is none",
+        Why::Truncated =>
+            "bytes of the cursor's address, of a field's place or of a pair are missing",
         Why::BadAddress => "the address begins with the bits 10, or is outside the screen",
         Why::BadCharacter => "no character has this code",
         Why::Null => "a null is never sent",
@@ -45,7 +47,8 @@ fn unbound_reason(fault: BindFault) -> &'static str
     ensures { result.now ≡ unbound_reason fault }
 {
     match fault {
-        BindFault::NotDeclared => "a field of the answer is at a place where the layout has no entry",
+        BindFault::NotDeclared =>
+            "a field of the answer is at a place where the layout has no entry",
         BindFault::Longer => "a field of the answer has more characters than the layout declares",
         BindFault::Twice => "two fields of the answer are at one place",
         BindFault::Lead => "the answer has characters before the place of a field",

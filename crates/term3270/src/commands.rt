@@ -2,8 +2,8 @@
 
 use crate::file::FileAt;
 use crate::reasons::{
-    HeardFile, HeardInput, heard_file, heard_input, says, says_first, told, told_answers, told_check,
-    told_first, told_last, told_traces,
+    HeardFile, HeardInput, heard_file, heard_input, says, says_first, told, told_answers,
+    told_check, told_first, told_last, told_traces,
 };
 use crate::sessions::{run_attach, run_serve};
 use crate::stream::Named;
@@ -228,7 +228,13 @@ pub(crate) fn bind(rt: &HostRuntime, matches: &ArgMatches<'_>, layout: &str, for
     }
     let mut layouts = [heard_file(rt, Lines::Layout, layout)];
     let mut answers = heard_input(rt, Lines::Answers);
-    let status = run_bind(rt.alloc(), &mut layouts[0], &mut answers, &mut output(rt), form);
+    let status = run_bind(
+        rt.alloc(),
+        &mut layouts[0],
+        &mut answers,
+        &mut output(rt),
+        form,
+    );
     told_answers(rt, status, &mut layouts, &mut answers)
 }
 

@@ -101,7 +101,12 @@ impl TerminalState {
     }
 
     /// Responds that a record was taken, where that is wanted, and counts it.
-    fn accept(&mut self, due: &mut Vec<u8>, agreed: Agreed, header: Header) -> Result<(), AllocError>
+    fn accept(
+        &mut self,
+        due: &mut Vec<u8>,
+        agreed: Agreed,
+        header: Header,
+    ) -> Result<(), AllocError>
         ensures due { OnOk result (due.new.items ≡ due.old.items ++ positive agreed header) }
         ensures after { OnOk result (self.new ≡ one_taken self.old) }
     {
