@@ -12,6 +12,7 @@ pub mod Nearest
 pub mod OrderLine
 pub mod RecordLine
 pub mod Refusal
+pub mod RefusedAnswer
 pub mod RefusedRecord
 pub mod Refusing
 pub mod SaysLayout

@@ -30,7 +30,6 @@ use cli_commands::{
     Answer, CommandError, convert_back_text, convert_text, layout_in, show_text, without_end,
 };
 use memchr::memchr;
-use scr_layout::Layout;
 use std::alloc::Global;
 use std::mem::replace;
 
@@ -239,7 +238,7 @@ impl Ear {
     }
 
     /// The layout of a text that was heard, or its first fault.
-    pub fn layout(&self) -> Result<Layout, CommandError>
+    pub fn layout(&self) -> Result<scr_layout::Layout, CommandError>
         ensures { Gives (λ l. l) result (layout_in self.now.open.items) }
     {
         layout_in(self.alloc, self.open.as_slice())
@@ -247,7 +246,7 @@ impl Ear {
 
     /// The sentences of the answers that are refused, or aren't those of the screens of these layouts, in the input of this name,
     /// where no line is refused and there is a layout for each turn.
-    pub fn answers(&self, name: &str, layouts: &[Layout]) -> Option<String>
+    pub fn answers(&self, name: &str, layouts: &[scr_layout::Layout]) -> Option<String>
         ensures { IsSome self.now.found → result ≡ None }
     {
         if self.is_done()
