@@ -7,4 +7,4 @@ mod layouts;
 mod part;
 
 pub use bind::run_bind_turns;
-pub use draft::{draft_turns_text, run_draft_turns};
+pub use draft::{draft_turns_text, each_draft, run_draft_turns};
