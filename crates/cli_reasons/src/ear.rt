@@ -53,8 +53,10 @@ pub enum Lines {
     ReadRecords,
     /// Records for the sizes of a layout.
     SizedRecords,
-    /// Records of several turns.
+    /// Records of several turns, for the sizes of layouts.
     Turns,
+    /// Records of several turns, and the sizes where a line may tell them.
+    SizedTurns,
     Names(Names),
     /// Commands and orders.
     Orders,
@@ -103,9 +105,11 @@ pub struct Ear {
 /// What tells the sizes before the first line.
 fn first_sizes(lines: Lines) -> SizesBy {
     match lines {
-        Lines::Records | Lines::ReadRecords | Lines::Orders | Lines::Characters => {
-            SizesBy::Line
-        },
+        Lines::Records
+        | Lines::ReadRecords
+        | Lines::SizedTurns
+        | Lines::Orders
+        | Lines::Characters => SizesBy::Line,
         _ => SizesBy::Layout,
     }
 }
@@ -279,7 +283,7 @@ impl Ear {
             Lines::Records | Lines::ReadRecords | Lines::SizedRecords => {
                 judged_record(self.alloc, self.sizes, line)
             }
-            Lines::Turns => judged_turn(self.alloc, line),
+            Lines::Turns | Lines::SizedTurns => judged_turn(self.alloc, self.sizes, line),
             Lines::Names(names) => judged_name(self.alloc, names, line),
             Lines::Orders => judged_order(self.alloc, self.sizes, line),
             Lines::Characters => judged_characters(self.alloc, self.sizes, line),
