@@ -59,8 +59,10 @@ pub enum Lines {
     ReadRecords,
     /// Records for the sizes of a layout.
     SizedRecords,
-    /// Records of several turns.
+    /// Records of several turns, for the sizes of layouts.
     Turns,
+    /// Records of several turns, and the sizes where a line may tell them.
+    SizedTurns,
     /// What a terminal sent, to the screen of a layout.
     Answers,
     /// The same of several turns.
@@ -113,9 +115,11 @@ pub struct Ear {
 /// What tells the sizes before the first line.
 fn first_sizes(lines: Lines) -> SizesBy {
     match lines {
-        Lines::Records | Lines::ReadRecords | Lines::Orders | Lines::Characters => {
-            SizesBy::Line
-        },
+        Lines::Records
+        | Lines::ReadRecords
+        | Lines::SizedTurns
+        | Lines::Orders
+        | Lines::Characters => SizesBy::Line,
         _ => SizesBy::Layout,
     }
 }
@@ -324,7 +328,9 @@ impl Ear {
             Lines::Records | Lines::ReadRecords | Lines::SizedRecords | Lines::Answers => {
                 judged_record(self.alloc, self.sizes, line)
             }
-            Lines::Turns | Lines::AnswersOfTurns => judged_turn(self.alloc, line),
+            Lines::Turns | Lines::SizedTurns | Lines::AnswersOfTurns => {
+                judged_turn(self.alloc, self.sizes, line)
+            }
             Lines::Names(names) => judged_name(self.alloc, names, line),
             Lines::Orders => judged_order(self.alloc, self.sizes, line),
             Lines::Characters => judged_characters(self.alloc, self.sizes, line),

@@ -94,11 +94,15 @@ pub(crate) fn judged_record(
 }
 
 /// What a line of records of several turns does.
-pub(crate) fn judged_turn(alloc: Global, line: &[u8]) -> Result<Judged, CommandError> {
+pub(crate) fn judged_turn(
+    alloc: Global,
+    sizes: SizesBy,
+    line: &[u8],
+) -> Result<Judged, CommandError> {
     if line == b"turn".as_slice() {
         return Ok(Judged::Nothing);
     }
-    judged_record(alloc, SizesBy::Layout, line)
+    judged_record(alloc, sizes, line)
 }
 
 /// How many keys or strokes a line alone names.

@@ -1,6 +1,6 @@
 //! A layout for the screen of each turn of a dialogue.
 
-ghost use Rattle.std.specs.Prelude.{◌≡◌, ◌+◌, ◌++◌, ◌<◌, ◌^◌, codes, IfOk, IfSome, OnOk};
+ghost use Rattle.std.specs.Prelude.{◌≡◌, ◌+◌, ◌++◌, ◌<◌, ◌^◌, codes, map, IfOk, IfSome, OnOk};
 ghost use Rattle.std.specs.Fmt.{decimal};
 ghost use Rattle.std.specs.String.{string_bytes};
 ghost use Rattle.cli_commands.specs.Causes.{EndsBy, ToldBy};
@@ -8,7 +8,7 @@ ghost use Rattle.cli_commands.specs.Fault.{Gives, GivesOrFails};
 ghost use Rattle.cli_commands.specs.Held.{answer_seen};
 ghost use Rattle.cli_commands.specs.Streams.{Prints};
 ghost use Rattle.cli_drafts.specs.Draft.{draft};
-ghost use Rattle.cli_turns.specs.Drafts.{worse, turn_head, drafts_from, draft_of, draft_turns, printed_draft_turns};
+ghost use Rattle.cli_turns.specs.Drafts.{worse, turn_head, drafts_from, draft_of, draft_turns, each_draft, each_from, printed_draft_turns};
 ghost use Rattle.cli_turns.specs.Part.{records_up_to};
 
 use crate::part::{count_of, records_up_to};
@@ -92,6 +92,38 @@ pub fn draft_turns_text(alloc: Global, text: &[u8]) -> Result<Answer, CommandErr
         return Err(CommandError::Fault(Fault::TooLong));
     }
     drafts_of(alloc, turns + 1, lines)
+}
+
+/// The draft of each of so many turns.
+fn each_of(alloc: Global, count: usize, text: &[u8]) -> Result<Vec<Answer>, CommandError>
+    requires { count < 2 ^ 32 }
+    ensures { Gives (λ all. map answer_seen all.items) result (each_from text.now 0 count) }
+{
+    let mut all = Vec::new(alloc);
+    for turn in 0..count {
+        match draft_of(alloc, turn, text) {
+            Ok(one) => all.push(one)?,
+            Err(error) => return Err(error),
+        }
+    }
+    Ok(all)
+}
+
+/// What `draft` answers to the records up to each turn of a text of records, with a line `turn` between two turns: the texts that
+/// `draft_turns_text` puts together, one by one. A text of status `Findings` is no layout.
+///
+/// # Errors
+///
+/// Those of `draft_turns_text`.
+pub fn each_draft(alloc: Global, text: &[u8]) -> Result<Vec<Answer>, CommandError>
+    ensures { Gives (λ all. map answer_seen all.items) result (each_draft text.now) }
+{
+    let lines = within_limit(text)?;
+    let turns = count_of(MOST_TURNS, lines);
+    if turns == MOST_TURNS {
+        return Err(CommandError::Fault(Fault::TooLong));
+    }
+    each_of(alloc, turns + 1, lines)
 }
 
 fn draft_read<R: GivesBytes>(alloc: Global, reader: &mut R) -> Result<Answer, CommandError>

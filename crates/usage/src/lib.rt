@@ -3,7 +3,9 @@
 
 mod of_bms_map;
 mod of_bms_source;
+mod of_buffer_lines;
 mod of_cli_binds;
+mod of_cli_buffers;
 mod of_cli_characters;
 mod of_cli_commands;
 mod of_cli_drafts;

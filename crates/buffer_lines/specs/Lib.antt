@@ -1,0 +1,7 @@
+pub mod Words
+pub mod Cell
+pub mod Row
+pub mod Status
+pub mod Line
+pub mod Record
+pub mod Screen

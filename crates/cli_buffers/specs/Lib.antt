@@ -1,0 +1,3 @@
+pub mod Sizes
+pub mod Reading
+pub mod Buffer
