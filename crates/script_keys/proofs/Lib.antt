@@ -1,0 +1,5 @@
+mod Texts
+mod EndLaws
+mod FillLaws
+mod MoveLaws
+mod Rows
