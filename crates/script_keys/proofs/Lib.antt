@@ -2,4 +2,5 @@ mod Texts
 mod EndLaws
 mod FillLaws
 mod MoveLaws
+mod QuietLaws
 mod Rows

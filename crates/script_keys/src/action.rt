@@ -121,7 +121,8 @@ fn target_from_1(arguments: &[Vec<u8>]) -> Target
 
 /// An action whose arguments name no key and no place.
 fn simply_named(name: Name, arguments: &[Vec<u8>]) -> Action<'_>
-    ensures { action_seen result ≡ simply_named name (map (λ argument. argument.items) arguments.now) }
+    ensures { action_seen result ≡ simply_named name
+        (map (λ argument. argument.items) arguments.now) }
 {
     match name {
         Name::Connect | Name::Open => Action::Connect(first_of(arguments)),
@@ -136,7 +137,8 @@ fn simply_named(name: Name, arguments: &[Vec<u8>]) -> Action<'_>
 
 /// The action of a name and as many arguments as it may have.
 fn counted_action(name: Name, arguments: &[Vec<u8>]) -> Result<Action<'_>, Fault<'_>>
-    ensures { read_seen result ≡ counted_action name (map (λ argument. argument.items) arguments.now) }
+    ensures { read_seen result ≡ counted_action name
+        (map (λ argument. argument.items) arguments.now) }
 {
     match name {
         Name::Pf => {
@@ -160,7 +162,8 @@ fn counted_action(name: Name, arguments: &[Vec<u8>]) -> Result<Action<'_>, Fault
 ///
 /// No action is called so; it has another number of arguments; or a PF or PA key has no such number.
 pub fn read_action<'a>(name: &'a [u8], arguments: &'a [Vec<u8>]) -> Result<Action<'a>, Fault<'a>>
-    ensures { read_seen result ≡ read_action name.now (map (λ argument. argument.items) arguments.now) }
+    ensures { read_seen result ≡ read_action name.now
+        (map (λ argument. argument.items) arguments.now) }
 {
     match name_of(name) {
         None => Err(Fault::Unknown(name)),

@@ -20,7 +20,7 @@ pub use arity::Arity;
 pub use fault::{Fault, push_fault};
 pub use fill::typed_runs;
 pub use keys::Keys;
-pub use laws::move_law;
+pub use laws::{move_law, quiet_law};
 pub use name::{Name, name_of};
 pub use number::{Number, number_of};
 pub use run::Run;

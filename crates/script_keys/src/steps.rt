@@ -70,7 +70,8 @@ fn push_field_end<C: Cells>(runs: &mut Vec<Run>, screen: &Screen<C>) -> Result<(
 
 /// Adds what erases the cursor's field.
 fn push_delete_field<C: Cells>(runs: &mut Vec<Run>, screen: &Screen<C>) -> Result<(), AllocError>
-    ensures { IfOk result (λ done. runs.new.items ≡ runs.old.items ++ delete_field_runs screen.now) }
+    ensures { IfOk result (λ done. runs.new.items
+        ≡ runs.old.items ++ delete_field_runs screen.now) }
 {
     let n = position_count(screen);
     let cursor = screen.cursor();
