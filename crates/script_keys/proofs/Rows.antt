@@ -4,7 +4,7 @@ use Rattle.ds_keys.specs.declared.key.Key.TheVariants as pressed
 use Rattle.script_keys.specs.declared.keys.Keys.TheVariants.{Plain, MoveTo}
 use Rattle.script_keys.specs.declared.name.Name.TheVariants as names
 use Rattle.script_keys.specs.declared.number.Number.TheVariants.{Negative, Natural}
-use Rattle.script_keys.specs.declared.target.Target.TheVariants.{Cell}
+use Rattle.script_keys.specs.declared.target.Target.TheVariants.{Cell, Position}
 use Rattle.script_keys.specs.Numbers.{value_from, number_of}
 use Rattle.script_keys.specs.Names.{name_of}
 use Rattle.script_keys.specs.Faults.{miscounted, invalid, unknown, fault_text}
@@ -49,6 +49,10 @@ row_column = refl
 from_1 : counted_action names.MoveCursor1 (codes "4" ∷ codes "20" ∷ []) ≡ Ok (keys (MoveTo (Cell 3 19)))
 unfolding value_from
 from_1 = refl
+
+position_from_0 : counted_action names.MoveCursor1 (codes "5" ∷ []) ≡ Ok (keys (MoveTo (Position 5)))
+unfolding value_from
+position_from_0 = refl
 
 tab_of_one : named_action (Some names.Tab) (codes "tab") (codes "x" ∷ []) ≡ Err (miscounted names.Tab)
 tab_of_one = refl

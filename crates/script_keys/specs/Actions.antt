@@ -65,16 +65,18 @@ abbrev pub sending : Name → List ℕ → Option Key → Result Action Fault
 sending name argument (Some key) = Ok (keys (Plain key))
 sending name argument None = Err (invalid name argument)
 
--- a row and a column, or a position
-abbrev pub target_by : (Number → ℕ) → List (List ℕ) → Target
-target_by count (row ∷ column ∷ []) = Cell (count (number_of row)) (count (number_of column))
-target_by count arguments = Position (count (number_of (first_of arguments)))
+abbrev pub position_of : List (List ℕ) → Target
+position_of arguments = Position (natural (number_of (first_of arguments)))
 
+-- a row and a column, or a position, all from 0
 abbrev pub target_from_0 : List (List ℕ) → Target
-target_from_0 arguments = target_by natural arguments
+target_from_0 (row ∷ column ∷ []) = Cell (natural (number_of row)) (natural (number_of column))
+target_from_0 arguments = position_of arguments
 
+-- a row and a column from 1, or a position, which is from 0 here too
 abbrev pub target_from_1 : List (List ℕ) → Target
-target_from_1 arguments = target_by counted arguments
+target_from_1 (row ∷ column ∷ []) = Cell (counted (number_of row)) (counted (number_of column))
+target_from_1 arguments = position_of arguments
 
 abbrev pub keyed_or_other : Name → List (List ℕ) → Option Keys → Action
 keyed_or_other name arguments (Some it) = keys it

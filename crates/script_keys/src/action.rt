@@ -115,7 +115,7 @@ fn target_from_1(arguments: &[Vec<u8>]) -> Target
 {
     match arguments {
         [row, column] => Target::Cell(counted(number_of(row)), counted(number_of(column))),
-        _ => Target::Position(counted(number_of(first_of(arguments)))),
+        _ => Target::Position(natural(number_of(first_of(arguments)))),
     }
 }
 
