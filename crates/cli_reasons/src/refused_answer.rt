@@ -61,7 +61,7 @@ fn push_refused(
     refused: Refused,
 ) -> Result<(), AllocError>
     ensures { OnOk result (string_bytes out.new ≡ string_bytes out.old
-        ++ refused_said standing.name.now standing.number standing.line.now refused) }
+        ++ refused_said standing.entry.name.now standing.entry.number standing.entry.line.now refused) }
 {
     let column = byte_column(standing.line, refused.at.min(MOST_BYTES));
     push_head(out, standing.name, Place::Column(standing.number, column))?;
@@ -75,7 +75,7 @@ fn push_unbound(
     fault: BindFault,
 ) -> Result<(), AllocError>
     ensures { OnOk result (string_bytes out.new ≡ string_bytes out.old
-        ++ unbound_said standing.name.now standing.number fault) }
+        ++ unbound_said standing.entry.name.now standing.entry.number fault) }
 {
     push_head(out, standing.name, Place::Line(standing.number))?;
     out.push_str(unbound_reason(fault))?;
@@ -91,7 +91,7 @@ fn push_read(
     answer: &Inbound<'_>,
 ) -> Result<(), AllocError>
     ensures { OnOk result (string_bytes out.new ≡ string_bytes out.old
-        ++ bound_said standing.name.now standing.number (bound_of layout.now.entries answer.now)) }
+        ++ bound_said standing.entry.name.now standing.entry.number (bound_of layout.now.entries answer.now)) }
 {
     match bind(alloc, layout, answer) {
         Ok(_) => Ok(()),
@@ -109,7 +109,7 @@ fn push_answer(
     bytes: &[u8],
 ) -> Result<(), AllocError>
     ensures { OnOk result (string_bytes out.new ≡ string_bytes out.old
-        ++ answer_said layout.now standing.name.now standing.number standing.line.now bytes.now) }
+        ++ answer_said layout.now standing.entry.name.now standing.entry.number standing.entry.line.now bytes.now) }
 {
     match Inbound::read(layout.geometry().mode(), layout.size().cells(), bytes) {
         Ok(answer) => push_read(alloc, out, layout, standing, &answer),
@@ -125,7 +125,7 @@ fn push_line(
     standing: Standing<'_>,
 ) -> Result<(), AllocError>
     ensures { OnOk result (string_bytes out.new ≡ string_bytes out.old
-        ++ line_said layout.now standing.name.now standing.number standing.line.now) }
+        ++ line_said layout.now standing.entry.name.now standing.entry.number standing.entry.line.now) }
 {
     match records_in(alloc, standing.line, SizeLine::Refused) {
         Ok(told) => match told.records.as_slice() {

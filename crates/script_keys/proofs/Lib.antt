@@ -1,0 +1,6 @@
+mod Texts
+mod EndLaws
+mod FillLaws
+mod MoveLaws
+mod QuietLaws
+mod Rows

@@ -1,0 +1,13 @@
+pub mod Names
+pub mod Numbers
+pub mod Targets
+pub mod Arities
+pub mod Faults
+pub mod FaultSeen
+pub mod Actions
+pub mod ActionSeen
+pub mod Runs
+pub mod Ends
+pub mod Fill
+pub mod Steps
+pub mod Laws

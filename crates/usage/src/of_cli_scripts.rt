@@ -1,0 +1,11 @@
+//! The example of `cli_scripts`.
+
+use cli_scripts::{Awaited, read_wait};
+
+/// Whether arguments of `Wait` ask for an input field.
+fn asks_for_input(arguments: &[Vec<u8>]) -> bool {
+    match read_wait(arguments) {
+        Ok(wait) => wait.what == Awaited::InputField,
+        Err(_) => false,
+    }
+}
