@@ -1,0 +1,8 @@
+use Rattle.script_screens.proofs.Codes.{characters_have_codes, codes_have_characters}
+use Rattle.script_screens.proofs.law.codes_law.Goals as goal
+
+pub returns-clause-coded : goal.returns-clause-coded
+returns-clause-coded c = characters_have_codes
+
+pub returns-clause-read : goal.returns-clause-read
+returns-clause-read c = codes_have_characters
