@@ -1,1 +1,3 @@
 mod Codes
+mod Pushed
+mod Sizes

@@ -4,4 +4,5 @@ pub mod Lines
 pub mod Pieces
 pub mod Shown
 pub mod Regions
+pub mod Cells
 pub mod Laws

@@ -1,6 +1,7 @@
 //! What a script reads of a screen, as s3270 4.1 says it.
 #![tactic(auto)]
 
+mod cells;
 mod code_page;
 mod hexadecimal;
 mod law;
