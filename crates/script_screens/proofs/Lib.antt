@@ -1,3 +1,4 @@
 mod Codes
 mod Pushed
 mod Sizes
+mod Fields

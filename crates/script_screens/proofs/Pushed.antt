@@ -27,3 +27,25 @@ pub one_more_line : (f : List ℕ → List ℕ) (g : ℕ → List ℕ) (line : �
 one_more_line f g line first before after so_far here =
     one_more (λ k. f (g k)) line first before after (so_far ∙ ap (λ b. first ++ b) (flat_map-map f g (range_with_len 0 line))) here
     ∙ ap (λ b. first ++ b) (sym (flat_map-map f g (range_with_len 0 (line + 1))))
+
+joined : (s a b c d : List ℕ) → s ++ a ++ b ++ c ++ d ≡ s ++ (a ++ (b ++ (c ++ d)))
+joined s a b c d = append_assoc (s ++ a ++ b) c d ∙ append_assoc (s ++ a) b (c ++ d) ∙ append_assoc s a (b ++ (c ++ d))
+
+all_of : (f : List ℕ → List ℕ) (a b c d : List ℕ) → flat_map f (a ∷ b ∷ c ∷ d ∷ []) ≡ f a ++ (f b ++ (f c ++ f d))
+all_of f a b c d =
+    flat_map-cons f a (b ∷ c ∷ d ∷ []) ∙ ap (λ x. f a ++ x) (flat_map-cons f b (c ∷ d ∷ [])
+    ∙ ap (λ x. f b ++ x) (flat_map-cons f c (d ∷ []) ∙ ap (λ x. f c ++ x) (flat_map-cons f d [] ∙ append-nil (f d))))
+
+pub four_lines : (f : List ℕ → List ℕ) (a b c d start first second third fourth : List ℕ)
+    → first ≡ start ++ f a → second ≡ first ++ f b → third ≡ second ++ f c → fourth ≡ third ++ f d
+    → fourth ≡ start ++ flat_map f (a ∷ b ∷ c ∷ d ∷ [])
+four_lines f a b c d start first second third fourth one two three four =
+    four ∙ ap (λ x. x ++ f d) three ∙ ap (λ x. x ++ f c ++ f d) two ∙ ap (λ x. x ++ f b ++ f c ++ f d) one
+    ∙ joined start (f a) (f b) (f c) (f d) ∙ ap (λ x. start ++ x) (sym (all_of f a b c d))
+
+-- one more line after others
+pub line_after : (f : List ℕ → List ℕ) (others : List (List ℕ)) (line start before after : List ℕ) → before ≡ start ++ flat_map f others → after ≡ before ++ f line
+    → after ≡ start ++ flat_map f (others ++ line ∷ [])
+line_after f others line start before after so_far here =
+    here ∙ ap (λ x. x ++ f line) so_far ∙ append_assoc start (flat_map f others) (f line)
+    ∙ ap (λ x. start ++ x) (ap (λ x. flat_map f others ++ x) (sym (flat_map-cons f line [] ∙ append-nil (f line))) ∙ sym (flat_map-append f others (line ∷ [])))

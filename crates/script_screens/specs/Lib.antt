@@ -5,4 +5,7 @@ pub mod Pieces
 pub mod Shown
 pub mod Regions
 pub mod Cells
+pub mod Fields
+pub mod Reading
+pub mod Status
 pub mod Laws

@@ -1,5 +1,5 @@
 -- Lines of an answer.
-use Rattle.std.specs.Prelude.{ℕ, List, [], ◌∷◌, ◌++◌, codes}
+use Rattle.std.specs.Prelude.{◌≡◌, ℕ, List, [], ◌∷◌, ◌++◌, codes}
 use Rattle.std.specs.List.{flat_map}
 use Rattle.script_screens.specs.declared.lines.Outcome.{Outcome}
 use Rattle.script_screens.specs.declared.lines.Outcome.TheVariants.{Done, Failed}
@@ -21,3 +21,7 @@ done texts = record { texts = texts; outcome = Done }
 -- a fault is one data line
 abbrev pub failed : List ℕ → Said
 failed text = record { texts = text ∷ []; outcome = Failed }
+
+-- what was added to an answer, and how the action ended
+abbrev pub Says : List ℕ → List ℕ → Outcome → Said → Type 0
+Says before after outcome said = (after ≡ before ++ data_lines said.texts) × (outcome ≡ said.outcome)

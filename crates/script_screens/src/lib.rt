@@ -1,19 +1,27 @@
 //! What a script reads of a screen, as s3270 4.1 says it.
 #![tactic(auto)]
 
+mod buffer;
 mod cells;
 mod code_page;
+mod connection;
+mod field;
 mod hexadecimal;
 mod law;
 mod lines;
 mod number;
 mod pieces;
+mod reading;
 mod region;
 mod shown;
+mod status;
 
 pub use code_page::{CodePage, character_of, code_of};
+pub use connection::{Connection, Protocol};
 pub use law::codes_law;
 pub use lines::Outcome;
 pub use number::read_number;
+pub use reading::{Reading, push_reading};
 pub use shown::push_character;
+pub use status::push_status;
 pub use pieces::{Piece, StringFault, StringKey, next_piece, push_string_fault};

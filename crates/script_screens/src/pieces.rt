@@ -274,11 +274,11 @@ fn push_fault_words(out: &mut Vec<u8>, fault: StringFault) -> Result<(), AllocEr
         StringFault::AfterPa => out.extend_from_slice(b"Unknown character after \\pa"),
         StringFault::UnknownPf(number) => {
             out.extend_from_slice(b"Unknown PF key ")?;
-            push_decimal(out, u32::from(number))
+            push_decimal(out, u64::from(number))
         }
         StringFault::UnknownPa(number) => {
             out.extend_from_slice(b"Unknown PA key ")?;
-            push_decimal(out, u32::from(number))
+            push_decimal(out, u64::from(number))
         }
         StringFault::Bell => out.extend_from_slice(b"Bell not supported"),
         StringFault::VerticalTab => out.extend_from_slice(b"Vertical tab not supported"),
