@@ -2,3 +2,4 @@ mod Codes
 mod Pushed
 mod Sizes
 mod Fields
+mod Items

@@ -8,4 +8,5 @@ pub mod Cells
 pub mod Fields
 pub mod Reading
 pub mod Status
+pub mod Query
 pub mod Laws

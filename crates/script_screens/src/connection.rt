@@ -19,3 +19,12 @@ pub struct Connection<'a> {
     /// The name of the logical unit, empty where there is none.
     pub lu_name: &'a [u8],
 }
+
+/// A device. No text of it has a line end.
+#[derive(Clone, Copy, Debug)]
+pub struct Device<'a> {
+    /// Its name, as `IBM-3278-2`.
+    pub name: &'a [u8],
+    /// What is said of the program's version.
+    pub version: &'a [u8],
+}
