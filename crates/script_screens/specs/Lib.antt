@@ -9,4 +9,5 @@ pub mod Fields
 pub mod Reading
 pub mod Status
 pub mod Query
+pub mod Snap
 pub mod Laws

@@ -16,6 +16,7 @@ mod query;
 mod reading;
 mod region;
 mod shown;
+mod snap;
 mod status;
 
 pub use code_page::{CodePage, character_of, code_of};
@@ -26,5 +27,6 @@ pub use number::read_number;
 pub use query::{Query, push_query};
 pub use reading::{Reading, push_reading};
 pub use shown::push_character;
+pub use snap::{Kept, Snap, SnapFault, push_kept, push_snap_fault, snap_of};
 pub use status::push_status;
 pub use pieces::{Piece, StringFault, StringKey, next_piece, push_string_fault};
