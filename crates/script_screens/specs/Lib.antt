@@ -10,4 +10,6 @@ pub mod Reading
 pub mod Status
 pub mod Query
 pub mod Snap
+pub mod KeyNames
+pub mod Key
 pub mod Laws

@@ -8,6 +8,8 @@ mod connection;
 mod field;
 mod hexadecimal;
 mod item;
+mod key;
+mod key_name;
 mod law;
 mod lines;
 mod number;
@@ -21,6 +23,7 @@ mod status;
 
 pub use code_page::{CodePage, character_of, code_of};
 pub use connection::{Connection, Device, Protocol};
+pub use key::{Typed, key_of, push_key_fault};
 pub use law::codes_law;
 pub use lines::Outcome;
 pub use number::read_number;
