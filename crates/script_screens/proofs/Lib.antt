@@ -3,3 +3,7 @@ mod Pushed
 mod Sizes
 mod Fields
 mod Items
+mod Whole
+mod Sayings
+mod Connections
+mod Rows

@@ -24,7 +24,7 @@ mod status;
 pub use code_page::{CodePage, character_of, code_of};
 pub use connection::{Connection, Device, Protocol};
 pub use key::{Typed, key_of, push_key_fault};
-pub use law::codes_law;
+pub use law::{codes_law, lines_law};
 pub use lines::Outcome;
 pub use number::read_number;
 pub use query::{Query, push_query};
