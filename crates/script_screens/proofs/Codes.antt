@@ -1,14 +1,15 @@
 -- The table of characters and that of codes, counted up.
-use Rattle.std.proofs.Common.{◌≡◌, ◌<◌, ◌≤◌, ℕ, Bool, true, false, leb, get_or, length, Option, Some, None, refl, sym, ap, subst, ◌∙◌, arith, inl, inr, true≢false}
-use Rattle.std.specs.Prelude.{◌||◌, ◌&&◌, not, ◌==◌, if◌then◌else◌}
+use Rattle.std.proofs.Common.{◌≡◌, ◌<◌, ◌≤◌, ℕ, Bool, true, false, leb, get_or, length, Option, Some, None, refl, sym, ap, subst, ◌∙◌, arith, ◌⊎◌, inl, inr, true≢false}
+use Rattle.std.specs.Prelude.{◌||◌, ◌&&◌, not, ◌==◌}
 use Rattle.std.specs.List.{list_all, range_with_len}
 use Rattle.std.proofs.lemmas.List.FromFn.{length-range_with_len, get_or-range_with_len}
 use Rattle.std.proofs.lemmas.List.Folds.{list_all_at}
-use Rattle.std.proofs.lemmas.Bool.{eqb-true, lt-leb, cases_lt}
+use Rattle.std.proofs.lemmas.Bool.{eqb-true, ne_eqb, lt-leb, cases_lt}
+use Rattle.ds_screen.specs.Shown.{printed_code}
 use Rattle.script_screens.specs.declared.code_page.CodePage.{CodePage}
 use Rattle.script_screens.specs.declared.code_page.CodePage.TheVariants.{Bracket, CodePage037}
 use Rattle.script_screens.specs.Characters.{character_of, code_of}
-use Rattle.script_screens.specs.Laws.{CharactersHaveCodes, CodesHaveCharacters}
+use Rattle.script_screens.specs.Laws.{CharactersHaveCodes, CodesHaveCharacters, PrintedAreCharacters}
 
 by_bool : (b : Bool) → (b ≡ false → true ≡ false) → b ≡ true
 by_bool true no_false = refl
@@ -79,3 +80,26 @@ codes_have_characters page code character is =
           has_is character (character_of page code) (rw is at so)
       | inr high ↦ absurd (some_ne code (sym is ∙ high_has_none page character high))
     ]
+
+-- ---- the characters that a screen is printed with
+
+abbrev printed_so : ℕ → Bool
+printed_so code = ((printed_code code == 63) && not (code == 0x6F)) || has (printed_code code) (character_of CodePage037 code)
+
+all_printed : list_all printed_so (range_with_len 0 256) ≡ true
+unfolding printed_code character_of
+all_printed = refl
+
+or_second : (a b : Bool) → a ≡ false → (a || b) ≡ true → b ≡ true
+or_second false b none is = is
+or_second true b none is = absurd (true≢false none)
+
+no_question : (printed code : ℕ) → ((printed ≡ 63 → ⊥) ⊎ (code ≡ 0x6F)) → ((printed == 63) && not (code == 0x6F)) ≡ false
+no_question printed code (inl other) = rw (ne_eqb printed 63 other) refl
+no_question printed code (inr is) = rw is (never_both (printed == 63))
+
+pub printed_are_characters : PrintedAreCharacters
+printed_are_characters code small one =
+    has_is (printed_code code) (character_of CodePage037 code)
+    (or_second ((printed_code code == 63) && not (code == 0x6F)) (has (printed_code code) (character_of CodePage037 code)) (no_question (printed_code code) code one)
+    (below printed_so 256 code all_printed small))

@@ -1,6 +1,6 @@
 -- What is said of a connection has no line's end where no name has one.
-use Rattle.std.proofs.Common.{◌≡◌, ◌+◌, ◌/◌, ◌%◌, ℕ, Bool, true, false, length, List, [], ◌∷◌, ◌++◌, map, codes, Option, Some, None, refl}
-use Rattle.std.specs.Prelude.{◌==◌, ◌&&◌, is_some, if◌then◌else◌}
+use Rattle.std.proofs.Common.{◌≡◌, ◌+◌, ◌/◌, ◌%◌, ℕ, Bool, true, length, List, [], ◌∷◌, ◌++◌, codes, Option, Some, None, refl}
+use Rattle.std.specs.Prelude.{◌==◌, ◌&&◌, is_some}
 use Rattle.std.specs.Fmt.{decimal}
 use Rattle.ds_codec.specs.declared.size.Size.{Size}
 use Rattle.ds_codec.specs.Attribute.{is_protected}
@@ -15,7 +15,7 @@ use Rattle.script_screens.specs.declared.item.Item.TheVariants as items
 use Rattle.script_screens.specs.declared.query.Query.{Query}
 use Rattle.script_screens.specs.declared.query.Query.TheVariants as asked
 use Rattle.script_screens.specs.Status.{Link, is_free, keyboard_word, screen_word, field_word, connection_word, mode_word, spaced, state_words, number_words, status_words}
-use Rattle.script_screens.specs.Query.{Named, item_name, cursor_value, cursor1_value, protocol_value, state_value, formatted_value, host_value, lu_value, tls_value, size_value, long_size_value, item_value, named_value, item_text, query_name, item_said, item_named, listed_items, said_of_query}
+use Rattle.script_screens.specs.Query.{Named, item_name, cursor_value, cursor1_value, protocol_value, state_value, host_value, lu_value, tls_value, size_value, long_size_value, item_value, named_value, item_text, query_name, item_said, item_named, listed_items}
 use Rattle.script_screens.specs.Laws.{is_whole, are_whole, LinkIsWhole, KeptAreLines, QueriesAreLines}
 use Rattle.script_screens.proofs.Whole.{and_true, either_way, join, five, all, decimal_whole}
 use Rattle.script_screens.proofs.Sayings.{readings_are_lines}

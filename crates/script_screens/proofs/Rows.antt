@@ -1,12 +1,12 @@
 -- Worked rows, computed: what s3270 4.1 reads and types.
-use Rattle.std.proofs.Common.{◌≡◌, ℕ, List, [], ◌∷◌, ◌++◌, codes, refl, Option, Some, None, Ok, Err}
+use Rattle.std.proofs.Common.{◌≡◌, [], ◌∷◌, codes, refl, Some, None, Ok, Err}
 use Rattle.ds_codec.specs.declared.size.Size.{Size}
 use Rattle.script_screens.specs.declared.code_page.CodePage.TheVariants.{Bracket, CodePage037}
 use Rattle.script_screens.specs.declared.region.Region.TheVariants.{Stretch, Rectangle}
 use Rattle.script_screens.specs.declared.region.RegionFault.TheVariants.{Count, Invalid}
-use Rattle.script_screens.specs.declared.pieces.Piece.TheVariants.{Character, Ignored, Key, Fault}
-use Rattle.script_screens.specs.declared.pieces.StringKey.TheVariants.{Newline, Pf, Pa}
-use Rattle.script_screens.specs.declared.pieces.StringFault.TheVariants.{MissingData, MissingDigits, AfterP, UnknownPf}
+use Rattle.script_screens.specs.declared.pieces.Piece.TheVariants.{Character, Key, Fault}
+use Rattle.script_screens.specs.declared.pieces.StringKey.TheVariants.{Newline, Pf}
+use Rattle.script_screens.specs.declared.pieces.StringFault.TheVariants.{MissingData, MissingDigits, UnknownPf}
 use Rattle.script_screens.specs.declared.key.Typed.TheVariants.{Code, NoCode, Unknown}
 use Rattle.script_screens.specs.Characters.{character_of, code_of}
 use Rattle.script_screens.specs.Numbers.{number_of}

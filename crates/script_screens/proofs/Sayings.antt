@@ -1,13 +1,10 @@
 -- What is said has no line's end.
-use Rattle.std.proofs.Common.{◌≡◌, ◌+◌, ◌/◌, ◌%◌, ℕ, Bool, true, false, length, List, [], ◌∷◌, ◌++◌, map, codes, Option, Some, None, Result, Ok, Err, refl}
-use Rattle.std.specs.Prelude.{◌==◌, is_some, if◌then◌else◌}
+use Rattle.std.proofs.Common.{◌≡◌, ◌+◌, ◌/◌, ◌%◌, ℕ, true, length, List, [], ◌∷◌, ◌++◌, codes, Option, Some, None, Result, Ok, Err, refl}
+use Rattle.std.specs.Prelude.{◌==◌, if◌then◌else◌}
 use Rattle.std.specs.List.{range_with_len}
 use Rattle.std.specs.Fmt.{decimal}
 use Rattle.ds_codec.specs.declared.cell.Cell.{Cell}
-use Rattle.ds_codec.specs.declared.size.Size.{Size}
 use Rattle.ds_codec.specs.Geometry.{cells_of}
-use Rattle.ds_codec.specs.Attribute.{is_protected}
-use Rattle.ds_screen.specs.declared.lock.Lock.{Lock}
 use Rattle.ds_screen.specs.Picture.{Picture, cell_at}
 use Rattle.ds_screen.specs.Fields.{attribute_before, ruling_bits}
 use Rattle.script_screens.specs.declared.code_page.CodePage.{CodePage}
@@ -25,7 +22,7 @@ use Rattle.script_screens.specs.Regions.{region_of, line_count, run_of}
 use Rattle.script_screens.specs.Shown.{cell_text, separator}
 use Rattle.script_screens.specs.Cells.{place_on, piece_text, line_text, line_of, region_texts}
 use Rattle.script_screens.specs.Fields.{first_of, field_length}
-use Rattle.script_screens.specs.Reading.{region_said, cells_said, field_texts, cursor_field_said, field_said, asked_of, place_words, contents_text, buffer_field_said, buffer_said, said_of_reading}
+use Rattle.script_screens.specs.Reading.{region_said, cells_said, cursor_field_said, field_said, asked_of, place_words, buffer_field_said, buffer_said}
 use Rattle.script_screens.specs.Laws.{is_whole, are_whole, ReadingsAreLines}
 use Rattle.script_screens.proofs.Whole.{and_true, either_way, join, flat, all, decimal_whole, cell_whole, separator_whole}
 

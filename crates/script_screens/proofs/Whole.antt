@@ -1,5 +1,5 @@
 -- Texts without a line's end.
-use Rattle.std.proofs.Common.{◌≡◌, ◌<◌, ◌≤◌, ◌+◌, ◌-◌, ◌*◌, ◌/◌, ◌%◌, ℕ, zero, suc, Bool, true, false, cond, leb, get_or, length, List, [], ◌∷◌, ◌++◌, map, codes, Option, Some, None, Result, Ok, Err, refl, sym, ap, subst, ◌∙◌, arith, inl, inr, true≢false}
+use Rattle.std.proofs.Common.{◌≡◌, ◌<◌, ◌+◌, ◌-◌, ◌/◌, ◌%◌, ℕ, zero, suc, Bool, true, false, cond, List, [], ◌∷◌, ◌++◌, map, codes, Option, Some, None, refl, sym, ap, ◌∙◌, arith, true≢false}
 use Rattle.std.specs.Prelude.{◌&&◌, not, ◌==◌, nat_lt, nat_le, slice_index, if◌then◌else◌}
 use Rattle.std.specs.List.{list_all, range_with_len, flat_map}
 use Rattle.std.specs.Fmt.{decimal, digits, digits_onto, digit_glyph}
@@ -14,7 +14,7 @@ use Rattle.script_screens.specs.declared.code_page.TheConstants.{CHARACTERS}
 use Rattle.script_screens.specs.declared.code_page.CodePage.{CodePage}
 use Rattle.script_screens.specs.declared.shown.Form.{Form}
 use Rattle.script_screens.specs.declared.shown.Form.TheVariants as forms
-use Rattle.script_screens.specs.Characters.{of_page, character_in_037, character_of}
+use Rattle.script_screens.specs.Characters.{of_page, character_of}
 use Rattle.script_screens.specs.Shown.{shown_code, shown_character, utf8, shown_bytes, hex_byte, byte_digits, number_digits, attribute_words, code_words, cell_text, separator}
 use Rattle.script_screens.specs.Laws.{is_whole, are_whole}
 use Rattle.script_screens.proofs.Codes.{below}

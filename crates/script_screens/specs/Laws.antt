@@ -1,8 +1,10 @@
 -- Laws of what is read.
-use Rattle.std.specs.Prelude.{◌≡◌, ℕ, ◌<◌, ◌==◌, Bool, true, not, List, Option, Some, None}
+use Rattle.std.specs.Prelude.{◌≡◌, ◌≢◌, ◌⊎◌, ℕ, ◌<◌, ◌==◌, Bool, true, not, List, Option, Some, None}
 use Rattle.std.specs.List.{list_all}
 use Rattle.ds_screen.specs.Picture.{Picture}
+use Rattle.ds_screen.specs.Shown.{printed_code}
 use Rattle.script_screens.specs.declared.code_page.CodePage.{CodePage}
+use Rattle.script_screens.specs.declared.code_page.CodePage.TheVariants.{CodePage037}
 use Rattle.script_screens.specs.declared.reading.Reading.{Reading}
 use Rattle.script_screens.specs.declared.snap.Kept.{Kept}
 use Rattle.script_screens.specs.declared.query.Query.{Query}
@@ -46,3 +48,8 @@ abbrev pub QueriesAreLines : Type 0
 QueriesAreLines =
     (v : Picture) (link : Option Link) (device : Named) (query : Query) (words : List (List ℕ)) → LinkIsWhole link
     → is_whole device.name ≡ true → is_whole device.version ≡ true → are_whole (said_of_query v link device query words).texts ≡ true
+
+-- the 95 characters that a screen is printed with have these codes in 037: `?` is printed too for codes that have none of them
+abbrev pub PrintedAreCharacters : Type 0
+PrintedAreCharacters =
+    (code : ℕ) → code < 256 → ((printed_code code ≢ 63) ⊎ (code ≡ 0x6F)) → character_of CodePage037 code ≡ Some (printed_code code)

@@ -1,5 +1,5 @@
 -- What Snap is asked for, and what is said of a kept screen.
-use Rattle.std.specs.Prelude.{ℕ, Bool, List, [], ◌∷◌, ◌++◌, codes, Option, Some, None, if◌then◌else◌}
+use Rattle.std.specs.Prelude.{ℕ, Bool, List, [], ◌∷◌, codes, Option, Some, None, if◌then◌else◌}
 use Rattle.std.specs.Fmt.{decimal}
 use Rattle.std.specs.Str.{str_eq_ignore_ascii_case}
 use Rattle.ds_screen.specs.Picture.{Picture}
@@ -11,7 +11,7 @@ use Rattle.script_screens.specs.declared.snap.Snap.{Snap}
 use Rattle.script_screens.specs.declared.snap.Snap.TheVariants as asked
 use Rattle.script_screens.specs.declared.snap.SnapFault.{SnapFault}
 use Rattle.script_screens.specs.declared.snap.SnapFault.TheVariants.{NotSaved, Extra, Unknown}
-use Rattle.script_screens.specs.Lines.{Said, done, failed}
+use Rattle.script_screens.specs.Lines.{Said, done}
 use Rattle.script_screens.specs.Status.{Link, status_words}
 use Rattle.script_screens.specs.Reading.{said_of_reading}
 

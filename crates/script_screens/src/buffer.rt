@@ -34,13 +34,22 @@ fn asked_word(asked: Asked, word: &[u8]) -> Option<Asked>
 {
     let Asked { form, field } = asked;
     if word.eq_ignore_ascii_case(b"ascii") {
-        return Some(Asked { form: Form::BufferAscii, field });
+        return Some(Asked {
+            form: Form::BufferAscii,
+            field,
+        });
     }
     if word.eq_ignore_ascii_case(b"ebcdic") {
-        return Some(Asked { form: Form::BufferEbcdic, field });
+        return Some(Asked {
+            form: Form::BufferEbcdic,
+            field,
+        });
     }
     if word.eq_ignore_ascii_case(b"unicode") {
-        return Some(Asked { form: Form::BufferUnicode, field });
+        return Some(Asked {
+            form: Form::BufferUnicode,
+            field,
+        });
     }
     if word.eq_ignore_ascii_case(b"field") {
         return Some(Asked { form, field: true });

@@ -74,7 +74,13 @@ fn push_piece(
     if steps != 0 {
         push_separator(out, form)?;
     }
-    push_cell(out, code_page, form, ruling_at(screen, place), screen.cell(place))
+    push_cell(
+        out,
+        code_page,
+        form,
+        ruling_at(screen, place),
+        screen.cell(place),
+    )
 }
 
 /// Adds the cells of a line.

@@ -49,8 +49,7 @@ fn one_character(text: &[u8]) -> Option<Option<u32>>
         [a, b] if (0xC2 <= *a && *a <= 0xDF) && goes_on(*b) => Some(of_two(*a, *b)),
         [a, b, c] if (0xE0 <= *a && *a <= 0xEF) && (goes_on(*b) && goes_on(*c)) => Some(None),
         [a, b, c, d]
-            if (0xF0 <= *a && *a <= 0xF4) && (goes_on(*b) && (goes_on(*c) && goes_on(*d))) =>
-        {
+            if (0xF0 <= *a && *a <= 0xF4) && (goes_on(*b) && (goes_on(*c) && goes_on(*d))) => {
             Some(None)
         }
         _ => None,

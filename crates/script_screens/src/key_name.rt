@@ -204,7 +204,10 @@ fn is_name(text: &[u8], character: u8) -> bool
 fn named_in(text: &[u8], characters: &[u8]) -> Option<u8>
     ensures { result ≡ find (is_name text.now) characters.now }
 {
-    characters.iter().copied().find(|character| is_name(text, *character))
+    characters
+        .iter()
+        .copied()
+        .find(|character| is_name(text, *character))
 }
 
 /// The character of a second name.

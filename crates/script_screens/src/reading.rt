@@ -104,8 +104,24 @@ pub fn push_reading(
     match reading {
         Reading::Ascii => push_cells_said(out, screen, page, Form::Ascii, b"Ascii", 0, arguments),
         Reading::Ascii1 => push_cells_said(out, screen, page, Form::Ascii, b"Ascii1", 1, arguments),
-        Reading::Ebcdic => push_cells_said(out, screen, page, Form::Ebcdic, b"Ebcdic", 0, arguments),
-        Reading::Ebcdic1 => push_cells_said(out, screen, page, Form::Ebcdic, b"Ebcdic1", 1, arguments),
+        Reading::Ebcdic => push_cells_said(
+            out,
+            screen,
+            page,
+            Form::Ebcdic,
+            b"Ebcdic",
+            0,
+            arguments,
+        ),
+        Reading::Ebcdic1 => push_cells_said(
+            out,
+            screen,
+            page,
+            Form::Ebcdic,
+            b"Ebcdic1",
+            1,
+            arguments,
+        ),
         Reading::AsciiField => {
             push_field_said(out, screen, page, Form::Ascii, b"AsciiField", arguments)
         }

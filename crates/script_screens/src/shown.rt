@@ -103,11 +103,7 @@ fn push_shown(out: &mut Vec<u8>, character: Option<u32>) -> Result<(), AllocErro
 }
 
 /// Adds what is shown for a code of the text set, in UTF-8: a space for the null and for the controls that aren't shown.
-pub fn push_character(
-    out: &mut Vec<u8>,
-    code_page: CodePage,
-    code: u8,
-) -> Result<(), AllocError>
+pub fn push_character(out: &mut Vec<u8>, code_page: CodePage, code: u8) -> Result<(), AllocError>
     ensures { OnOk result (out.new.items
         ≡ out.old.items ++ shown_bytes (shown_code code_page code)) }
 {
@@ -149,7 +145,14 @@ fn push_utf8_digits(out: &mut Vec<u8>, character: u32) -> Result<(), AllocError>
     if character < 0x800 {
         return push_hex_bytes(out, &[first_of_two(character), six_of(character)]);
     }
-    push_hex_bytes(out, &[first_of_three(character), six_of(character / 64), six_of(character)])
+    push_hex_bytes(
+        out,
+        &[
+            first_of_three(character),
+            six_of(character / 64),
+            six_of(character),
+        ],
+    )
 }
 
 fn push_byte_digits(out: &mut Vec<u8>, character: Option<u32>) -> Result<(), AllocError>

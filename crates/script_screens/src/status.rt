@@ -91,10 +91,7 @@ fn push_host(out: &mut Vec<u8>, host: &[u8]) -> Result<(), AllocError>
     out.extend_from_slice(b") ")
 }
 
-fn push_connection(
-    out: &mut Vec<u8>,
-    connection: Option<Connection<'_>>,
-) -> Result<(), AllocError>
+fn push_connection(out: &mut Vec<u8>, connection: Option<Connection<'_>>) -> Result<(), AllocError>
     ensures { OnOk result (out.new.items
         ≡ out.old.items ++ spaced (connection_word (link_seen connection.entry))) }
 {
@@ -133,11 +130,7 @@ fn push_state(
 }
 
 /// Adds the numbers of the model, of rows and columns, and the cursor's.
-fn push_numbers(
-    out: &mut Vec<u8>,
-    screen: &Screen<PlaneCells>,
-    model: u8,
-) -> Result<(), AllocError>
+fn push_numbers(out: &mut Vec<u8>, screen: &Screen<PlaneCells>, model: u8) -> Result<(), AllocError>
     ensures { OnOk result (out.new.items ≡ out.old.items ++ number_words screen.now model) }
 {
     let columns = u32::from(columns(screen));
