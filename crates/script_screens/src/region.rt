@@ -204,7 +204,8 @@ pub(crate) fn region_of(
     origin: u32,
     arguments: &[Vec<u8>],
 ) -> Result<Region, RegionFault>
-    ensures { result ≡ region_of size cursor origin (map (λ argument. argument.items) arguments.now) }
+    ensures { result
+        ≡ region_of size cursor origin (map (λ argument. argument.items) arguments.now) }
 {
     match arguments {
         [] => Ok(Region::Stretch(0, size.cells())),
