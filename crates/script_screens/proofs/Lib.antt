@@ -1,0 +1,9 @@
+mod Codes
+mod Pushed
+mod Sizes
+mod Fields
+mod Items
+mod Whole
+mod Sayings
+mod Connections
+mod Rows

@@ -1,0 +1,13 @@
+use Rattle.std.proofs.Common.{sym, ◌∙◌, arith}
+use Rattle.std.proofs.lemmas.List.Sums.{prefix_len_is}
+use Rattle.script_screens.specs.Numbers.{is_blank}
+use Rattle.script_screens.proofs.number.blanks.Goals as goal
+
+pub returns-then-not-is_blank-clause-length : goal.returns-then-not-is_blank-clause-length
+returns-then-not-is_blank-clause-length c =
+    sym (prefix_len_is (is_blank) c.args.text.now c.loop-i.i 0 (omega (arith, c.loop-i-test.true)) c.loop-i.invariant
+    (λ inside. sym c.is_blank.ensures ∙ c.if-not-is_blank.true))
+
+pub returns-clause-length : goal.returns-clause-length
+returns-clause-length c =
+    sym (prefix_len_is (is_blank) c.args.text.now _ 0 (omega arith) (λ k lt. c.loop-i.invariant k (grind (arith, lt, c.loop-i-test.false))) (λ lt. absurd (omega arith)))

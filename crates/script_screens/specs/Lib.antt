@@ -1,0 +1,15 @@
+pub mod Characters
+pub mod Numbers
+pub mod Lines
+pub mod Pieces
+pub mod Shown
+pub mod Regions
+pub mod Cells
+pub mod Fields
+pub mod Reading
+pub mod Status
+pub mod Query
+pub mod Snap
+pub mod KeyNames
+pub mod Key
+pub mod Laws
