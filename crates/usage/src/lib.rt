@@ -34,6 +34,7 @@ mod of_scr_draft;
 mod of_scr_layout;
 mod of_script_keys;
 mod of_script_lines;
+mod of_script_screens;
 mod of_tn_cores;
 mod of_tn_session;
 mod of_tn_traces;
