@@ -1,3 +1,4 @@
 mod Pairs
 mod Rows
 mod Screens
+mod Left

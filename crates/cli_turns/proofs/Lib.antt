@@ -1,2 +1,3 @@
 pub mod BindLaws
 pub mod DraftLaws
+mod JoinLaws

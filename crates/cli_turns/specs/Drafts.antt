@@ -1,5 +1,5 @@
 -- What `draft --turns` prints, as a function of its input, and its status.
-use Rattle.std.specs.Prelude.{ℕ, zero, suc, ◌+◌, ◌==◌, List, [], ◌∷◌, ◌++◌, codes, Result, Ok, Err, if◌then◌else◌}
+use Rattle.std.specs.Prelude.{◌≡◌, ℕ, zero, suc, ◌+◌, ◌==◌, List, [], ◌∷◌, ◌++◌, codes, Result, Ok, Err, if◌then◌else◌}
 use Rattle.std.specs.Fmt.{decimal}
 use Rattle.ds_codec.specs.Reading.{◌>>=◌}
 use Rattle.cli_commands.specs.declared.fault.Fault.{Fault}
@@ -72,3 +72,19 @@ each_if_few text turns = if turns == 1000 then Err TooLong else each_from text 0
 
 abbrev pub each_draft : List ℕ → Result (List Printed) Fault
 each_draft input = within_limit input >>= λ text. each_if_few text (count_of 1000 text)
+
+-- ---- both
+
+-- the texts of these turns, from this one on, each below its line
+abbrev pub joined : ℕ → List Printed → Printed
+joined turn [] = printed [] Done
+joined turn (one ∷ others) =
+    printed ((turn_head turn ++ one.text) ++ (joined (turn + 1) others).text) (worse one.status (joined (turn + 1) others).status)
+
+abbrev pub joined_or : ℕ → Result (List Printed) Fault → Result Printed Fault
+joined_or turn (Ok all) = Ok (joined turn all)
+joined_or turn (Err fault) = Err fault
+
+-- what `draft --turns` prints are the drafts one by one, each below its line
+abbrev pub AreJoined : Type 0
+AreJoined = (text : List ℕ) → draft_turns text ≡ joined_or 0 (each_draft text)

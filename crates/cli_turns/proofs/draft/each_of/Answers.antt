@@ -1,4 +1,4 @@
-use Rattle.std.proofs.Common.{◌+◌, ◌-◌, ◌∙◌, ◌++◌, [], ◌∷◌, map, ap, sym, Vec, Global}
+use Rattle.std.proofs.Common.{◌+◌, ◌-◌, ◌∙◌, [], ◌∷◌, map, ap, sym, Vec, Global}
 use Rattle.std.proofs.lemmas.List.{map-append}
 use Rattle.cli_commands.specs.declared.output.answer.Answer.{Answer}
 use Rattle.cli_commands.specs.Held.{answer_seen}
