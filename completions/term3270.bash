@@ -23,7 +23,7 @@ _term3270_values() { # OPTION
     show--color) _term3270_offer -W 'auto always never' ;;
     check--format | talk--format) _term3270_offer -W 'text json sarif' ;;
     suite--format) _term3270_offer -W 'text json junit' ;;
-    records--from) _term3270_offer -W 'trace stream' ;;
+    records--from) _term3270_offer -W 'trace stream buffer' ;;
     attach--device)
       for device in IBM-327{8,9}-{2,3,4,5}{,-E}; do devices="$devices $device"; done
       _term3270_offer -W "$devices"
@@ -59,7 +59,7 @@ _term3270_options() {
     suite) options='--format --only' ;;
     press) options='--strokes' ;;
     convert) options='--back --chars' ;;
-    draft) options='--turns --map --map-name --freekb --frset' ;;
+    draft) options='--turns --out --map --map-name --freekb --frset' ;;
     bind) options='--text --turns' ;;
     records) options='--from --answers --turns --turn --size --all' ;;
     serve) options='--port --count --listen' ;;

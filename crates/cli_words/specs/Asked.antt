@@ -19,7 +19,7 @@ use Rattle.cli_words.specs.declared.asked.KeyLines.TheVariants as key_lines
 use Rattle.cli_words.specs.declared.asked.ReportForm.{ReportForm}
 use Rattle.cli_words.specs.declared.asked.ReportForm.TheVariants.{Json, Sarif}
 use Rattle.cli_words.specs.declared.asked.Asked.{Asked}
-use Rattle.cli_words.specs.declared.asked.Asked.TheVariants.{Show, Draw, Annotate, Undrawn, Check, Report, Explain, Talk, ReportTalk, LogTalk, Press, Strike, Convert, ConvertCharacters, ConvertBack, ConvertBackCharacters, Draft, DraftTurns, Bind, BindTurns, Records, OneSided, Serve, Attach, AttachTolerant, Map, CheckMap, RenderMap, Suite, NoLayout}
+use Rattle.cli_words.specs.declared.asked.Asked.TheVariants.{Show, Draw, Annotate, Undrawn, Check, Report, Explain, Talk, ReportTalk, LogTalk, Press, Strike, Convert, ConvertCharacters, ConvertBack, ConvertBackCharacters, Draft, DraftTurns, Bind, BindTurns, Records, OneSided, Buffers, OneScreen, Serve, Attach, AttachTolerant, Map, CheckMap, RenderMap, Suite, NoLayout}
 use Rattle.cli_findings.specs.declared.found.Pen.{Pen}
 use Rattle.cli_findings.specs.declared.found.Pen.TheVariants as pens
 use Rattle.cli_pictures.specs.declared.annotated.Annotated.{Annotated}
@@ -27,6 +27,8 @@ use Rattle.cli_pictures.specs.declared.annotated.Annotated.TheVariants as annota
 use Rattle.cli_pictures.specs.declared.drawing.Drawing.TheVariants as drawings
 use Rattle.cli_reports.specs.declared.talk.TalkForm.TheVariants as talks
 use Rattle.cli_traces.specs.declared.asked.Asked.{Asked as Traced}
+use Rattle.cli_buffers.specs.declared.sizes.SizesLine.{SizesLine}
+use Rattle.cli_buffers.specs.declared.sizes.SizesLine.TheVariants as sizes
 use Rattle.cli_suites.specs.declared.report.Form.{Form as SuiteForm}
 use Rattle.cli_suites.specs.declared.report.Form.TheVariants as suite_forms
 use Rattle.cli_traces.specs.declared.asked.Source.{Source}
@@ -159,7 +161,7 @@ IsShow rows asked = (is_some (first_of (codes "map") rows) ≡ true → IsShownM
 -- a layout, or one for each turn
 abbrev pub IsDrafted : List Row → Asked → Type 0
 IsDrafted rows Draft = IsOption (codes "turns") rows false
-IsDrafted rows DraftTurns = IsOption (codes "turns") rows true
+IsDrafted rows (DraftTurns folder) = IsOption (codes "turns") rows true × IsPath (codes "out") rows folder
 IsDrafted rows _ = ⊥
 
 abbrev pub IsDraft : List Row → Asked → Type 0
@@ -241,10 +243,36 @@ AreTraced rows traced = IsSource rows traced.source × IsSide rows traced.side �
     × IsOption (codes "all") rows traced.all × IsOption (codes "size") rows traced.size
 
 -- turns are asked of a trace alone
+abbrev pub IsTraced : List Row → Asked → Type 0
+IsTraced rows (Records traced) = AreTraced rows traced × (is_one_sided traced ≡ false)
+IsTraced rows OneSided = (traced : Traced) × AreTraced rows traced × (is_one_sided traced ≡ true)
+IsTraced rows _ = ⊥
+
+abbrev pub AreSizes : List Row → SizesLine → Type 0
+AreSizes rows sizes.Told = IsOption (codes "size") rows true
+AreSizes rows sizes.Omitted = IsOption (codes "size") rows false
+
+-- what only traces and streams have is asked
+abbrev pub AreTracedWords : List Row → Type 0
+AreTracedWords rows =
+    IsOption (codes "answers") rows true ⊎ (IsOption (codes "turns") rows true
+    ⊎ (IsOption (codes "all") rows true ⊎ (is_some (first_of (codes "turn") rows) ≡ true)))
+
+abbrev pub AreNoTracedWords : List Row → Type 0
+AreNoTracedWords rows =
+    IsOption (codes "answers") rows false × IsOption (codes "turns") rows false × IsOption (codes "all") rows false
+    × (is_some (first_of (codes "turn") rows) ≡ false)
+
+abbrev pub AreBuffers : List Row → Asked → Type 0
+AreBuffers rows (Buffers told) = AreSizes rows told × AreNoTracedWords rows
+AreBuffers rows OneScreen = AreTracedWords rows
+AreBuffers rows _ = ⊥
+
+-- a trace, a stream, or a terminal's buffer
 abbrev pub IsRecords : List Row → Asked → Type 0
-IsRecords rows (Records traced) = AreTraced rows traced × (is_one_sided traced ≡ false)
-IsRecords rows OneSided = (traced : Traced) × AreTraced rows traced × (is_one_sided traced ≡ true)
-IsRecords rows _ = ⊥
+IsRecords rows asked = (first_of (codes "from") rows ≡ Some (codes "trace") → IsTraced rows asked)
+    × (first_of (codes "from") rows ≡ Some (codes "stream") → IsTraced rows asked)
+    × (first_of (codes "from") rows ≡ Some (codes "buffer") → AreBuffers rows asked)
 
 abbrev pub IsServe : List Row → Asked → Type 0
 IsServe rows (Serve layout address port count) =

@@ -2,11 +2,12 @@
 
 ghost use Rattle.std.specs.Prelude.{◌≡◌, is_some, option_map};
 ghost use Rattle.clap.specs.Words.{first_of, found_of, rows_of, subcommand_rows_of};
-ghost use Rattle.cli_words.specs.Asked.{AreDemos, AreKeyLines, AsksFor, IsAttach, IsCheck, IsDrawn, IsForm, IsConvert, IsNumber, IsOption, IsPath, IsPen, IsPress, IsShow, IsBind, IsDraft, IsDrafted, IsDraftedMap, IsRendering, IsShownMap, IsReportForm, IsSide, IsSource, IsText, IsWhen, IsWithLayout, IsMap, IsMapForm, IsMapCheck, IsLayoutCheck, IsTextCheck, IsTextTalk, IsTalk, IsSuite, IsSuiteForm, AreControls, AreTraced, AreTurns, IsRecords};
+ghost use Rattle.cli_words.specs.Asked.{AreDemos, AreKeyLines, AsksFor, IsAttach, IsCheck, IsDrawn, IsForm, IsConvert, IsNumber, IsOption, IsPath, IsPen, IsPress, IsShow, IsBind, IsDraft, IsDrafted, IsDraftedMap, IsRendering, IsShownMap, IsReportForm, IsSide, IsSource, IsText, IsWhen, IsWithLayout, IsMap, IsMapForm, IsMapCheck, IsLayoutCheck, IsTextCheck, IsTextTalk, IsTalk, IsSuite, IsSuiteForm, AreControls, AreTraced, AreTurns, AreBuffers, AreNoTracedWords, AreSizes, AreTracedWords, IsRecords, IsTraced};
 
 use bms_map::Control;
 use clap::ArgMatches;
 use cli_binds::Form;
+use cli_buffers::SizesLine;
 use cli_commands::Demos;
 use cli_findings::Pen;
 use cli_maps::{Form as MapForm, Rendering};
@@ -93,8 +94,10 @@ pub enum Asked<'a> {
     /// `convert --back`, texts by characters or by digits.
     ConvertBackCharacters,
     Draft,
-    /// A draft of each turn.
-    DraftTurns,
+    /// A draft of each turn, in a file of a folder where one is named.
+    DraftTurns {
+        folder: Option<&'a str>,
+    },
     Bind {
         layout: &'a str,
         form: Form,
@@ -108,6 +111,12 @@ pub enum Asked<'a> {
     },
     /// Turns of a stream, which shows one side.
     OneSided,
+    /// The records that leave the screens of a terminal's buffer.
+    Buffers {
+        sizes: SizesLine,
+    },
+    /// What only traces and streams have, asked of a buffer.
+    OneScreen,
     Serve {
         layout: &'a str,
         address: &'a str,
@@ -285,7 +294,9 @@ fn drafted_of<'a>(words: &ArgMatches<'a>) -> Asked<'a>
     ensures { IsDrafted (rows_of (found_of words.now)) result }
 {
     if is_given(words, "turns") {
-        Asked::DraftTurns
+        Asked::DraftTurns {
+            folder: path_in(words, "out"),
+        }
     } else {
         Asked::Draft
     }
@@ -615,8 +626,52 @@ fn traced_in(words: &ArgMatches<'_>) -> Traced
     }
 }
 
+/// Whether something is asked that only traces and streams have.
+fn has_traced_words(words: &ArgMatches<'_>) -> bool
+    ensures some { result ≡ true → AreTracedWords (rows_of (found_of words.now)) }
+    ensures none { result ≡ false → AreNoTracedWords (rows_of (found_of words.now)) }
+{
+    is_given(words, "answers")
+        || is_given(words, "turns")
+        || is_given(words, "all")
+        || is_named(words, "turn")
+}
+
+fn sizes_in(words: &ArgMatches<'_>) -> SizesLine
+    ensures { AreSizes (rows_of (found_of words.now)) result }
+{
+    if is_given(words, "size") {
+        SizesLine::Told
+    } else {
+        SizesLine::Omitted
+    }
+}
+
+/// `records` of a terminal's buffer.
+fn buffers_of<'a>(words: &ArgMatches<'a>) -> Asked<'a>
+    ensures { AreBuffers (rows_of (found_of words.now)) result }
+{
+    if has_traced_words(words) {
+        Asked::OneScreen
+    } else {
+        Asked::Buffers {
+            sizes: sizes_in(words),
+        }
+    }
+}
+
 fn records_of<'a>(words: &ArgMatches<'a>) -> Asked<'a>
     ensures { IsRecords (rows_of (found_of words.now)) result }
+{
+    match text_in(words, "from") {
+        "buffer" => buffers_of(words),
+        _ => traced_of(words),
+    }
+}
+
+/// `records` of a trace or a stream.
+fn traced_of<'a>(words: &ArgMatches<'a>) -> Asked<'a>
+    ensures { IsTraced (rows_of (found_of words.now)) result }
 {
     let traced = traced_in(words);
     if traced.is_one_sided() {

@@ -18,7 +18,7 @@ const FINDING_FORMS: &[&str] = &["text", "json", "sarif"];
 
 const SUITE_FORMS: &[&str] = &["text", "json", "junit"];
 
-const SOURCES: &[&str] = &["trace", "stream"];
+const SOURCES: &[&str] = &["trace", "stream", "buffer"];
 
 /// What an argument of a command takes.
 #[derive(Clone, Copy)]
@@ -302,6 +302,11 @@ const TEXTS: &[Described<'_>] = &[
                 help: "Draft a layout for each turn of a dialogue, with lines 'turn' between the records",
             },
             Argument {
+                name: "out",
+                takes: Takes::ValueWith("FOLDER", "turns", &["map"]),
+                help: "With --turns: write the layouts to turn-0.toml, turn-1.toml and so on in this folder",
+            },
+            Argument {
                 name: "map",
                 takes: Takes::File,
                 help: "Draft a layout of a map of this BMS source, in place of records",
@@ -353,7 +358,7 @@ const TEXTS: &[Described<'_>] = &[
             Argument {
                 name: "from",
                 takes: Takes::OneOf("SOURCE", SOURCES, "trace"),
-                help: "Where the lines come from: a trace, or a captured stream",
+                help: "Where the lines come from: a trace, a captured stream, or a terminal's buffer",
             },
             Argument {
                 name: "answers",

@@ -12,6 +12,7 @@ use crate::tolerant::{Limits, run_tolerant};
 use crate::withheld::Withheld;
 use clap::ArgMatches;
 use cli_binds::{Form, run_bind};
+use cli_buffers::{SizesLine, run_buffers};
 use cli_characters::{run_convert_back_characters, run_convert_characters, run_press_typed};
 use cli_commands::{
     Demos, Status, Watched, failure, run_check, run_check_pen, run_convert, run_convert_back,
@@ -205,8 +206,9 @@ pub(crate) fn draft(rt: &HostRuntime) -> Status {
 
 /// `draft` of each turn.
 pub(crate) fn draft_turns(rt: &HostRuntime) -> Status {
-    let mut records = named(rt, "standard input", rt.stdin());
-    run_draft_turns(rt.alloc(), &mut records, &mut output(rt))
+    let mut records = heard_input(rt, Lines::SizedTurns);
+    let status = run_draft_turns(rt.alloc(), &mut records, &mut output(rt));
+    told(rt, status, &mut records)
 }
 
 /// Whether a command was given several layouts.
@@ -272,6 +274,12 @@ pub(crate) fn records(rt: &HostRuntime, asked: Asked) -> Status {
     let mut lines = heard_input(rt, traced_lines(asked.source));
     let status = run_records(rt.alloc(), asked, &mut lines, &mut output(rt));
     told_traces(rt, status, &mut lines)
+}
+
+/// `records` of a terminal's buffer.
+pub(crate) fn buffers(rt: &HostRuntime, sizes: SizesLine) -> Status {
+    let mut lines = named(rt, "standard input", rt.stdin());
+    run_buffers(rt.alloc(), sizes, &mut lines, &mut output(rt))
 }
 
 /// What the lines of traces are, or of streams.
@@ -440,6 +448,14 @@ pub(crate) fn refuse_no_layout(rt: &HostRuntime) -> Status {
 pub(crate) fn refuse_one_side(rt: &HostRuntime) -> Status {
     let _ = eprintln!(rt;
         "error: a stream shows one side, and so no turns: '--turns' and '--turn' need a trace"
+    );
+    Status::BadInput
+}
+
+/// Says that a buffer has a screen alone.
+pub(crate) fn refuse_one_screen(rt: &HostRuntime) -> Status {
+    let _ = eprintln!(rt;
+        "error: a buffer shows one screen: of the options of 'records' '--size' alone goes with '--from buffer'"
     );
     Status::BadInput
 }

@@ -144,7 +144,8 @@ Output:
   A layout in TOML (docs/LAYOUTS.md), with a field for each that an operator can change or that is sent, named
   by the text before it; these records conform to it if they do to any. Or what no layout can mend, as check prints it.
   With --map the screen is that of a map: fields without a label are named too, as 'map --layout' doesn't.
-  With --turns a line '# turn K' and a layout for each turn, whose screen the records up to it make.
+  With --turns a line '# turn K' and a layout for each turn, whose screen the records up to it make; with --out
+  a file turn-K.toml for each, and no file that is there already is overwritten.
 
 Example:
   $ term3270 draft < examples/signon.hex > signon.toml
@@ -203,7 +204,8 @@ pub(crate) const EXPLAIN_HELP: &str =
 
 pub(crate) const RECORDS: &str = "Input:
   A trace of x3270, s3270 or c3270 (-trace -tracefile FILE), or with --from stream pieces of what one side
-  sent, in hexadecimal, one a line, on standard input. Other lines of a trace are passed over.
+  sent, in hexadecimal, one a line, on standard input. Other lines of a trace are passed over. With --from buffer
+  what s3270 answers to ReadBuffer(Ebcdic).
 
 Output:
   A comment and a line of hexadecimal for each record, as the other commands read them; a comment alone for a

@@ -4,6 +4,7 @@
 mod bad_word;
 mod command_line;
 mod commands;
+mod drafts;
 mod file;
 mod help;
 mod manners;
@@ -109,11 +110,16 @@ fn convert(rt: &HostRuntime, asked: Asked<'_>, matches: &ArgMatches<'_>) -> Opti
         Asked::ConvertBack => Some(commands::convert_back(rt)),
         Asked::ConvertBackCharacters => Some(commands::convert_back_characters(rt)),
         Asked::Draft => Some(commands::draft(rt)),
-        Asked::DraftTurns => Some(commands::draft_turns(rt)),
+        Asked::DraftTurns { folder: None } => Some(commands::draft_turns(rt)),
+        Asked::DraftTurns {
+            folder: Some(folder),
+        } => Some(drafts::draft_files(rt, folder)),
         Asked::Bind { layout, form } => Some(commands::bind(rt, matches, layout, form)),
         Asked::BindTurns { form } => Some(commands::bind_turns(rt, matches, form)),
         Asked::Records { traced } => Some(commands::records(rt, traced)),
         Asked::OneSided => Some(commands::refuse_one_side(rt)),
+        Asked::Buffers { sizes } => Some(commands::buffers(rt, sizes)),
+        Asked::OneScreen => Some(commands::refuse_one_screen(rt)),
         _ => None,
     }
 }

@@ -22,7 +22,9 @@ fn asked_for(lines: Lines) -> &'static str {
         Lines::Orders | Lines::Characters => "commands and orders, one a line",
         Lines::Trace => "a trace of x3270, s3270 or c3270",
         Lines::Stream => "bytes of one side in hexadecimal",
-        Lines::Turns => "records in hexadecimal, with a line 'turn' between two turns",
+        Lines::Turns | Lines::SizedTurns => {
+            "records in hexadecimal, with a line 'turn' between two turns"
+        }
         Lines::Answers => "answers in hexadecimal",
         Lines::AnswersOfTurns => "answers in hexadecimal, with a line 'turn' between two turns",
         _ => "records in hexadecimal",
