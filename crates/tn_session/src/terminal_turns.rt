@@ -212,7 +212,8 @@ impl TerminalState {
     {
         let geometry = self.terminal.screen().geometry();
         let bytes = write_query_reply(alloc, &geometry, wanted)?;
-        self.send(due, agreed, &bytes)
+        self.send(due, agreed, &bytes)?;
+        Ok(())
     }
 
     /// Obeys a structured field, and tells why its record is refused, where it is.

@@ -8,7 +8,7 @@ use Rattle.tn_session.proofs.terminal_state.TerminalState.answer_query.Goals as 
 
 pub returns-clause-due : goal.returns-clause-due
 returns-clause-due c =
-    c.in_ok-push_data.ensures
+    c.in_ok-send.ensures.due
     ∙ ap (λ bytes. c.args.due.now.items ++ answer_due c.args.agreed c.args.self.now bytes)
     (c.deref.ensures.value ∙ c.in_ok-bytes.ensures
     ∙ ap (λ (sizes : Sizes). query_reply sizes (wanted_seen c.args.wanted)) (c.geometry-geometry.ensures.value ∙ ap (λ (v : Picture). v.geometry) c.screen.ensures))
