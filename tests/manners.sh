@@ -79,6 +79,16 @@ closed=$(mktemp)
 records | { "$program" convert 2> "$closed"; echo "$?" >> "$closed"; } | head -c 1 > /dev/null
 compare 'a pipe that is closed' 3 "$(cat "$closed")"
 rm "$closed"
+# A file for each turn, as `draft --turns` prints it; a file that is there already is left as it is.
+drafts=$(mktemp -d)
+dialogue=$root/examples/signon_menu.hex
+compare 'drafts in files' 0 "$("$program" draft --turns --out "$drafts" < "$dialogue" 2>&1; echo $?)"
+compare 'the files of drafts' "$("$program" draft --turns < "$dialogue")" \
+  "$(for turn in 0 1; do echo "# turn $turn"; cat "$drafts/turn-$turn.toml"; done)"
+echo mine > "$drafts/turn-1.toml" && rm "$drafts/turn-0.toml"
+compare 'a file of a draft that is there' "term3270: $drafts/turn-1.toml: File exists (os error 17) 3 mine" \
+  "$("$program" draft --turns --out "$drafts" < "$dialogue" 2>&1; echo "$? $(cat "$drafts/turn-1.toml")")"
+rm -r "$drafts"
 compare 'an address in brackets' 'term3270: ::1 port 1:' \
   "$("$program" attach '[::1]' /dev/null --port 1 2>&1 | sed 's/\( port 1:\) .*/\1/')"
 compare 'a file of records behind a layout' "tip: records come on standard input, or from the file after '--records'" \
