@@ -1,6 +1,6 @@
 //! What the words of the command line ask for: their command, with its options.
 
-ghost use Rattle.std.specs.Prelude.{◌≡◌, is_some, option_map};
+ghost use Rattle.std.specs.Prelude.{◌≡◌, true, false, is_some, option_map};
 ghost use Rattle.clap.specs.Words.{first_of, found_of, rows_of, subcommand_rows_of};
 ghost use Rattle.cli_words.specs.Asked.{AreDemos, AreKeyLines, AsksFor, IsAttach, IsCheck, IsDrawn, IsForm, IsConvert, IsNumber, IsOption, IsPath, IsPen, IsPress, IsShow, IsBind, IsDraft, IsDrafted, IsDraftedMap, IsRendering, IsShownMap, IsReportForm, IsSide, IsSource, IsText, IsWhen, IsWithLayout, IsMap, IsMapForm, IsMapCheck, IsLayoutCheck, IsTextCheck, IsTextTalk, IsTalk, IsSuite, IsSuiteForm, AreControls, AreTraced, AreTurns, AreBuffers, AreNoTracedWords, AreSizes, AreTracedWords, IsRecords, IsTraced};
 
