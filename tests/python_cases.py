@@ -22,9 +22,9 @@ def is_shown(case, text, printed):
     return (shown.rows, shown.columns, shown.cursor, shown.keyboard, mine) == (told["rows"], told["columns"], told["cursor"], told["keyboard"], places)
 
 
-def is_pressed(case, text, printed):
+def is_pressed(keys, text, printed):
     lines = []
-    for it in takvorn.press(text, (case / words_of(case)[1]).read_text()):
+    for it in takvorn.press(text, keys):
         lines.append(f"sent {it.sent.hex().upper()}" if it.did == "sent" else f"{it.did} {it.cursor}")
     return lines == printed.splitlines()
 
@@ -51,18 +51,19 @@ def tried():
         words, kind = words_of(case), case.parent.name
         if not (case / "stdin").exists() or not (case / "stdout").exists() or (case / "make-stdin").exists():
             continue
+        inputs = [case / "stdin", case / "stdout", *(case / word for word in words if kind == "press" and (case / word).is_file())]
         try:
-            text, printed = (case / "stdin").read_text(), (case / "stdout").read_text()
+            text, printed, *keys = (path.read_text() for path in inputs)
         except UnicodeDecodeError:
             continue
         status = (case / "status").read_text().strip() if (case / "status").exists() else "0"
         if words == ["show", "--format", "json"] and status == "0":
             yield case, lambda case=case, text=text, printed=printed: is_shown(case, text, printed)
-        elif kind == "press" and len(words) == 2 and (case / words[1]).is_file():
+        elif kind == "press" and len(words) == 2 and keys:
             if status == "0":
-                yield case, lambda case=case, text=text, printed=printed: is_pressed(case, text, printed)
+                yield case, lambda keys=keys[0], text=text, printed=printed: is_pressed(keys, text, printed)
             elif status == "2" and printed:
-                call = lambda case=case, text=text, words=words: takvorn.press(text, (case / words[1]).read_text())
+                call = lambda keys=keys[0], text=text: takvorn.press(text, keys)
                 yield case, lambda call=call, printed=printed: is_refused(call, printed)
         elif words[:3] == ["check", "--format", "json"] and len(words) == 4 and (case / words[3]).is_file() and status in "01":
             yield case, lambda case=case, text=text, printed=printed: is_checked(case, text, printed)
