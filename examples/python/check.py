@@ -1,9 +1,11 @@
-"""Checks records against a layout, and shows the screen with what is found: check.py LAYOUT RECORDS."""
+"""Checks records against a layout, and prints what is found with its mend; the status is 1 where something is: check.py LAYOUT RECORDS."""
 import sys
 from pathlib import Path
 
 import takvorn
 
 layout, records = takvorn.Layout.read(sys.argv[1]), Path(sys.argv[2]).read_text()
-for finding in takvorn.check(layout, records):
+findings = takvorn.check(layout, records)
+for finding in findings:
     print(finding)
+sys.exit(bool(findings))
