@@ -68,7 +68,7 @@ for folder in "$root"/tests/cases/show "$root"/tests/cases/check "$root"/tests/c
     # What these options ask for the program does alone.
     program_alone=no
     for word; do
-      case $word in --chars | --turns | --turn | --size | --all) program_alone=yes ;; esac
+      case $word in --chars | --turns | --turn | --size | --all | buffer) program_alone=yes ;; esac
     done
     wanted=0
     [ -f "$work/in/status" ] && wanted=$(cat "$work/in/status")
