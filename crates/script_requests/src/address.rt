@@ -2,8 +2,8 @@
 
 ghost use Rattle.std.specs.Prelude.{◌≡◌, ◌≤◌, ◌++◌, ◌==◌, length, option_map, Option, IfOk};
 ghost use Rattle.std.specs.List.{list_all, list_any, prefix_len};
-ghost use Rattle.cli_scripts.specs.Addresses.{is_blank, is_other, without_end, trimmed, split_by, is_digit, port_value, port_of, with_port, split_port, after_bracket, split_brackets, split_host, after_prefix, split_name, read_trimmed, read_address, fault_words, syntax_text, address_fault_text};
-ghost use Rattle.cli_scripts.specs.AddressSeen.{address_seen};
+ghost use Rattle.script_requests.specs.Addresses.{is_blank, is_other, without_end, trimmed, split_by, is_digit, port_value, port_of, with_port, split_port, after_bracket, split_brackets, split_host, after_prefix, split_name, read_trimmed, read_address, fault_words, syntax_text, address_fault_text};
+ghost use Rattle.script_requests.specs.AddressSeen.{address_seen};
 
 use script_keys::{Number, number_of};
 use std::alloc::AllocError;

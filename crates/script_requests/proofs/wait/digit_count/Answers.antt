@@ -1,7 +1,7 @@
 use Rattle.std.proofs.Common.{sym, ◌∙◌, arith}
 use Rattle.std.proofs.lemmas.List.Sums.{prefix_len_is}
-use Rattle.cli_scripts.specs.Waits.{is_digit}
-use Rattle.cli_scripts.proofs.wait.digit_count.Goals as goal
+use Rattle.script_requests.specs.Waits.{is_digit}
+use Rattle.script_requests.proofs.wait.digit_count.Goals as goal
 
 pub returns-then-not-is_digit-clause-count : goal.returns-then-not-is_digit-clause-count
 returns-then-not-is_digit-clause-count c =

@@ -1,4 +1,4 @@
-//! The command `script`: a terminal that test tools drive by lines.
+//! What a script asks of the session: what `Wait` waits for, and the address that `Connect` takes, as s3270 4.1 reads them.
 #![tactic(auto)]
 
 mod address;

@@ -3,7 +3,7 @@
 ghost use Rattle.std.specs.Prelude.{◌≡◌, ◌<◌, ◌≤◌, ◌==◌, map, length};
 ghost use Rattle.std.specs.List.{list_all, prefix_len};
 ghost use Rattle.std.specs.Str.{str_eq_ignore_ascii_case};
-ghost use Rattle.cli_scripts.specs.Waits.{meant_by, is_digit, digit_at, thousandths, at_least_one, whole_of, with_fraction, seconds_of, wait_of, with_limit, read_wait, wait_fault_text};
+ghost use Rattle.script_requests.specs.Waits.{meant_by, is_digit, digit_at, thousandths, at_least_one, whole_of, with_fraction, seconds_of, wait_of, with_limit, read_wait, wait_fault_text};
 
 use script_keys::{Number, number_of};
 

@@ -5,8 +5,8 @@ use Rattle.ds_screen.specs.Ring.{greatest}
 use Rattle.script_keys.specs.declared.number.Number.{Number}
 use Rattle.script_keys.specs.declared.number.Number.TheVariants.{Negative, Natural}
 use Rattle.script_keys.specs.Numbers.{number_of}
-use Rattle.cli_scripts.specs.declared.address.AddressFault.{AddressFault}
-use Rattle.cli_scripts.specs.declared.address.AddressFault.TheVariants.{Empty, Blank, NoHost, NoPort, NoLuName, TwoColons, TwoAts, NoBracket, AfterBracket, BadPort}
+use Rattle.script_requests.specs.declared.address.AddressFault.{AddressFault}
+use Rattle.script_requests.specs.declared.address.AddressFault.TheVariants.{Empty, Blank, NoHost, NoPort, NoLuName, TwoColons, TwoAts, NoBracket, AfterBracket, BadPort}
 
 -- the name of a device, empty where none is given, a host and a port
 pub record Address : Type 0 where

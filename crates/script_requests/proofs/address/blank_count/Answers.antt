@@ -1,7 +1,7 @@
 use Rattle.std.proofs.Common.{sym, ◌∙◌, arith}
 use Rattle.std.proofs.lemmas.List.Sums.{prefix_len_is}
-use Rattle.cli_scripts.specs.Addresses.{is_blank}
-use Rattle.cli_scripts.proofs.address.blank_count.Goals as goal
+use Rattle.script_requests.specs.Addresses.{is_blank}
+use Rattle.script_requests.proofs.address.blank_count.Goals as goal
 
 pub returns-then-not-is_blank-clause-count : goal.returns-then-not-is_blank-clause-count
 returns-then-not-is_blank-clause-count c =

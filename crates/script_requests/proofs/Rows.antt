@@ -1,12 +1,12 @@
 -- Worked rows, computed: what s3270 4.1 waits for and connects to, and what it says of arguments that it refuses.
 use Rattle.std.proofs.Common.{◌≡◌, [], ◌∷◌, codes, Some, None, Ok, Err, refl}
 use Rattle.script_keys.specs.Numbers.{value_from}
-use Rattle.cli_scripts.specs.declared.wait.Awaited.TheVariants.{InputField, Mode3270, Output, Seconds}
-use Rattle.cli_scripts.specs.declared.wait.WaitFault.TheVariants.{Parameter, Arguments}
+use Rattle.script_requests.specs.declared.wait.Awaited.TheVariants.{InputField, Mode3270, Output, Seconds}
+use Rattle.script_requests.specs.declared.wait.WaitFault.TheVariants.{Parameter, Arguments}
 use Rattle.ds_screen.specs.Ring.{greatest}
-use Rattle.cli_scripts.specs.declared.address.AddressFault.TheVariants.{Empty, Blank, NoHost, NoPort, NoLuName, TwoColons, TwoAts, NoBracket, AfterBracket, BadPort}
-use Rattle.cli_scripts.specs.Waits.{waits, read_wait}
-use Rattle.cli_scripts.specs.Addresses.{address, read_address, address_fault_text}
+use Rattle.script_requests.specs.declared.address.AddressFault.TheVariants.{Empty, Blank, NoHost, NoPort, NoLuName, TwoColons, TwoAts, NoBracket, AfterBracket, BadPort}
+use Rattle.script_requests.specs.Waits.{waits, read_wait}
+use Rattle.script_requests.specs.Addresses.{address, read_address, address_fault_text}
 
 none : read_wait [] ≡ Ok (waits InputField None)
 none = refl

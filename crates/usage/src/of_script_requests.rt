@@ -1,6 +1,6 @@
-//! The example of `cli_scripts`.
+//! The example of `script_requests`.
 
-use cli_scripts::{Awaited, read_wait};
+use script_requests::{Awaited, read_wait};
 
 /// Whether arguments of `Wait` ask for an input field.
 fn asks_for_input(arguments: &[Vec<u8>]) -> bool {

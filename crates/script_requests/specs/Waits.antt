@@ -4,11 +4,11 @@ use Rattle.std.specs.List.{list_all, prefix_len}
 use Rattle.std.specs.Str.{str_eq_ignore_ascii_case}
 use Rattle.script_keys.specs.Numbers.{number_of}
 use Rattle.script_keys.specs.Targets.{natural}
-use Rattle.cli_scripts.specs.declared.wait.Awaited.{Awaited}
-use Rattle.cli_scripts.specs.declared.wait.Awaited.TheVariants.{InputField, NvtMode, Mode3270, Output, Unlock, Disconnect, Seconds}
-use Rattle.cli_scripts.specs.declared.wait.Wait.{Wait}
-use Rattle.cli_scripts.specs.declared.wait.WaitFault.{WaitFault}
-use Rattle.cli_scripts.specs.declared.wait.WaitFault.TheVariants.{Parameter, Arguments}
+use Rattle.script_requests.specs.declared.wait.Awaited.{Awaited}
+use Rattle.script_requests.specs.declared.wait.Awaited.TheVariants.{InputField, NvtMode, Mode3270, Output, Unlock, Disconnect, Seconds}
+use Rattle.script_requests.specs.declared.wait.Wait.{Wait}
+use Rattle.script_requests.specs.declared.wait.WaitFault.{WaitFault}
+use Rattle.script_requests.specs.declared.wait.WaitFault.TheVariants.{Parameter, Arguments}
 
 -- a word, in either case
 abbrev pub meant_by : List ℕ → Option Awaited

@@ -1,6 +1,6 @@
 use Rattle.std.proofs.Common.{◌≡◌, ℕ, ◌<◌, true, get_or}
-use Rattle.cli_scripts.specs.Addresses.{is_blank}
-use Rattle.cli_scripts.proofs.address.blank_count.Given as goal
+use Rattle.script_requests.specs.Addresses.{is_blank}
+use Rattle.script_requests.proofs.address.blank_count.Given as goal
 
 abbrev pub invariant-loop-i : goal.invariant-loop-i
 invariant-loop-i l = (k : ℕ) → k < l.i → is_blank (get_or l.text k 0) ≡ true

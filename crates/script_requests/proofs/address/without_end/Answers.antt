@@ -1,6 +1,6 @@
 use Rattle.std.proofs.Common.{◌≡◌, ◌+◌, ◌-◌, arith}
-use Rattle.cli_scripts.proofs.EndLaws.{ends_here, goes_back, ends_before}
-use Rattle.cli_scripts.proofs.address.without_end.Goals as goal
+use Rattle.script_requests.proofs.EndLaws.{ends_here, goes_back, ends_before}
+use Rattle.script_requests.proofs.address.without_end.Goals as goal
 
 pub returns-then-not-is_blank : goal.returns-then-not-is_blank
 returns-then-not-is_blank c =

@@ -1,6 +1,6 @@
 use Rattle.std.proofs.Common.{codes}
-use Rattle.cli_scripts.proofs.Texts.{four}
-use Rattle.cli_scripts.proofs.address.push_syntax.Goals as goal
+use Rattle.script_requests.proofs.Texts.{four}
+use Rattle.script_requests.proofs.address.push_syntax.Goals as goal
 
 pub returns : goal.returns
 returns c =

@@ -1,6 +1,6 @@
 use Rattle.std.proofs.Common.{◌≡◌, ℕ, ◌<◌, true, get_or}
-use Rattle.cli_scripts.specs.Waits.{is_digit}
-use Rattle.cli_scripts.proofs.wait.digit_count.Given as goal
+use Rattle.script_requests.specs.Waits.{is_digit}
+use Rattle.script_requests.proofs.wait.digit_count.Given as goal
 
 abbrev pub invariant-loop-i : goal.invariant-loop-i
 invariant-loop-i l = (k : ℕ) → k < l.i → is_digit (get_or l.bytes k 0) ≡ true

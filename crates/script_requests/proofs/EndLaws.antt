@@ -2,7 +2,7 @@
 use Rattle.std.proofs.Common.{◌≡◌, ℕ, ◌+◌, Bool, true, false, not, List, [], length, take, get_or, Some, sym, ◌∙◌, ap}
 use Rattle.ds_screen.specs.Ring.{greatest}
 use Rattle.ds_screen.proofs.RunLaws.{greatest_hit, greatest_miss}
-use Rattle.cli_scripts.specs.Addresses.{is_blank, is_used_at, up_to, without_end}
+use Rattle.script_requests.specs.Addresses.{is_blank, is_used_at, up_to, without_end}
 
 pub ends_here : (text : List ℕ) (d left : ℕ) (blank : Bool) → d + 1 ≡ left → greatest left (is_used_at text) ≡ greatest (length text) (is_used_at text)
     → blank ≡ is_blank (get_or text d 0) → blank ≡ false → take left text ≡ without_end text
