@@ -19,7 +19,7 @@ use Rattle.cli_words.specs.declared.asked.KeyLines.TheVariants as key_lines
 use Rattle.cli_words.specs.declared.asked.ReportForm.{ReportForm}
 use Rattle.cli_words.specs.declared.asked.ReportForm.TheVariants.{Json, Sarif}
 use Rattle.cli_words.specs.declared.asked.Asked.{Asked}
-use Rattle.cli_words.specs.declared.asked.Asked.TheVariants.{Show, Draw, Annotate, Undrawn, Check, Report, Explain, Talk, ReportTalk, LogTalk, Press, Strike, Convert, ConvertCharacters, ConvertBack, ConvertBackCharacters, Draft, DraftTurns, Bind, BindTurns, Records, OneSided, Buffers, OneScreen, Serve, Attach, AttachTolerant, Map, CheckMap, RenderMap, Suite, NoLayout}
+use Rattle.cli_words.specs.declared.asked.Asked.TheVariants.{Show, Draw, Annotate, Undrawn, Check, Report, Explain, Talk, ReportTalk, LogTalk, Press, Strike, Convert, ConvertCharacters, ConvertBack, ConvertBackCharacters, Draft, DraftTurns, Bind, BindTurns, Records, OneSided, Buffers, OneScreen, Serve, Attach, AttachTolerant, Script, Map, CheckMap, RenderMap, Suite, NoLayout}
 use Rattle.cli_findings.specs.declared.found.Pen.{Pen}
 use Rattle.cli_findings.specs.declared.found.Pen.TheVariants as pens
 use Rattle.cli_pictures.specs.declared.annotated.Annotated.{Annotated}
@@ -36,6 +36,8 @@ use Rattle.cli_traces.specs.declared.asked.Source.TheVariants.{Trace, Stream}
 use Rattle.cli_traces.specs.declared.turn.Turns.{Turns}
 use Rattle.cli_traces.specs.declared.turn.Turns.TheVariants.{Unmarked, Marked, UpTo}
 use Rattle.cli_traces.specs.Following.{is_one_sided}
+use Rattle.cli_words.specs.Values.{IsText, IsPath}
+use Rattle.cli_words.specs.Script.{IsScript}
 use Rattle.tn_traces.specs.declared.line.Side.{Side}
 use Rattle.tn_traces.specs.declared.line.Side.TheVariants.{Host, Terminal}
 
@@ -44,10 +46,6 @@ abbrev pub IsOption : Text → List Row → Bool → Type 0
 IsOption option rows given = (one_of option rows ≡ Some (codes "true") → given ≡ true)
     × (one_of option rows ≡ Some (codes "false") → given ≡ false)
     × (one_of option rows ≡ None → given ≡ false)
-
--- the text that was given for a word: a path, or a name
-abbrev pub IsText : Text → List Row → Bor Text → Type 0
-IsText word rows given = (text : Text) → first_of word rows ≡ Some text → given.now ≡ text
 
 -- the number below 65,536 that was given for a word, in decimal
 abbrev pub IsNumber : Text → List Row → ℕ → Type 0
@@ -89,10 +87,6 @@ IsWithLayout rows asked = (first_of (codes "format") rows ≡ Some (codes "svg")
     × (first_of (codes "format") rows ≡ Some (codes "text") → asked ≡ Undrawn)
     × (first_of (codes "format") rows ≡ Some (codes "json") → asked ≡ Undrawn)
     × (first_of (codes "format") rows ≡ Some (codes "screen") → asked ≡ Undrawn)
-
--- the path that was given for an option, where it was
-abbrev pub IsPath : Text → List Row → Option (Bor Text) → Type 0
-IsPath option rows given = option_map (λ path. path.now) given ≡ first_of option rows
 
 -- with lines under each finding where they are asked for, else with what keys send where that is
 abbrev pub IsTextCheck : List Row → Asked → Type 0
@@ -293,6 +287,10 @@ IsAttach rows (AttachTolerant host keys lines port device expect timeout) =
     × IsNumber (codes "timeout") rows timeout
 IsAttach rows _ = ⊥
 
+abbrev pub AsksScript : List Row → Asked → Type 0
+AsksScript rows (Script asked) = IsScript rows asked
+AsksScript rows _ = ⊥
+
 -- the command that is named, with its paths, places and options; the default command is show
 pub record AsksFor (name : Text) (rows : List Row) (asked : Asked) : Type 0 where
   pub show : name ≡ codes "show" → IsShow rows asked
@@ -305,6 +303,7 @@ pub record AsksFor (name : Text) (rows : List Row) (asked : Asked) : Type 0 wher
   pub records : name ≡ codes "records" → IsRecords rows asked
   pub serve : name ≡ codes "serve" → IsServe rows asked
   pub attach : name ≡ codes "attach" → IsAttach rows asked
+  pub script : name ≡ codes "script" → AsksScript rows asked
   pub map : name ≡ codes "map" → IsMap rows asked
   pub suite : name ≡ codes "suite" → IsSuite rows asked
 

@@ -2,8 +2,10 @@
 
 ghost use Rattle.std.specs.Prelude.{◌≡◌, true, false, is_some, option_map};
 ghost use Rattle.clap.specs.Words.{first_of, found_of, rows_of, subcommand_rows_of};
-ghost use Rattle.cli_words.specs.Asked.{AreDemos, AreKeyLines, AsksFor, IsAttach, IsCheck, IsDrawn, IsForm, IsConvert, IsNumber, IsOption, IsPath, IsPen, IsPress, IsShow, IsBind, IsDraft, IsDrafted, IsDraftedMap, IsRendering, IsShownMap, IsReportForm, IsSide, IsSource, IsText, IsWhen, IsWithLayout, IsMap, IsMapForm, IsMapCheck, IsLayoutCheck, IsTextCheck, IsTextTalk, IsTalk, IsSuite, IsSuiteForm, AreControls, AreTraced, AreTurns, AreBuffers, AreNoTracedWords, AreSizes, AreTracedWords, IsRecords, IsTraced};
+ghost use Rattle.cli_words.specs.Asked.{AreDemos, AreKeyLines, AsksFor, IsAttach, IsCheck, IsDrawn, IsForm, IsConvert, IsNumber, IsOption, IsPen, IsPress, IsShow, IsBind, IsDraft, IsDrafted, IsDraftedMap, IsRendering, IsShownMap, IsReportForm, IsSide, IsSource, IsWhen, IsWithLayout, IsMap, IsMapForm, IsMapCheck, IsLayoutCheck, IsTextCheck, IsTextTalk, IsTalk, IsSuite, IsSuiteForm, AreControls, AreTraced, AreTurns, AreBuffers, AreNoTracedWords, AreSizes, AreTracedWords, IsRecords, IsTraced};
+ghost use Rattle.cli_words.specs.Values.{IsPath, IsText};
 
+use crate::script::{ScriptAsked, script_of};
 use bms_map::Control;
 use clap::ArgMatches;
 use cli_binds::Form;
@@ -141,6 +143,7 @@ pub enum Asked<'a> {
         port: u16,
         device: &'a str,
     },
+    Script(ScriptAsked<'a>),
     Map {
         source: &'a str,
         name: Option<&'a str>,
@@ -235,6 +238,7 @@ fn command_of<'a>(name: &str, words: &ArgMatches<'a>) -> Asked<'a>
             count: number_in(words, "count"),
         },
         "attach" => attach_of(words),
+        "script" => Asked::Script(script_of(words)),
         "suite" => suite_of(words),
         "map" => map_of(words),
         _ => Asked::Show { color: When::Auto },
@@ -707,7 +711,7 @@ fn convert_of<'a>(words: &ArgMatches<'a>) -> Asked<'a>
 }
 
 /// The text that was given for a word; `clap` refuses words without it, or has a default for it.
-fn text_in<'a>(words: &ArgMatches<'a>, word: &str) -> &'a str
+pub(crate) fn text_in<'a>(words: &ArgMatches<'a>, word: &str) -> &'a str
     ensures { IsText word.now (rows_of (found_of words.now)) result }
 {
     match words.get_str(word) {
@@ -717,7 +721,7 @@ fn text_in<'a>(words: &ArgMatches<'a>, word: &str) -> &'a str
 }
 
 /// The path that was given for an option, where it was.
-fn path_in<'a>(words: &ArgMatches<'a>, option: &str) -> Option<&'a str>
+pub(crate) fn path_in<'a>(words: &ArgMatches<'a>, option: &str) -> Option<&'a str>
     ensures { IsPath option.now (rows_of (found_of words.now)) result }
 {
     words.get_str(option)

@@ -2,5 +2,7 @@
 #![tactic(auto)]
 
 mod asked;
+mod script;
 
 pub use crate::asked::{Asked, KeyLines, ReportForm, When};
+pub use crate::script::{ScriptAsked, ScriptForm};

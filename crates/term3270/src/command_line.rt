@@ -2,7 +2,7 @@
 
 use crate::help::{
     ATTACH, BIND, CHECK, CONVERT, DRAFT, EXPLAIN_HELP, FREEKB_HELP, FRSET_HELP, KEYS_HELP,
-    LAYOUT_HELP, MAP, PRESS, RECORDS, SERVE, SHOW, STATUSES, SUITE, TALK, WITH_FREEKB_HELP,
+    LAYOUT_HELP, MAP, PRESS, RECORDS, SCRIPT, SERVE, SHOW, STATUSES, SUITE, TALK, WITH_FREEKB_HELP,
     WITH_FRSET_HELP,
 };
 use clap::{Arg, ArgAction, ArgMatches, Command, Error};
@@ -17,6 +17,13 @@ const WHEN: &[&str] = &["auto", "always", "never"];
 const FINDING_FORMS: &[&str] = &["text", "json", "sarif"];
 
 const SUITE_FORMS: &[&str] = &["text", "json", "junit"];
+
+const REPORT_FORMS: &[&str] = &["text", "json", "junit"];
+
+const CODE_PAGES: &[&str] = &["bracket", "037"];
+
+const DEVICE_HELP: &str =
+    "The terminal: IBM-3278-M or IBM-3279-M, M from 2 to 5, and -E where it is extended";
 
 const SOURCES: &[&str] = &["trace", "stream", "buffer"];
 
@@ -446,7 +453,7 @@ const SESSIONS: &[Described<'_>] = &[
             Argument {
                 name: "device",
                 takes: Takes::Text("NAME", "IBM-3278-2"),
-                help: "The terminal: IBM-3278-M or IBM-3279-M, M from 2 to 5, and -E where it is extended",
+                help: DEVICE_HELP,
             },
             Argument {
                 name: "tolerant",
@@ -462,6 +469,43 @@ const SESSIONS: &[Described<'_>] = &[
                 name: "timeout",
                 takes: Takes::NumberWith("SECONDS", "tolerant"),
                 help: "How long a wait for the host takes at most: 1 to 65535",
+            },
+        ],
+    },
+    Described {
+        name: "script",
+        about: "Work a terminal by lines of actions, in the language of s3270",
+        after_help: SCRIPT,
+        arguments: &[
+            Argument {
+                name: "HOST",
+                takes: Takes::Optional,
+                help: "The host that is connected first, as HOST or HOST:PORT",
+            },
+            Argument {
+                name: "device",
+                takes: Takes::Text("NAME", "IBM-3278-2"),
+                help: DEVICE_HELP,
+            },
+            Argument {
+                name: "code-page",
+                takes: Takes::OneOf("PAGE", CODE_PAGES, "bracket"),
+                help: "The host's characters",
+            },
+            Argument {
+                name: "layouts",
+                takes: Takes::Value("FOLDER"),
+                help: "Judge each screen that is answered by the layout of this folder that matches it",
+            },
+            Argument {
+                name: "report",
+                takes: Takes::ValueWith("FILE", "layouts", &[]),
+                help: "With --layouts: the file of what is found, in place of standard error",
+            },
+            Argument {
+                name: "report-format",
+                takes: Takes::OneOf("FORM", REPORT_FORMS, "text"),
+                help: "With --layouts: how it is written",
             },
         ],
     },

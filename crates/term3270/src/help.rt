@@ -249,3 +249,10 @@ Example:
 Statuses:
   0 done, 1 fewer answers than --expect says, 2 bad input, 3 the keys can't be read, the host can't be
   reached, or the session, a read or a write failed, 4 out of memory";
+
+pub(crate) const SCRIPT: &str = "Input:
+  actions on standard input, one or more a line, as s3270 takes them (docs/SCRIPT.md)
+Output:
+  for each line its data lines, a status line, and 'ok' or 'error'
+Example:
+  $ printf 'Connect(localhost:3270)\nString(\"ANNA\\tSECRET\\n\")\nAscii(0,0,1,80)\n' | term3270 script";

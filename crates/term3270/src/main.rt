@@ -11,6 +11,7 @@ mod manners;
 mod prompt;
 mod reasons;
 mod reports;
+mod script;
 mod sessions;
 mod stream;
 mod suite;
@@ -162,6 +163,7 @@ fn connect(rt: &HostRuntime, asked: Asked<'_>) -> Option<Status> {
             let host = bare_host(host);
             Some(commands::attach(rt, Place { host, port }, keys, lines, device))
         }
+        Asked::Script(asked) => Some(script::script(rt, asked)),
         _ => None,
     }
 }

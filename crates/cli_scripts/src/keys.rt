@@ -1,0 +1,96 @@
+//! Actions that press keys.
+
+use crate::answer::{Out, fail};
+use crate::came::Wants;
+use crate::desk::Desk;
+use crate::doing::{Doing, Step};
+use ds_codec::Aid;
+use ds_keys::Key;
+use script_keys::{Keys, runs_of, typed_runs};
+use script_screens::Outcome;
+use std::alloc::{AllocError, Global};
+
+/// What is said where a key can't act.
+const LOCKED: &[u8] = b"Keyboard locked";
+
+fn is_reset(keys: Keys) -> bool {
+    matches!(keys, Keys::Plain(Key::Reset))
+}
+
+fn is_clear(keys: Keys) -> bool {
+    match keys {
+        Keys::Plain(Key::Attention(aid)) => aid == Aid::clear(),
+        _ => false,
+    }
+}
+
+/// Presses keys at a terminal that isn't connected: Clear clears its screen, the others do nothing.
+fn press_unconnected(alloc: Global, desk: &mut Desk, keys: Keys) -> Result<Step, AllocError> {
+    if is_clear(keys) {
+        desk.clear(alloc)?;
+    }
+    Ok(Step::Ended(Outcome::Done))
+}
+
+/// Presses keys at a keyboard that doesn't wait, or Reset at any.
+fn press_now(
+    alloc: Global,
+    desk: &mut Desk,
+    keys: Keys,
+    out: &mut Out,
+) -> Result<Step, AllocError> {
+    let runs = runs_of(alloc, desk.screen(), keys)?;
+    if desk.press_runs(alloc, &runs, out)? {
+        return Ok(Step::Ended(fail(&mut out.lines, LOCKED)?));
+    }
+    if desk.waits() && !is_reset(keys) {
+        return Ok(Step::Waits(Doing::Sent, Wants::Bytes));
+    }
+    Ok(Step::Ended(Outcome::Done))
+}
+
+/// Presses the keys of an action, once the keyboard doesn't wait; after one that sends it waits until it doesn't.
+pub(crate) fn press(
+    alloc: Global,
+    desk: &mut Desk,
+    keys: Keys,
+    out: &mut Out,
+) -> Result<Step, AllocError> {
+    if !desk.is_connected() {
+        return press_unconnected(alloc, desk, keys);
+    }
+    if desk.waits() && !is_reset(keys) {
+        return Ok(Step::Waits(Doing::Pressing(keys), Wants::Bytes));
+    }
+    press_now(alloc, desk, keys, out)
+}
+
+/// Types a character, once the keyboard doesn't wait.
+pub(crate) fn type_code(
+    alloc: Global,
+    desk: &mut Desk,
+    fills: bool,
+    code: u8,
+    out: &mut Out,
+) -> Result<Step, AllocError> {
+    if !desk.is_connected() {
+        return Ok(Step::Ended(Outcome::Done));
+    }
+    if desk.waits() {
+        return Ok(Step::Waits(Doing::TypingCode(code), Wants::Bytes));
+    }
+    let runs = typed_runs(alloc, desk.screen(), fills, code)?;
+    if desk.press_runs(alloc, &runs, out)? {
+        return Ok(Step::Ended(fail(&mut out.lines, LOCKED)?));
+    }
+    Ok(Step::Ended(Outcome::Done))
+}
+
+/// What a key that sent waits for: whether it still does.
+pub(crate) fn after_sent(desk: &Desk) -> Step {
+    if desk.is_connected() && desk.waits() {
+        Step::Waits(Doing::Sent, Wants::Bytes)
+    } else {
+        Step::Ended(Outcome::Done)
+    }
+}

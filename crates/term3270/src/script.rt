@@ -1,0 +1,274 @@
+//! The command `script`: over standard streams, a line over TCP, and files.
+
+use crate::manners::{bare_host, tell_unknown_device};
+use crate::tcp::Place;
+use cli_commands::{Status, Watched, failure};
+use cli_pictures::push_page;
+use cli_scripts::{Heard, Machine, Patience, World, run_script};
+use cli_words::ScriptAsked;
+use ds_screen::{PlaneCells, Screen};
+use script_requests::{Address, push_address_fault, read_address};
+use std::alloc::AllocError;
+use std::io::{Read, Write};
+use std::net::TcpStream;
+use std::time::{Duration, Instant};
+use std::{fs, io, str, thread};
+use tn_session::{Device, RunFault};
+
+/// What Query tells of the program.
+const VERSION: &str = "Takvorn 1.0.0";
+
+/// The port of a host that names none (RFC 854).
+const TELNET: u16 = 23;
+
+/// How a socket waits.
+#[derive(Clone, Copy, PartialEq, Eq)]
+enum Manner {
+    /// Not at all.
+    Never,
+    /// Until something comes, or for so long.
+    For(Option<Duration>),
+}
+
+/// A connected socket, and how it waits.
+#[derive(Drop)]
+struct Socket {
+    stream: TcpStream,
+    manner: Manner,
+}
+
+impl Socket {
+    fn over(stream: TcpStream) -> Socket {
+        // Where the system refuses this, the session is slower and no other.
+        let _ = stream.set_nodelay(true);
+        Socket {
+            stream,
+            manner: Manner::For(None),
+        }
+    }
+
+    /// Sets how it waits, where that isn't how it does.
+    fn set(&mut self, manner: Manner) -> io::Result<()> {
+        if self.manner == manner {
+            return Ok(());
+        }
+        match manner {
+            Manner::Never => self.stream.set_nonblocking(true)?,
+            Manner::For(limit) => {
+                self.stream.set_nonblocking(false)?;
+                self.stream.set_read_timeout(limit)?;
+            }
+        }
+        self.manner = manner;
+        Ok(())
+    }
+
+    fn read(&mut self, piece: &mut [u8], manner: Manner) -> io::Result<usize> {
+        self.set(manner)?;
+        self.stream.read(piece)
+    }
+
+    fn write(&mut self, bytes: &[u8]) -> io::Result<()> {
+        self.set(Manner::For(None))?;
+        self.stream.write_all(bytes)?;
+        self.stream.flush()
+    }
+}
+
+/// What a script is worked over: a line over TCP, files, and the clock.
+#[derive(Drop)]
+struct Surroundings<'a> {
+    rt: &'a HostRuntime,
+    socket: Option<Socket>,
+    /// When the wait that was begun last is over.
+    deadline: Option<Instant>,
+}
+
+/// What a read gave.
+fn heard(read: io::Result<usize>) -> Heard {
+    match read {
+        Ok(0) => Heard::Closed,
+        Ok(count) => Heard::Bytes(count),
+        Err(error) => match error.kind() {
+            io::ErrorKind::WouldBlock | io::ErrorKind::TimedOut | io::ErrorKind::Interrupted =>
+                Heard::Nothing,
+            _ => Heard::Closed,
+        },
+    }
+}
+
+/// Leaves an error's words, without the system's number.
+fn leave_cause(rt: &HostRuntime, cause: &mut Vec<u8>, error: &io::Error) -> Result<(), AllocError> {
+    let words = format!(in rt.alloc(); "{error}")?;
+    match words.as_str().find(" (os error") {
+        Some(end) => cause.extend_from_slice(&words.as_bytes()[..end]),
+        None => cause.extend_from_slice(words.as_bytes()),
+    }
+}
+
+impl Surroundings<'_> {
+    /// How long a socket waits for this.
+    fn manner(&mut self, patience: Patience) -> io::Result<Manner> {
+        match patience {
+            Patience::None => Ok(Manner::Never),
+            Patience::Endless => Ok(Manner::For(None)),
+            Patience::Within { limit, begins } => self.left(limit, begins),
+        }
+    }
+
+    /// What is left of a wait.
+    fn left(&mut self, limit: u32, begins: bool) -> io::Result<Manner> {
+        let now = Instant::now(self.rt)?;
+        if begins {
+            self.deadline = now.checked_add(Duration::from_millis(u64::from(limit)));
+        }
+        let left = match self.deadline {
+            Some(deadline) => deadline.saturating_duration_since(now),
+            None => Duration::from_millis(0),
+        };
+        if left.is_zero() {
+            Ok(Manner::Never)
+        } else {
+            Ok(Manner::For(Some(left)))
+        }
+    }
+
+    fn call(&mut self, host: &[u8], port: u16) -> io::Result<()> {
+        let Ok(host) = str::from_utf8(host) else {
+            return Err(io::Error::from(io::ErrorKind::InvalidInput));
+        };
+        let stream = TcpStream::connect(self.rt, (bare_host(host), port))?;
+        self.socket = Some(Socket::over(stream));
+        Ok(())
+    }
+
+    fn page(&mut self, path: &[u8], screen: &Screen<PlaneCells>) -> io::Result<()> {
+        let Ok(path) = str::from_utf8(path) else {
+            return Err(io::Error::from(io::ErrorKind::InvalidInput));
+        };
+        let mut text = String::new(self.rt.alloc());
+        push_page(&mut text, screen)?;
+        fs::write(self.rt, path, text.as_bytes())
+    }
+}
+
+impl World for Surroundings<'_> {
+    fn connect(&mut self, host: &[u8], port: u16, cause: &mut Vec<u8>) -> bool {
+        match self.call(host, port) {
+            Ok(()) => true,
+            Err(error) => {
+                let _ = leave_cause(self.rt, cause, &error);
+                false
+            }
+        }
+    }
+
+    fn read(&mut self, piece: &mut [u8], patience: Patience) -> Heard {
+        let Ok(manner) = self.manner(patience) else {
+            return Heard::Closed;
+        };
+        match &mut self.socket {
+            Some(socket) => heard(socket.read(piece, manner)),
+            None => Heard::Closed,
+        }
+    }
+
+    fn write(&mut self, bytes: &[u8]) {
+        if let Some(socket) = &mut self.socket {
+            // The next read tells it.
+            let _ = socket.write(bytes);
+        }
+    }
+
+    fn hang_up(&mut self) {
+        self.socket = None;
+    }
+
+    fn pause(&mut self, time: u32) {
+        thread::sleep(self.rt, Duration::from_millis(u64::from(time)));
+    }
+
+    fn write_page(
+        &mut self,
+        path: &[u8],
+        screen: &Screen<PlaneCells>,
+        cause: &mut Vec<u8>,
+    ) -> bool {
+        match self.page(path, screen) {
+            Ok(()) => true,
+            Err(error) => {
+                let _ = leave_cause(self.rt, cause, &error);
+                false
+            }
+        }
+    }
+
+    fn tell_fault(&mut self, why: RunFault) {
+        let _ = eprintln!(self.rt; "term3270: {why}");
+    }
+}
+
+/// Connects to a host before the first line. Where that fails it is said, and the script begins without.
+fn connect_first(
+    rt: &HostRuntime,
+    world: &mut Surroundings<'_>,
+    machine: &mut Machine,
+    address: Address<'_>,
+) -> Result<(), AllocError> {
+    let port = address.port.unwrap_or(TELNET);
+    match world.call(address.host, port) {
+        Ok(()) => machine.attach(rt.alloc(), address.host, port),
+        Err(error) => {
+            if let Ok(host) = str::from_utf8(address.host) {
+                let _status = Place { host, port }.report(rt, &error);
+            }
+            Ok(())
+        }
+    }
+}
+
+/// Says why a text is no address.
+fn refuse_address(rt: &HostRuntime, text: &str) -> Status {
+    let mut words = Vec::new(rt.alloc());
+    if let Err(fault) = read_address(text.as_bytes()) {
+        if push_address_fault(&mut words, text.as_bytes(), fault).is_err() {
+            return Status::NoMemory;
+        }
+    }
+    if let Ok(words) = str::from_utf8(&words) {
+        let _ = eprintln!(rt; "term3270: {words}");
+    }
+    Status::BadInput
+}
+
+/// Works a terminal by the lines of standard input.
+fn run_on(rt: &HostRuntime, world: &mut Surroundings<'_>, machine: &mut Machine) -> Status {
+    let mut input = Watched::new(rt.stdin());
+    let mut output = Watched::new(rt.stdout());
+    run_script(rt.alloc(), machine, &mut input, &mut output, world)
+}
+
+/// `script`: a terminal that is worked by the lines of standard input.
+pub(crate) fn script(rt: &HostRuntime, asked: ScriptAsked<'_>) -> Status {
+    let Some(device) = Device::from_name(asked.device.as_bytes()) else {
+        tell_unknown_device(rt);
+        return Status::BadInput;
+    };
+    let Ok(mut machine) = Machine::new(rt.alloc(), device, asked.code_page, VERSION) else {
+        return Status::NoMemory;
+    };
+    let mut world = Surroundings {
+        rt,
+        socket: None,
+        deadline: None,
+    };
+    if let Some(text) = asked.host {
+        let Ok(address) = read_address(text.as_bytes()) else {
+            return refuse_address(rt, text);
+        };
+        if connect_first(rt, &mut world, &mut machine, address).is_err() {
+            return Status::NoMemory;
+        }
+    }
+    run_on(rt, &mut world, &mut machine)
+}
