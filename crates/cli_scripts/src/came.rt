@@ -1,5 +1,7 @@
 //! What a script is given, and what it wants next.
 
+use script_checks::LayoutText;
+
 /// What came.
 #[derive(Clone, Copy, Debug)]
 pub enum Came<'a> {
@@ -23,13 +25,13 @@ pub enum Came<'a> {
     Written,
     /// It could not be written, for this reason.
     Unwritten(&'a [u8]),
+    /// The layout's file was read, or couldn't be.
+    Layout(LayoutText<'a>),
 }
 
-/// What is wanted next. What it names, the machine tells.
+/// What a line that is under way needs. What it names, the machine tells.
 #[derive(Clone, Copy, Debug, PartialEq, Eq)]
-pub enum Wants {
-    /// The next line of the script.
-    Line,
+pub enum Need {
     /// What has arrived of the host, without waiting for more.
     Arrived,
     /// Bytes of the host, however long that takes.
@@ -47,6 +49,17 @@ pub enum Wants {
     Connection,
     /// The screen in a file, as a page.
     Page,
-    /// Nothing more: the script is over.
+    /// The text of a layout's file.
+    Layout,
+}
+
+/// What is wanted next.
+#[derive(Clone, Copy, Debug, PartialEq, Eq)]
+pub enum Wants {
+    /// The next line of the script: the last one was answered.
+    Line,
+    /// Something for the line that is under way.
+    Need(Need),
+    /// Nothing more: the last line was answered, and ended the script.
     Nothing,
 }

@@ -1,53 +1,130 @@
 //! The terminal that a script works, and what is known of its line.
 
-use crate::answer::Out;
-use crate::doing::Host;
+ghost use Rattle.std.specs.Prelude.{◌≡◌, ◌++◌, [], ◌∷◌, length, map, option_map, replicate, Some, None, is_some, true, false, IfOk, OnOk};
+ghost use Rattle.std.specs.List.{flat_map};
+ghost use Rattle.script_screens.specs.Laws.{LinkIsWhole};
+ghost use Rattle.script_screens.specs.Status.{link_seen};
+ghost use Rattle.script_keys.specs.Runs.{keys_of_run, keys_of};
+ghost use Rattle.tn_session.specs.KeptView.{kept_view};
+ghost use Rattle.tn_session.specs.TerminalTalk.{OfWaiting, tolerant_worked, records_kept, agreed_in, takes_input_in};
+ghost use Rattle.cli_scripts.specs.declared.deed.Deed.TheVariants.{Begun, Heard, Pressed as PressedKey};
+ghost use Rattle.cli_scripts.specs.Desks.{DidAll, handed_due, new_desk, is_error, is_waiting, link_of_host};
+
+use crate::answer::add_bytes;
+use crate::deed::Deed;
+use crate::host::{Host, connection_to};
 use ds_keys::Key;
 use ds_screen::{Lock, PlaneCells, Screen};
 use script_keys::Run;
 use script_screens::{Connection, Protocol};
 use std::alloc::{AllocError, Global};
-use tn_session::{Device, Pressed, RunFault, ScreenModel, SessionFault, TerminalSession};
+use std::marker::Model;
+use tn_session::{
+    Device, History, KeptRecord, Pressed, RunFault, ScreenModel, SessionFault, TerminalSession,
+};
 
 /// How often the host is read in one session, at most.
 const MAX_READS: u32 = 1_000_000;
 
-/// A terminal, connected or not.
+/// A terminal, connected or not. Contracts see its session, and all that was done at it: the bytes that were due are those that these deeds
+/// give, and no others.
 #[derive(Drop)]
 pub(crate) struct Desk {
     device: Device,
     session: TerminalSession,
+    /// Bytes that are due to the host.
+    due: Vec<u8>,
     /// The host, while it is connected.
     host: Option<Host>,
     /// How often it was read.
     reads: u32,
     /// The screen was read since a record came.
-    pub(crate) was_read: bool,
+    was_read: bool,
     /// Why the last session failed.
     fault: Option<RunFault>,
+    deeds: History<Deed>,
+    heard: History<u8>,
+    gone: History<u8>,
+}
+
+impl Model for Desk {
+    ghost use Rattle.std.specs.Prelude.{◌++◌};
+    ghost use Rattle.cli_scripts.specs.Deeds.{Did, new_talk};
+    ghost use Rattle.cli_scripts.specs.Desks.{Worked};
+
+    ghost Value = { Worked };
+
+    ghost view = { λ d. record {
+      device = d.device;
+      talk = d.session.talk;
+      host = d.host;
+      was_read = d.was_read;
+      deeds = d.deeds.items;
+      heard = d.heard.items;
+      gone = d.gone.items;
+      due = d.due.items;
+    } };
+
+    ghost invariant = { λ d. Did d.device d.deeds.items d.heard.items (d.gone.items ++ d.due.items) (new_talk d.device) d.session.talk };
+}
+
+fn deed_of(key: Key) -> Deed
+    ensures { result ≡ PressedKey key }
+{
+    Deed::Pressed(key)
+}
+
+fn is_inhibited(pressed: Pressed) -> bool {
+    matches!(pressed, Pressed::Inhibited)
 }
 
 /// A terminal's session, which gets through where it can.
-fn new_session(alloc: Global, device: Device) -> Result<TerminalSession, AllocError> {
+fn new_session(alloc: Global, device: Device) -> Result<TerminalSession, AllocError>
+    ensures { IfOk result (λ session. session ≡ tolerant_worked device true true) }
+{
     TerminalSession::tolerant(alloc, device, true, true)
 }
 
 impl Desk {
     /// A terminal that isn't connected.
-    pub(crate) fn new(alloc: Global, device: Device) -> Result<Desk, AllocError> {
+    pub(crate) fn new(alloc: Global, device: Device) -> Result<Desk, AllocError>
+        ensures { IfOk result (λ desk. desk ≡ new_desk device) }
+    {
         Ok(Desk {
             device,
             session: new_session(alloc, device)?,
+            due: Vec::new(alloc),
             host: None,
             reads: 0,
             was_read: false,
             fault: None,
+            deeds: History::new(),
+            heard: History::new(),
+            gone: History::new(),
         })
     }
 
+    /// Puts a terminal anew in place of the one that is there.
+    fn renew(&mut self, alloc: Global) -> Result<(), AllocError>
+        ensures deeds { OnOk result (self.new.deeds ≡ self.old.deeds ++ Begun ∷ []) }
+        ensures heard { self.new.heard ≡ self.old.heard }
+        ensures gone { self.new.gone ≡ self.old.gone }
+        ensures host { self.new.host ≡ self.old.host }
+    {
+        let session = new_session(alloc, self.device)?;
+        self.session = session;
+        self.deeds = self.deeds.and(&Deed::Begun);
+        Ok(())
+    }
+
     /// Begins a session with a host.
-    pub(crate) fn open_session(&mut self, alloc: Global, host: Host) -> Result<(), AllocError> {
-        self.session = new_session(alloc, self.device)?;
+    pub(crate) fn open_session(&mut self, alloc: Global, host: Host) -> Result<(), AllocError>
+        ensures deeds { OnOk result (self.new.deeds ≡ self.old.deeds ++ Begun ∷ []) }
+        ensures heard { self.new.heard ≡ self.old.heard }
+        ensures gone { self.new.gone ≡ self.old.gone }
+        ensures host { OnOk result (self.new.host ≡ Some host) }
+    {
+        self.renew(alloc)?;
         self.host = Some(host);
         self.reads = 0;
         self.was_read = false;
@@ -56,29 +133,46 @@ impl Desk {
     }
 
     /// Ends the session. The screen stays.
-    pub(crate) fn close(&mut self) {
+    pub(crate) fn close(&mut self)
+        ensures { self.new ≡ record self.old { host = None } }
+    {
         self.host = None;
     }
 
-    fn fail(&mut self, why: RunFault) {
+    /// Ends a session that failed.
+    fn fail(&mut self, why: RunFault)
+        ensures { self.new ≡ record self.old { host = None } }
+    {
         self.fault = Some(why);
         self.host = None;
     }
 
-    /// Takes bytes of the host, and adds what is due to it: whether a record was shown, or answered.
-    pub(crate) fn hear(
-        &mut self,
-        alloc: Global,
-        bytes: &[u8],
-        due: &mut Vec<u8>,
-    ) -> Result<bool, AllocError> {
-        if self.reads >= MAX_READS {
-            self.fail(RunFault::Session(SessionFault::TooManyReads));
-            return Ok(false);
+    /// Takes bytes of the host.
+    fn take(&mut self, alloc: Global, bytes: &[u8]) -> Result<(), RunFault>
+        ensures deeds { self.new.deeds ≡ self.old.deeds ++ Heard (length bytes.now) ∷ [] }
+        ensures heard { self.new.heard ≡ self.old.heard ++ bytes.now }
+        ensures gone { self.new.gone ≡ self.old.gone }
+        ensures host { self.new.host ≡ self.old.host }
+    {
+        let told = self.session.take(alloc, bytes, &mut self.due);
+        self.deeds = self.deeds.and(&Deed::Heard(bytes.len()));
+        add_bytes(&mut self.heard, bytes);
+        match told {
+            Ok(_progress) => Ok(()),
+            Err(why) => Err(why),
         }
-        self.reads += 1;
-        match self.session.take(alloc, bytes, due) {
-            Ok(_progress) => Ok(self.has_arrived()),
+    }
+
+    /// Takes bytes of the host: whether a record was shown, or answered. After a fault of the session, and after 1,000,000 reads, the
+    /// session is over.
+    pub(crate) fn hear(&mut self, alloc: Global, bytes: &[u8]) -> Result<bool, AllocError>
+        ensures heard { self.new.heard ≡ self.old.heard ++ bytes.now }
+        ensures gone { self.new.gone ≡ self.old.gone }
+    {
+        let told = self.take(alloc, bytes);
+        self.count_read();
+        match told {
+            Ok(()) => Ok(self.has_arrived()),
             Err(RunFault::OutOfMemory) => Err(AllocError),
             Err(why) => {
                 self.fail(why);
@@ -87,8 +181,24 @@ impl Desk {
         }
     }
 
+    /// Counts a read, up to the last one.
+    fn count_read(&mut self)
+        ensures heard { self.new.heard ≡ self.old.heard }
+        ensures gone { self.new.gone ≡ self.old.gone }
+    {
+        self.reads = self.reads.saturating_add(1);
+        if self.reads >= MAX_READS {
+            self.fail(RunFault::Session(SessionFault::TooManyReads));
+        }
+    }
+
     /// Whether a record came since this was last asked.
-    fn has_arrived(&mut self) -> bool {
+    fn has_arrived(&mut self) -> bool
+        ensures deeds { self.new.deeds ≡ self.old.deeds }
+        ensures heard { self.new.heard ≡ self.old.heard }
+        ensures gone { self.new.gone ≡ self.old.gone }
+        ensures host { self.new.host ≡ self.old.host }
+    {
         let came = self.session.arrived().taken > 0;
         if came {
             self.was_read = false;
@@ -97,80 +207,155 @@ impl Desk {
     }
 
     /// Clears the screen of a terminal that isn't connected.
-    pub(crate) fn clear(&mut self, alloc: Global) -> Result<(), AllocError> {
-        self.session = new_session(alloc, self.device)?;
-        Ok(())
+    pub(crate) fn clear(&mut self, alloc: Global) -> Result<(), AllocError>
+        ensures deeds { OnOk result (self.new.deeds ≡ self.old.deeds ++ Begun ∷ []) }
+        ensures heard { self.new.heard ≡ self.old.heard }
+        ensures gone { self.new.gone ≡ self.old.gone }
+    {
+        self.renew(alloc)
     }
 
-    /// Presses a key, and adds what it sends.
-    pub(crate) fn press(
-        &mut self,
-        alloc: Global,
-        key: Key,
-        out: &mut Out,
-    ) -> Result<Pressed, AllocError> {
-        match self.session.press(alloc, key, &mut out.bytes) {
+    /// Presses a key.
+    pub(crate) fn press(&mut self, alloc: Global, key: &Key) -> Result<Pressed, AllocError>
+        ensures deeds { self.new.deeds ≡ self.old.deeds ++ PressedKey key.now ∷ [] }
+        ensures heard { self.new.heard ≡ self.old.heard }
+        ensures gone { self.new.gone ≡ self.old.gone }
+        ensures host { self.new.host ≡ self.old.host }
+    {
+        let deed = deed_of(*key);
+        let pressed = self.session.press(alloc, *key, &mut self.due);
+        self.deeds = self.deeds.and(&deed);
+        match pressed {
             Ok(pressed) => Ok(pressed),
-            Err(_why) => Err(AllocError),
+            Err(RunFault::OutOfMemory) => Err(AllocError),
+            Err(_why) => Ok(Pressed::Ignored),
         }
     }
 
     /// Presses a key so many times: whether it was inhibited.
-    fn press_run(&mut self, alloc: Global, run: Run, out: &mut Out) -> Result<bool, AllocError> {
+    fn press_times(&mut self, alloc: Global, key: &Key, times: u32) -> Result<bool, AllocError>
+        ensures deeds { OnOk result (self.new.deeds
+            ≡ self.old.deeds ++ replicate times (PressedKey key.now)) }
+        ensures heard { self.new.heard ≡ self.old.heard }
+        ensures gone { self.new.gone ≡ self.old.gone }
+        ensures host { self.new.host ≡ self.old.host }
+    {
         let mut inhibited = false;
-        'times: for _ in 0..run.times {
-            if self.press(alloc, run.key, out)? == Pressed::Inhibited {
-                inhibited = true;
-            }
+        'times: for _time in 0..times {
+            let pressed = self.press(alloc, key)?;
+            inhibited = inhibited || is_inhibited(pressed);
         }
         Ok(inhibited)
+    }
+
+    /// Presses the keys of a run: whether one was inhibited.
+    fn press_run(&mut self, alloc: Global, run: &Run) -> Result<bool, AllocError>
+        ensures deeds { OnOk result (self.new.deeds
+            ≡ self.old.deeds ++ map PressedKey (keys_of_run run.now)) }
+        ensures heard { self.new.heard ≡ self.old.heard }
+        ensures gone { self.new.gone ≡ self.old.gone }
+        ensures host { self.new.host ≡ self.old.host }
+    {
+        self.press_times(alloc, &run.key, run.times)
     }
 
     /// Presses keys in turn: whether one was inhibited.
-    pub(crate) fn press_runs(
-        &mut self,
-        alloc: Global,
-        runs: &[Run],
-        out: &mut Out,
-    ) -> Result<bool, AllocError> {
+    pub(crate) fn press_runs(&mut self, alloc: Global, runs: &[Run]) -> Result<bool, AllocError>
+        ensures deeds { OnOk result (self.new.deeds
+            ≡ self.old.deeds ++ map PressedKey (keys_of runs.now)) }
+        ensures heard { self.new.heard ≡ self.old.heard }
+        ensures gone { self.new.gone ≡ self.old.gone }
+        ensures host { self.new.host ≡ self.old.host }
+    {
         let mut inhibited = false;
         'runs: for run in runs {
-            if self.press_run(alloc, *run, out)? {
-                inhibited = true;
-            }
+            let stopped = self.press_run(alloc, run)?;
+            inhibited = inhibited || stopped;
         }
         Ok(inhibited)
     }
 
-    pub(crate) fn screen(&self) -> &Screen<PlaneCells> {
+    /// The bytes that are due to the host.
+    pub(crate) fn due(&self) -> &[u8]
+        ensures value { result.now ≡ self.now.due }
+        ensures did { DidAll self.now }
+    {
+        &self.due
+    }
+
+    /// Notes that they were handed out.
+    pub(crate) fn hand_out(&mut self)
+        ensures { self.new ≡ handed_due self.old }
+    {
+        add_bytes(&mut self.gone, &self.due);
+        self.due.clear();
+    }
+
+    pub(crate) fn screen(&self) -> &Screen<PlaneCells>
+        ensures { OfWaiting (λ state. state.terminal) self.now.talk result.now }
+    {
         self.session.screen()
     }
 
+    /// The records that made the screen.
+    pub(crate) fn turns(&self) -> Option<&[KeptRecord]>
+        ensures { OfWaiting (λ state. records_kept state.kept) self.now.talk
+            (option_map (λ kept. map kept_view kept.now) result) }
+    {
+        self.session.turns()
+    }
+
     /// Whether the keyboard waits for the host.
-    pub(crate) fn waits(&self) -> bool {
+    pub(crate) fn waits(&self) -> bool
+        ensures { OfWaiting (λ state. is_waiting state.terminal.lock) self.now.talk result }
+    {
         matches!(self.screen().lock(), Lock::Waiting)
     }
 
     /// Whether the keyboard is in error.
-    pub(crate) fn is_in_error(&self) -> bool {
+    pub(crate) fn is_in_error(&self) -> bool
+        ensures { OfWaiting (λ state. is_error state.terminal.lock) self.now.talk result }
+    {
         matches!(self.screen().lock(), Lock::Error)
     }
 
-    pub(crate) fn is_connected(&self) -> bool {
+    pub(crate) fn is_connected(&self) -> bool
+        ensures { result ≡ is_some self.now.host }
+    {
         self.host.is_some()
     }
 
     /// Whether records pass.
-    pub(crate) fn is_ready(&self) -> bool {
+    pub(crate) fn is_ready(&self) -> bool
+        ensures { result ≡ is_some (agreed_in self.now.talk) }
+    {
         self.session.is_ready()
     }
 
-    pub(crate) fn takes_input(&self) -> bool {
+    pub(crate) fn takes_input(&self) -> bool
+        ensures { result ≡ takes_input_in self.now.talk }
+    {
         self.session.takes_input()
     }
 
+    /// Whether the screen was read since a record came.
+    pub(crate) fn was_read(&self) -> bool
+        ensures { result ≡ self.now.was_read }
+    {
+        self.was_read
+    }
+
+    /// Notes that the screen was read.
+    pub(crate) fn note_read(&mut self)
+        ensures { self.new ≡ record self.old { was_read = true } }
+    {
+        self.was_read = true;
+    }
+
     /// Why the last session failed, once.
-    pub(crate) fn take_fault(&mut self) -> Option<RunFault> {
+    pub(crate) fn take_fault(&mut self) -> Option<RunFault>
+        ensures { self.new ≡ self.old }
+    {
         self.fault.take()
     }
 
@@ -199,17 +384,16 @@ impl Desk {
         }
     }
 
+    pub(crate) fn host(&self) -> &Option<Host>
+        ensures { result.now ≡ self.now.host }
+    {
+        &self.host
+    }
+
     /// What is known of the connection.
-    pub(crate) fn connection(&self) -> Option<Connection<'_>> {
-        let protocol = self.protocol();
-        match &self.host {
-            Some(host) => Some(Connection {
-                host: &host.name,
-                port: host.port,
-                protocol,
-                lu_name: &[],
-            }),
-            None => None,
-        }
+    pub(crate) fn connection(&self) -> Option<Connection<'_>>
+        ensures { LinkIsWhole (link_seen result) }
+    {
+        connection_to(&self.host, self.protocol())
     }
 }

@@ -1,6 +1,7 @@
 //! What a line of a script waits for.
 
-use crate::came::Wants;
+use crate::came::Need;
+use crate::host::Host;
 use script_keys::Keys;
 use script_requests::Wait;
 use script_screens::Outcome;
@@ -12,14 +13,6 @@ pub(crate) struct Typing {
     pub(crate) text: Vec<u8>,
     /// A key of it was sent.
     pub(crate) after_send: bool,
-}
-
-/// The host of a connection.
-#[derive(Debug, Drop)]
-pub(crate) struct Host {
-    /// Its name or number, as it was given.
-    pub(crate) name: Vec<u8>,
-    pub(crate) port: u16,
 }
 
 /// What is under way.
@@ -42,6 +35,8 @@ pub(crate) enum Doing {
     Waiting(Wait),
     /// The screen is written to this file.
     Writing(Vec<u8>),
+    /// The screen is judged by the layout of this file.
+    Checking(Vec<u8>),
 }
 
 /// How far an action has come.
@@ -50,7 +45,7 @@ pub(crate) enum Step {
     /// It is over.
     Ended(Outcome),
     /// It goes on once this came.
-    Waits(Doing, Wants),
+    Waits(Doing, Need),
     /// It ends the script.
     Quits,
 }

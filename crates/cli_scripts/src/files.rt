@@ -1,7 +1,7 @@
 //! Actions that read or write a file.
 
-use crate::answer::fail;
-use crate::came::Wants;
+use crate::answer::Saying;
+use crate::came::Need;
 use crate::doing::{Doing, Step};
 use script_screens::Outcome;
 use std::alloc::{AllocError, Global};
@@ -41,7 +41,7 @@ pub(crate) fn printing_of(arguments: &[Vec<u8>]) -> Printing<'_> {
 
 /// Asks for the screen in a file.
 pub(crate) fn write_page(alloc: Global, path: &[u8]) -> Result<Step, AllocError> {
-    Ok(Step::Waits(Doing::Writing(path.to_vec(alloc)?), Wants::Page))
+    Ok(Step::Waits(Doing::Writing(path.to_vec(alloc)?), Need::Page))
 }
 
 /// Says why a file could not be written.
@@ -49,12 +49,20 @@ pub(crate) fn unwritten(
     alloc: Global,
     path: &[u8],
     why: &[u8],
-    lines: &mut Vec<u8>,
+    saying: &mut Saying,
 ) -> Result<Outcome, AllocError> {
     let mut text = Vec::new(alloc);
     text.extend_from_slice(b"PrintText(): ")?;
     text.extend_from_slice(path)?;
     text.extend_from_slice(b": ")?;
     text.extend_from_slice(why)?;
-    fail(lines, &text)
+    saying.fail(alloc, &text)
+}
+
+/// Asks for the text of a layout.
+pub(crate) fn read_layout(alloc: Global, arguments: &[Vec<u8>]) -> Result<Step, AllocError> {
+    match arguments {
+        [path, ..] => Ok(Step::Waits(Doing::Checking(path.to_vec(alloc)?), Need::Layout)),
+        [] => Ok(Step::Ended(Outcome::Done)),
+    }
 }

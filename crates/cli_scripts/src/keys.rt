@@ -1,10 +1,11 @@
 //! Actions that press keys.
 
-use crate::answer::{Out, fail};
-use crate::came::Wants;
+ghost use Rattle.cli_scripts.specs.Desks.{Keeps};
+
+use crate::answer::Saying;
+use crate::came::Need;
 use crate::desk::Desk;
 use crate::doing::{Doing, Step};
-use ds_codec::Aid;
 use ds_keys::Key;
 use script_keys::{Keys, runs_of, typed_runs};
 use script_screens::Outcome;
@@ -13,19 +14,21 @@ use std::alloc::{AllocError, Global};
 /// What is said where a key can't act.
 const LOCKED: &[u8] = b"Keyboard locked";
 
-fn is_reset(keys: Keys) -> bool {
+fn is_reset(keys: &Keys) -> bool {
     matches!(keys, Keys::Plain(Key::Reset))
 }
 
-fn is_clear(keys: Keys) -> bool {
+fn is_clear(keys: &Keys) -> bool {
     match keys {
-        Keys::Plain(Key::Attention(aid)) => aid == Aid::clear(),
+        Keys::Plain(Key::Attention(aid)) => aid.byte() == 0x6D,
         _ => false,
     }
 }
 
 /// Presses keys at a terminal that isn't connected: Clear clears its screen, the others do nothing.
-fn press_unconnected(alloc: Global, desk: &mut Desk, keys: Keys) -> Result<Step, AllocError> {
+fn press_unconnected(alloc: Global, desk: &mut Desk, keys: &Keys) -> Result<Step, AllocError>
+    ensures { Keeps desk.old desk.new }
+{
     if is_clear(keys) {
         desk.clear(alloc)?;
     }
@@ -36,15 +39,17 @@ fn press_unconnected(alloc: Global, desk: &mut Desk, keys: Keys) -> Result<Step,
 fn press_now(
     alloc: Global,
     desk: &mut Desk,
-    keys: Keys,
-    out: &mut Out,
-) -> Result<Step, AllocError> {
-    let runs = runs_of(alloc, desk.screen(), keys)?;
-    if desk.press_runs(alloc, &runs, out)? {
-        return Ok(Step::Ended(fail(&mut out.lines, LOCKED)?));
+    keys: &Keys,
+    saying: &mut Saying,
+) -> Result<Step, AllocError>
+    ensures { Keeps desk.old desk.new }
+{
+    let runs = runs_of(alloc, desk.screen(), *keys)?;
+    if desk.press_runs(alloc, &runs)? {
+        return Ok(Step::Ended(saying.fail(alloc, LOCKED)?));
     }
     if desk.waits() && !is_reset(keys) {
-        return Ok(Step::Waits(Doing::Sent, Wants::Bytes));
+        return Ok(Step::Waits(Doing::Sent, Need::Bytes));
     }
     Ok(Step::Ended(Outcome::Done))
 }
@@ -53,16 +58,18 @@ fn press_now(
 pub(crate) fn press(
     alloc: Global,
     desk: &mut Desk,
-    keys: Keys,
-    out: &mut Out,
-) -> Result<Step, AllocError> {
+    keys: &Keys,
+    saying: &mut Saying,
+) -> Result<Step, AllocError>
+    ensures { Keeps desk.old desk.new }
+{
     if !desk.is_connected() {
         return press_unconnected(alloc, desk, keys);
     }
     if desk.waits() && !is_reset(keys) {
-        return Ok(Step::Waits(Doing::Pressing(keys), Wants::Bytes));
+        return Ok(Step::Waits(Doing::Pressing(*keys), Need::Bytes));
     }
-    press_now(alloc, desk, keys, out)
+    press_now(alloc, desk, keys, saying)
 }
 
 /// Types a character, once the keyboard doesn't wait.
@@ -71,17 +78,19 @@ pub(crate) fn type_code(
     desk: &mut Desk,
     fills: bool,
     code: u8,
-    out: &mut Out,
-) -> Result<Step, AllocError> {
+    saying: &mut Saying,
+) -> Result<Step, AllocError>
+    ensures { Keeps desk.old desk.new }
+{
     if !desk.is_connected() {
         return Ok(Step::Ended(Outcome::Done));
     }
     if desk.waits() {
-        return Ok(Step::Waits(Doing::TypingCode(code), Wants::Bytes));
+        return Ok(Step::Waits(Doing::TypingCode(code), Need::Bytes));
     }
     let runs = typed_runs(alloc, desk.screen(), fills, code)?;
-    if desk.press_runs(alloc, &runs, out)? {
-        return Ok(Step::Ended(fail(&mut out.lines, LOCKED)?));
+    if desk.press_runs(alloc, &runs)? {
+        return Ok(Step::Ended(saying.fail(alloc, LOCKED)?));
     }
     Ok(Step::Ended(Outcome::Done))
 }
@@ -89,7 +98,7 @@ pub(crate) fn type_code(
 /// What a key that sent waits for: whether it still does.
 pub(crate) fn after_sent(desk: &Desk) -> Step {
     if desk.is_connected() && desk.waits() {
-        Step::Waits(Doing::Sent, Wants::Bytes)
+        Step::Waits(Doing::Sent, Need::Bytes)
     } else {
         Step::Ended(Outcome::Done)
     }

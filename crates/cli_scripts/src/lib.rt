@@ -4,9 +4,12 @@
 mod answer;
 mod came;
 mod connecting;
+mod deed;
 mod desk;
 mod doing;
 mod files;
+mod host;
+mod kept;
 mod keys;
 mod machine;
 mod reading;
@@ -15,10 +18,11 @@ mod script;
 mod settings;
 mod typing;
 mod waiting;
+mod worker;
 mod world;
 
-pub use answer::Out;
-pub use came::{Came, Wants};
+pub use came::{Came, Need, Wants};
+pub use deed::Deed;
 pub use machine::Machine;
 pub use run::run_script;
 pub use world::{Heard, Patience, World};

@@ -1,59 +1,13 @@
 //! Actions that read a screen.
 
-use crate::answer::fail;
+ghost use Rattle.cli_scripts.specs.Desks.{Keeps};
+
+use crate::answer::Saying;
 use crate::desk::Desk;
-use crate::doing::Host;
-use ds_screen::{PlaneCells, Screen};
+use crate::kept::KeptScreen;
 use script_keys::Name;
-use script_screens::{
-    CodePage, Connection, Device, Kept, Outcome, Protocol, Query, Reading, Snap, SnapFault,
-    push_kept, push_query, push_reading, push_snap_fault, snap_of,
-};
+use script_screens::{CodePage, Kept, Outcome, Reading, Snap, SnapFault, snap_of};
 use std::alloc::{AllocError, Global};
-
-/// A screen that Snap keeps, and what was known of its connection.
-#[derive(Drop)]
-pub(crate) struct KeptScreen {
-    screen: Screen<PlaneCells>,
-    host: Option<Host>,
-    protocol: Protocol,
-    model: u8,
-}
-
-/// A copy of a host's name and port.
-fn copied_host(alloc: Global, host: Option<Connection<'_>>) -> Result<Option<Host>, AllocError> {
-    match host {
-        Some(Connection { host, port, .. }) => Ok(Some(Host {
-            name: host.to_vec(alloc)?,
-            port,
-        })),
-        None => Ok(None),
-    }
-}
-
-impl KeptScreen {
-    /// A copy of what is shown.
-    fn of(alloc: Global, desk: &Desk) -> Result<KeptScreen, AllocError> {
-        Ok(KeptScreen {
-            screen: desk.screen().copied(alloc)?,
-            host: copied_host(alloc, desk.connection())?,
-            protocol: desk.protocol(),
-            model: desk.model(),
-        })
-    }
-
-    fn connection(&self) -> Option<Connection<'_>> {
-        match &self.host {
-            Some(host) => Some(Connection {
-                host: &host.name,
-                port: host.port,
-                protocol: self.protocol,
-                lu_name: &[],
-            }),
-            None => None,
-        }
-    }
-}
 
 /// The action that reads the screen, of a name.
 pub(crate) fn reading_named(name: Name) -> Option<Reading> {
@@ -71,14 +25,17 @@ pub(crate) fn reading_named(name: Name) -> Option<Reading> {
 
 /// Reads the screen.
 pub(crate) fn read(
+    alloc: Global,
     desk: &mut Desk,
     code_page: CodePage,
     reading: Reading,
     arguments: &[Vec<u8>],
-    lines: &mut Vec<u8>,
-) -> Result<Outcome, AllocError> {
-    let outcome = push_reading(lines, desk.screen(), code_page, reading, arguments)?;
-    desk.was_read = true;
+    saying: &mut Saying,
+) -> Result<Outcome, AllocError>
+    ensures { Keeps desk.old desk.new }
+{
+    let outcome = saying.read(alloc, desk.screen(), code_page, reading, arguments)?;
+    desk.note_read();
     Ok(outcome)
 }
 
@@ -92,23 +49,16 @@ fn after_first(arguments: &[Vec<u8>]) -> &[Vec<u8>] {
 
 /// Says what is read of what was kept.
 fn say_kept(
+    alloc: Global,
     kept_screen: &Option<KeptScreen>,
     code_page: CodePage,
     kept: Kept,
     arguments: &[Vec<u8>],
-    lines: &mut Vec<u8>,
+    saying: &mut Saying,
 ) -> Result<Outcome, AllocError> {
     match kept_screen {
-        Some(it) => push_kept(
-            lines,
-            &it.screen,
-            it.connection(),
-            it.model,
-            code_page,
-            kept,
-            after_first(arguments),
-        ),
-        None => push_snap_fault(lines, SnapFault::NotSaved),
+        Some(it) => saying.read_kept(alloc, it, code_page, kept, after_first(arguments)),
+        None => saying.fail_snap(alloc, SnapFault::NotSaved),
     }
 }
 
@@ -119,44 +69,14 @@ pub(crate) fn snap(
     kept_screen: &mut Option<KeptScreen>,
     code_page: CodePage,
     arguments: &[Vec<u8>],
-    lines: &mut Vec<u8>,
+    saying: &mut Saying,
 ) -> Result<Outcome, AllocError> {
     match snap_of(arguments) {
         Snap::Save => {
             *kept_screen = Some(KeptScreen::of(alloc, desk)?);
             Ok(Outcome::Done)
         }
-        Snap::Kept(kept) => say_kept(kept_screen, code_page, kept, arguments, lines),
-        Snap::Fault(fault) => push_snap_fault(lines, fault),
+        Snap::Kept(kept) => say_kept(alloc, kept_screen, code_page, kept, arguments, saying),
+        Snap::Fault(fault) => saying.fail_snap(alloc, fault),
     }
-}
-
-/// Says what is asked of the session.
-pub(crate) fn query(
-    alloc: Global,
-    desk: &Desk,
-    version: &[u8],
-    query: Query,
-    arguments: &[Vec<u8>],
-    lines: &mut Vec<u8>,
-) -> Result<Outcome, AllocError> {
-    let name = desk.device().name();
-    let device = Device {
-        name: &name,
-        version,
-    };
-    push_query(
-        alloc,
-        lines,
-        desk.screen(),
-        desk.connection(),
-        device,
-        query,
-        arguments,
-    )
-}
-
-/// Says that what was asked for can't be had.
-pub(crate) fn refuse(lines: &mut Vec<u8>, words: &[u8]) -> Result<Outcome, AllocError> {
-    fail(lines, words)
 }

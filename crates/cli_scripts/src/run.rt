@@ -1,18 +1,29 @@
 //! The command `script`, over what it is worked over.
 
-use crate::answer::Out;
-use crate::came::{Came, Wants};
+ghost use Rattle.std.specs.Prelude.{◌≡◌, ◌++◌, ℕ, List, true, false, IfOk, OnOk};
+ghost use Rattle.std.specs.Bool.{OnTrue};
+ghost use Rattle.std.specs.Io.KnownBytes.{Appends};
+ghost use Rattle.cli_commands.specs.Streams.{AppendsFront};
+ghost use Rattle.cli_scripts.specs.Desks.{Keeps, DidAll};
+ghost use Rattle.cli_scripts.specs.Answers.{AreAnswers};
+ghost use Rattle.cli_scripts.specs.Machines.{AnswersSo};
+ghost use Rattle.cli_scripts.specs.Worlds.{Exchanged, Took, Tells, TellsAll, ended_status, is_need};
+ghost use Rattle.cli_scripts.specs.declared.run.Ended.TheVariants.{Over};
+ghost use Rattle.cli_commands.specs.declared.status.Status.TheVariants.{Done};
+
+use crate::came::{Came, Need, Wants};
 use crate::machine::Machine;
 use crate::script::{Asked, Script};
 use crate::world::{Heard, Patience, World};
 use cli_commands::{CommandError, GivesBytes, Status, TakesBytes};
+use script_checks::LayoutText;
 use std::alloc::{AllocError, Global};
 
 /// How many bytes a read of the host gives at most.
 const PIECE: usize = 4_096;
 
 /// Why a script is over.
-#[derive(Clone, Copy)]
+#[derive(Clone, Copy, PartialEq, Eq)]
 enum Ended {
     /// It ended, or was told to.
     Over,
@@ -42,20 +53,16 @@ fn take_line<R: GivesBytes>(
     alloc: Global,
     machine: &mut Machine,
     script: &mut Script<'_, R>,
-    out: &mut Out,
-) -> Result<Wants, Ended> {
+) -> Result<Wants, Ended>
+    requires { machine.old.is_busy ≡ false }
+    ensures desk { Keeps machine.old.desk machine.new.desk }
+    ensures gone { machine.new.telling.gone ≡ machine.old.telling.gone }
+    ensures answered { IfOk result (λ wants. AnswersSo true machine.old wants machine.new) }
+{
     match script.next()? {
-        Asked::Line(line) => Ok(machine.take(alloc, Came::Line(line), out)?),
-        Asked::LongLine => Ok(machine.take(alloc, Came::LongLine, out)?),
+        Asked::Line(line) => Ok(machine.take(alloc, Came::Line(line))?),
+        Asked::LongLine => Ok(machine.take(alloc, Came::LongLine)?),
         Asked::End => Err(Ended::Over),
-    }
-}
-
-/// What came where a read gave nothing.
-fn nothing_for(patience: Patience) -> Came<'static> {
-    match patience {
-        Patience::None => Came::Nothing,
-        Patience::Endless | Patience::Within { .. } => Came::Late,
     }
 }
 
@@ -65,16 +72,22 @@ fn take_read<W: World>(
     machine: &mut Machine,
     world: &mut W,
     patience: Patience,
-    out: &mut Out,
-) -> Result<Wants, AllocError> {
+) -> Result<Wants, AllocError>
+    requires { machine.old.is_busy ≡ true }
+    ensures took { Took machine.old.desk machine.new.desk (W.sent world.old) (W.sent world.new)
+        (W.received world.old) (W.received world.new) }
+    ensures gone { machine.new.telling.gone ≡ machine.old.telling.gone }
+    ensures answered { IfOk result (λ wants. AnswersSo true machine.old wants machine.new) }
+{
     let mut piece = [0; PIECE];
     match world.read(&mut piece, patience) {
         Heard::Bytes(count) => {
             let bytes = &piece[..count.min(PIECE)];
-            machine.take(alloc, Came::Bytes(bytes), out)
+            machine.take(alloc, Came::Bytes(bytes))
         }
-        Heard::Nothing => machine.take(alloc, nothing_for(patience), out),
-        Heard::Closed => machine.take(alloc, Came::Closed, out),
+        Heard::Nothing if matches!(patience, Patience::None) => machine.take(alloc, Came::Nothing),
+        Heard::Nothing => machine.take(alloc, Came::Late),
+        Heard::Closed => machine.take(alloc, Came::Closed),
     }
 }
 
@@ -83,17 +96,22 @@ fn take_connection<W: World>(
     alloc: Global,
     machine: &mut Machine,
     world: &mut W,
-    out: &mut Out,
-) -> Result<Wants, AllocError> {
+) -> Result<Wants, AllocError>
+    requires { machine.old.is_busy ≡ true }
+    ensures took { Took machine.old.desk machine.new.desk (W.sent world.old) (W.sent world.new)
+        (W.received world.old) (W.received world.new) }
+    ensures gone { machine.new.telling.gone ≡ machine.old.telling.gone }
+    ensures answered { IfOk result (λ wants. AnswersSo true machine.old wants machine.new) }
+{
     let mut cause = Vec::new(alloc);
     let connected = match machine.wanted_host() {
         Some((host, port)) => world.connect(host, port, &mut cause),
         None => false,
     };
     if connected {
-        machine.take(alloc, Came::Connected, out)
+        machine.take(alloc, Came::Connected)
     } else {
-        machine.take(alloc, Came::Unconnected(&cause), out)
+        machine.take(alloc, Came::Unconnected(&cause))
     }
 }
 
@@ -102,42 +120,76 @@ fn take_page<W: World>(
     alloc: Global,
     machine: &mut Machine,
     world: &mut W,
-    out: &mut Out,
-) -> Result<Wants, AllocError> {
+) -> Result<Wants, AllocError>
+    requires { machine.old.is_busy ≡ true }
+    ensures took { Took machine.old.desk machine.new.desk (W.sent world.old) (W.sent world.new)
+        (W.received world.old) (W.received world.new) }
+    ensures gone { machine.new.telling.gone ≡ machine.old.telling.gone }
+    ensures answered { IfOk result (λ wants. AnswersSo true machine.old wants machine.new) }
+{
     let mut cause = Vec::new(alloc);
     let written = match machine.wanted_file() {
         Some(path) => world.write_page(path, machine.screen(), &mut cause),
         None => false,
     };
     if written {
-        machine.take(alloc, Came::Written, out)
+        machine.take(alloc, Came::Written)
     } else {
-        machine.take(alloc, Came::Unwritten(&cause), out)
+        machine.take(alloc, Came::Unwritten(&cause))
     }
 }
 
-/// Gives what is wanted, and tells what is wanted next.
+/// Reads the layout's file that is wanted.
+fn take_layout<W: World>(
+    alloc: Global,
+    machine: &mut Machine,
+    world: &mut W,
+) -> Result<Wants, AllocError>
+    requires { machine.old.is_busy ≡ true }
+    ensures took { Took machine.old.desk machine.new.desk (W.sent world.old) (W.sent world.new)
+        (W.received world.old) (W.received world.new) }
+    ensures gone { machine.new.telling.gone ≡ machine.old.telling.gone }
+    ensures answered { IfOk result (λ wants. AnswersSo true machine.old wants machine.new) }
+{
+    let mut text = Vec::new(alloc);
+    let read = match machine.wanted_file() {
+        Some(path) => world.read_file(path, &mut text),
+        None => false,
+    };
+    if read {
+        machine.take(alloc, Came::Layout(LayoutText::Text(&text)))
+    } else {
+        machine.take(alloc, Came::Layout(LayoutText::Unreadable(&text)))
+    }
+}
+
+/// Gives what is needed, and tells what is wanted next.
 fn give<W: World>(
     alloc: Global,
     machine: &mut Machine,
     world: &mut W,
-    wants: Wants,
-    out: &mut Out,
-) -> Result<Wants, AllocError> {
-    match wants {
-        Wants::Arrived => take_read(alloc, machine, world, Patience::None, out),
-        Wants::Bytes => take_read(alloc, machine, world, Patience::Endless, out),
-        Wants::BytesWithin { limit, begins } => {
+    need: Need,
+) -> Result<Wants, AllocError>
+    requires { machine.old.is_busy ≡ true }
+    ensures took { Took machine.old.desk machine.new.desk (W.sent world.old) (W.sent world.new)
+        (W.received world.old) (W.received world.new) }
+    ensures gone { machine.new.telling.gone ≡ machine.old.telling.gone }
+    ensures answered { IfOk result (λ wants. AnswersSo true machine.old wants machine.new) }
+{
+    match need {
+        Need::Arrived => take_read(alloc, machine, world, Patience::None),
+        Need::Bytes => take_read(alloc, machine, world, Patience::Endless),
+        Need::BytesWithin { limit, begins } => {
             let patience = Patience::Within { limit, begins };
-            take_read(alloc, machine, world, patience, out)
+            take_read(alloc, machine, world, patience)
         }
-        Wants::Pause(time) => {
+        Need::Pause(time) => {
             world.pause(time);
-            machine.take(alloc, Came::Late, out)
+            machine.take(alloc, Came::Late)
         }
-        Wants::Connection => take_connection(alloc, machine, world, out),
-        Wants::Page => take_page(alloc, machine, world, out),
-        Wants::Line | Wants::Nothing => Ok(wants),
+        Need::Connection => take_connection(alloc, machine, world),
+        Need::Page => take_page(alloc, machine, world),
+        Need::Layout => take_layout(alloc, machine, world),
     }
 }
 
@@ -148,20 +200,30 @@ fn turn<R: GivesBytes, W: World>(
     script: &mut Script<'_, R>,
     world: &mut W,
     wants: Wants,
-    out: &mut Out,
-) -> Result<Wants, Ended> {
+) -> Result<Wants, Ended>
+    requires { machine.old.is_busy ≡ is_need wants }
+    ensures took { Took machine.old.desk machine.new.desk (W.sent world.old) (W.sent world.new)
+        (W.received world.old) (W.received world.new) }
+    ensures gone { machine.new.telling.gone ≡ machine.old.telling.gone }
+    ensures answered { IfOk result (λ wants. AnswersSo true machine.old wants machine.new) }
+{
     match wants {
-        Wants::Line => take_line(alloc, machine, script, out),
+        Wants::Line => take_line(alloc, machine, script),
         Wants::Nothing => Err(Ended::Over),
-        _ => Ok(give(alloc, machine, world, wants, out)?),
+        Wants::Need(need) => Ok(give(alloc, machine, world, need)?),
     }
 }
 
 /// Sends what is due to the host, and ends the line to it where the session is over.
-fn send<W: World>(machine: &mut Machine, world: &mut W, out: &mut Out) {
-    if !out.bytes.is_empty() {
-        world.write(&out.bytes);
-        out.bytes.clear();
+fn send<W: World>(machine: &mut Machine, world: &mut W)
+    ensures { (given : List ℕ) × (machine.new.desk.gone ≡ machine.old.desk.gone ++ given)
+        × (W.sent world.new ≡ W.sent world.old ++ given)
+        × (machine.new.desk.heard ≡ machine.old.desk.heard) × (W.received world.new ≡ W.received world.old)
+        × (machine.new.telling ≡ machine.old.telling) × (machine.new.is_busy ≡ machine.old.is_busy) }
+{
+    if !machine.due().is_empty() {
+        world.write(machine.due());
+        machine.hand_out_due();
     }
     if !machine.is_connected() {
         world.hang_up();
@@ -172,7 +234,10 @@ fn send<W: World>(machine: &mut Machine, world: &mut W, out: &mut Out) {
 }
 
 /// Writes lines and passes them on: whether every byte was taken.
-fn write_lines<O: TakesBytes>(output: &mut O, lines: &[u8]) -> bool {
+fn write_lines<O: TakesBytes>(output: &mut O, lines: &[u8]) -> bool
+    ensures all { OnTrue result (Appends (O.contents output.old) (O.contents output.new) lines.now) }
+    ensures front { AppendsFront (O.contents output.old) (O.contents output.new) lines.now }
+{
     let mut rest = lines;
     'writes: while !rest.is_empty() {
         match output.put(rest) {
@@ -183,13 +248,19 @@ fn write_lines<O: TakesBytes>(output: &mut O, lines: &[u8]) -> bool {
     output.pass_on().is_some()
 }
 
-/// Gives the answer of a line to the tool once it is whole.
-fn answer<O: TakesBytes>(output: &mut O, wants: Wants, out: &mut Out) -> Result<(), Ended> {
-    if out.lines.is_empty() || !matches!(wants, Wants::Line | Wants::Nothing) {
+/// Gives the answers that are whole to the tool.
+fn answer<O: TakesBytes>(machine: &mut Machine, output: &mut O) -> Result<(), Ended>
+    ensures told { Tells machine.old machine.new (O.contents output.old) (O.contents output.new) }
+    ensures whole { OnOk result (TellsAll machine.old machine.new (O.contents output.old)
+        (O.contents output.new)) }
+    ensures desk { machine.new.desk ≡ machine.old.desk }
+    ensures busy { machine.new.is_busy ≡ machine.old.is_busy }
+{
+    if machine.lines().is_empty() {
         return Ok(());
     }
-    let taken = write_lines(output, &out.lines);
-    out.lines.clear();
+    let taken = write_lines(output, machine.lines());
+    machine.hand_out_lines();
     if taken { Ok(()) } else { Err(Ended::Failed) }
 }
 
@@ -200,16 +271,50 @@ fn work<R: GivesBytes, O: TakesBytes, W: World>(
     script: &mut Script<'_, R>,
     output: &mut O,
     world: &mut W,
-) -> Result<(), Ended> {
-    let mut out = Out::new(alloc);
+) -> Ended
+    requires { machine.old.is_busy ≡ false }
+    ensures exchanged { Exchanged machine.old.desk machine.new.desk (W.sent world.old)
+        (W.sent world.new) (W.received world.old) (W.received world.new) }
+    ensures told { Tells machine.old machine.new (O.contents output.old) (O.contents output.new) }
+    ensures whole { result ≡ Over → TellsAll machine.old machine.new (O.contents output.old)
+        (O.contents output.new) }
+{
     let mut wants = Wants::Line;
     'turns: for _turn in 0..u64::MAX {
-        let given = turn(alloc, machine, script, world, wants, &mut out);
-        send(machine, world, &mut out);
-        wants = given?;
-        answer(output, wants, &mut out)?;
+        let given = turn(alloc, machine, script, world, wants);
+        send(machine, world);
+        match given {
+            Ok(next) => wants = next,
+            Err(why) => return why,
+        }
+        if let Err(why) = answer(machine, output) {
+            return why;
+        }
     }
-    Err(Ended::Failed)
+    Ended::Failed
+}
+
+/// The status of a script that is over.
+fn ended_status(ended: Ended) -> Status
+    ensures { result ≡ ended_status ended }
+{
+    match ended {
+        Ended::Over => Status::Done,
+        Ended::Failed => Status::Failed,
+        Ended::NoMemory => Status::NoMemory,
+    }
+}
+
+/// The status of a script that is over, and what its machine says of itself.
+fn ended_with(machine: &Machine, ended: Ended) -> Status
+    ensures status { result ≡ ended_status ended }
+    ensures did { DidAll machine.now.desk }
+    ensures answers { AreAnswers machine.now.telling.outcomes
+        (machine.now.telling.gone ++ machine.now.telling.lines) }
+{
+    let _due = machine.due();
+    let _lines = machine.lines();
+    ended_status(ended)
 }
 
 /// Works a terminal by the lines of a script: each is answered by its data lines, a status line, and `ok` or `error`. The status is `Done`
@@ -220,13 +325,23 @@ pub fn run_script<R: GivesBytes, O: TakesBytes, W: World>(
     script: &mut R,
     output: &mut O,
     world: &mut W,
-) -> Status {
+) -> Status
+    requires { machine.old.is_busy ≡ false }
+    // What the hosts gave was heard, and what was due went to them, in order and once;
+    ensures exchanged { Exchanged machine.old.desk machine.new.desk (W.sent world.old)
+        (W.sent world.new) (W.received world.old) (W.received world.new) }
+    // that is what the sessions gave for what was heard and the keys that were pressed.
+    ensures did { DidAll machine.new.desk }
+    // Answers alone were written, each of data lines, one status line, and how the line ended.
+    ensures told { Tells machine.old machine.new (O.contents output.old) (O.contents output.new) }
+    ensures whole { result ≡ Done → TellsAll machine.old machine.new (O.contents output.old)
+        (O.contents output.new) }
+    ensures answers { AreAnswers machine.new.telling.outcomes
+        (machine.new.telling.gone ++ machine.new.telling.lines) }
+{
     let Ok(mut lines) = Script::new(alloc, script) else {
-        return Status::NoMemory;
+        return ended_with(machine, Ended::NoMemory);
     };
-    match work(alloc, machine, &mut lines, output, world) {
-        Ok(()) | Err(Ended::Over) => Status::Done,
-        Err(Ended::Failed) => Status::Failed,
-        Err(Ended::NoMemory) => Status::NoMemory,
-    }
+    let ended = work(alloc, machine, &mut lines, output, world);
+    ended_with(machine, ended)
 }

@@ -1,6 +1,6 @@
 //! Set and Toggle.
 
-use crate::answer::{fail, say};
+use crate::answer::Saying;
 use script_screens::Outcome;
 use std::alloc::{AllocError, Global};
 
@@ -105,17 +105,17 @@ impl Settings {
 /// Adds the data line of a name that nothing has.
 fn fail_unknown(
     alloc: Global,
-    lines: &mut Vec<u8>,
+    saying: &mut Saying,
     verb: Verb,
     name: &[u8],
 ) -> Result<Outcome, AllocError> {
-    fail_quoting(alloc, lines, verb, "Unknown toggle name '", name, "'")
+    fail_quoting(alloc, saying, verb, "Unknown toggle name '", name, "'")
 }
 
 /// Adds the data line of a fault with a word of the script in it.
 fn fail_quoting(
     alloc: Global,
-    lines: &mut Vec<u8>,
+    saying: &mut Saying,
     verb: Verb,
     before: &str,
     word: &[u8],
@@ -127,7 +127,7 @@ fn fail_quoting(
     text.extend_from_slice(before.as_bytes())?;
     text.extend_from_slice(word)?;
     text.extend_from_slice(after.as_bytes())?;
-    fail(lines, &text)
+    saying.fail(alloc, &text)
 }
 
 /// Says what is set, or turns it over.
@@ -136,14 +136,14 @@ fn ask_or_turn(
     settings: &mut Settings,
     verb: Verb,
     name: &[u8],
-    lines: &mut Vec<u8>,
+    saying: &mut Saying,
 ) -> Result<Outcome, AllocError> {
     let Some(toggle) = toggle_named(name) else {
-        return fail_unknown(alloc, lines, verb, name);
+        return fail_unknown(alloc, saying, verb, name);
     };
     let value = settings.value(toggle);
     match verb {
-        Verb::Set => say(lines, value_word(value).as_bytes())?,
+        Verb::Set => saying.say(alloc, value_word(value).as_bytes())?,
         Verb::Toggle => *settings = settings.with(toggle, !value),
     }
     Ok(Outcome::Done)
@@ -156,29 +156,36 @@ fn assign(
     verb: Verb,
     name: &[u8],
     word: &[u8],
-    lines: &mut Vec<u8>,
+    saying: &mut Saying,
 ) -> Result<Outcome, AllocError> {
     let Some(toggle) = toggle_named(name) else {
-        return fail_unknown(alloc, lines, verb, name);
+        return fail_unknown(alloc, saying, verb, name);
     };
     let Some(value) = value_named(word) else {
         let name = toggle_name(toggle).as_bytes();
-        return fail_quoting(alloc, lines, verb, "", name, " value must be true or false");
+        return fail_quoting(
+            alloc,
+            saying,
+            verb,
+            "",
+            name,
+            " value must be true or false",
+        );
     };
     *settings = settings.with(toggle, value);
     Ok(Outcome::Done)
 }
 
 /// Says all that can be set.
-fn say_all(settings: Settings, lines: &mut Vec<u8>) -> Result<Outcome, AllocError> {
+fn say_all(alloc: Global, settings: Settings, saying: &mut Saying) -> Result<Outcome, AllocError> {
     'toggles: for toggle in [Toggle::AidWait, Toggle::BlankFill, Toggle::MonoCase] {
         let name = toggle_name(toggle);
         let value = value_word(settings.value(toggle));
-        lines.extend_from_slice(b"data: ")?;
-        lines.extend_from_slice(name.as_bytes())?;
-        lines.extend_from_slice(b": ")?;
-        lines.extend_from_slice(value.as_bytes())?;
-        lines.extend_from_slice(b"\n")?;
+        let mut text = Vec::new(alloc);
+        text.extend_from_slice(name.as_bytes())?;
+        text.extend_from_slice(b": ")?;
+        text.extend_from_slice(value.as_bytes())?;
+        saying.say(alloc, &text)?;
     }
     Ok(Outcome::Done)
 }
@@ -189,12 +196,12 @@ pub(crate) fn change(
     settings: &mut Settings,
     verb: Verb,
     arguments: &[Vec<u8>],
-    lines: &mut Vec<u8>,
+    saying: &mut Saying,
 ) -> Result<Outcome, AllocError> {
     match arguments {
-        [] => say_all(*settings, lines),
-        [name] => ask_or_turn(alloc, settings, verb, name, lines),
-        [name, value] => assign(alloc, settings, verb, name, value, lines),
-        _ => fail_quoting(alloc, lines, verb, "", b"more than a name and a value", ""),
+        [] => say_all(alloc, *settings, saying),
+        [name] => ask_or_turn(alloc, settings, verb, name, saying),
+        [name, value] => assign(alloc, settings, verb, name, value, saying),
+        _ => fail_quoting(alloc, saying, verb, "", b"more than a name and a value", ""),
     }
 }

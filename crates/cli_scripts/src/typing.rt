@@ -1,13 +1,15 @@
 //! Texts that are typed.
 
-use crate::answer::{Out, fail, say};
-use crate::came::Wants;
+ghost use Rattle.cli_scripts.specs.Desks.{Keeps};
+
+use crate::answer::Saying;
+use crate::came::Need;
 use crate::desk::Desk;
 use crate::doing::{Doing, Step, Typing};
 use ds_codec::Aid;
 use ds_keys::Key;
 use script_keys::{margin_run, typed_runs};
-use script_screens::{CodePage, Outcome, Piece, StringKey, next_piece, push_string_fault};
+use script_screens::{CodePage, Outcome, Piece, StringKey, next_piece};
 use std::alloc::{AllocError, Global};
 use tn_session::Pressed;
 
@@ -21,16 +23,44 @@ enum Stop<'a> {
     Inhibited,
 }
 
-fn pressed_key(key: StringKey) -> Key {
+/// The PF key of a number, 1 to 24.
+fn pf_key(number: u8) -> Option<Key> {
+    if 1 <= number && number <= 24 {
+        Some(Key::Attention(Aid::pf(number)))
+    } else {
+        None
+    }
+}
+
+/// The PA key of a number, 1 to 3.
+fn pa_key(number: u8) -> Option<Key> {
+    if 1 <= number && number <= 3 {
+        Some(Key::Attention(Aid::pa(number)))
+    } else {
+        None
+    }
+}
+
+fn pressed_key(key: StringKey) -> Option<Key> {
     match key {
-        StringKey::Tab => Key::Tab,
-        StringKey::BackTab => Key::BackTab,
-        StringKey::Left => Key::Left,
-        StringKey::Newline => Key::NewLine,
-        StringKey::Enter => Key::Attention(Aid::enter()),
-        StringKey::Clear => Key::Attention(Aid::clear()),
-        StringKey::Pf(number) => Key::Attention(Aid::pf(number)),
-        StringKey::Pa(number) => Key::Attention(Aid::pa(number)),
+        StringKey::Tab => Some(Key::Tab),
+        StringKey::BackTab => Some(Key::BackTab),
+        StringKey::Left => Some(Key::Left),
+        StringKey::Newline => Some(Key::NewLine),
+        StringKey::Enter => Some(Key::Attention(Aid::enter())),
+        StringKey::Clear => Some(Key::Attention(Aid::clear())),
+        StringKey::Pf(number) => pf_key(number),
+        StringKey::Pa(number) => pa_key(number),
+    }
+}
+
+/// Presses a key of a text.
+fn press_string_key(alloc: Global, desk: &mut Desk, key: StringKey) -> Result<Pressed, AllocError>
+    ensures { Keeps desk.old desk.new }
+{
+    match pressed_key(key) {
+        Some(key) => desk.press(alloc, &key),
+        None => Ok(Pressed::Ignored),
     }
 }
 
@@ -40,10 +70,11 @@ fn type_character(
     desk: &mut Desk,
     fills: bool,
     code: u8,
-    out: &mut Out,
-) -> Result<Pressed, AllocError> {
+) -> Result<Pressed, AllocError>
+    ensures { Keeps desk.old desk.new }
+{
     let runs = typed_runs(alloc, desk.screen(), fills, code)?;
-    if desk.press_runs(alloc, &runs, out)? {
+    if desk.press_runs(alloc, &runs)? {
         Ok(Pressed::Inhibited)
     } else {
         Ok(Pressed::Done)
@@ -56,14 +87,16 @@ fn type_piece(
     desk: &mut Desk,
     fills: bool,
     piece: Piece,
-    out: &mut Out,
-) -> Result<Pressed, AllocError> {
+    saying: &mut Saying,
+) -> Result<Pressed, AllocError>
+    ensures { Keeps desk.old desk.new }
+{
     match piece {
-        Piece::Character(code) => type_character(alloc, desk, fills, code, out),
+        Piece::Character(code) => type_character(alloc, desk, fills, code),
         Piece::Ignored => Ok(Pressed::Done),
-        Piece::Key(key) => desk.press(alloc, pressed_key(key), out),
+        Piece::Key(key) => press_string_key(alloc, desk, key),
         Piece::Fault(fault) => {
-            push_string_fault(&mut out.lines, fault)?;
+            saying.fault_in_string(alloc, fault)?;
             Ok(Pressed::Done)
         }
     }
@@ -76,12 +109,14 @@ fn type_pieces<'a>(
     code_page: CodePage,
     fills: bool,
     text: &'a [u8],
-    out: &mut Out,
-) -> Result<Stop<'a>, AllocError> {
+    saying: &mut Saying,
+) -> Result<Stop<'a>, AllocError>
+    ensures { Keeps desk.old desk.new }
+{
     let mut rest = text;
     'pieces: while let Some((piece, after)) = next_piece(code_page, rest) {
         rest = after;
-        match type_piece(alloc, desk, fills, piece, out)? {
+        match type_piece(alloc, desk, fills, piece, saying)? {
             Pressed::Inhibited => return Ok(Stop::Inhibited),
             Pressed::Sent => return Ok(Stop::Sent(rest)),
             Pressed::Done | Pressed::Ignored => {}
@@ -102,14 +137,11 @@ fn column_of(desk: &Desk) -> u32 {
 }
 
 /// Leads the cursor to the column at which it began, where it stands before that.
-fn return_to(
-    alloc: Global,
-    desk: &mut Desk,
-    column: u32,
-    out: &mut Out,
-) -> Result<Step, AllocError> {
+fn return_to(alloc: Global, desk: &mut Desk, column: u32) -> Result<Step, AllocError>
+    ensures { Keeps desk.old desk.new }
+{
     if let Some(run) = margin_run(desk.screen(), column) {
-        desk.press_runs(alloc, &[run], out)?;
+        desk.press_runs(alloc, &[run])?;
     }
     Ok(Step::Ended(Outcome::Done))
 }
@@ -120,7 +152,7 @@ fn typed_later(alloc: Global, rest: &[u8]) -> Result<Step, AllocError> {
         text: rest.to_vec(alloc)?,
         after_send: true,
     };
-    Ok(Step::Waits(Doing::Typing(typing), Wants::Bytes))
+    Ok(Step::Waits(Doing::Typing(typing), Need::Bytes))
 }
 
 /// Types a text at a keyboard that is free.
@@ -130,25 +162,31 @@ fn type_free(
     code_page: CodePage,
     fills: bool,
     text: &[u8],
-    out: &mut Out,
-) -> Result<Step, AllocError> {
+    saying: &mut Saying,
+) -> Result<Step, AllocError>
+    ensures { Keeps desk.old desk.new }
+{
     let column = column_of(desk);
-    match type_pieces(alloc, desk, code_page, fills, text, out)? {
-        Stop::End => return_to(alloc, desk, column, out),
+    match type_pieces(alloc, desk, code_page, fills, text, saying)? {
+        Stop::End => return_to(alloc, desk, column),
         Stop::Sent(rest) => typed_later(alloc, rest),
         Stop::Inhibited => {
-            say(&mut out.lines, b"Keyboard locked")?;
-            Ok(Step::Ended(fail(&mut out.lines, b"Operator error")?))
+            saying.say(alloc, b"Keyboard locked")?;
+            Ok(Step::Ended(saying.fail(alloc, b"Operator error")?))
         }
     }
 }
 
 /// Types a text at a terminal that isn't connected.
-fn type_unconnected(typing: &Typing, lines: &mut Vec<u8>) -> Result<Step, AllocError> {
+fn type_unconnected(
+    alloc: Global,
+    typing: &Typing,
+    saying: &mut Saying,
+) -> Result<Step, AllocError> {
     if typing.text.is_empty() {
         return Ok(Step::Ended(Outcome::Done));
     }
-    Ok(Step::Ended(fail(lines, b"Canceled")?))
+    Ok(Step::Ended(saying.fail(alloc, b"Canceled")?))
 }
 
 /// Types a text once the keyboard doesn't wait. After each key that sends it waits until it doesn't, and goes on.
@@ -158,16 +196,18 @@ pub(crate) fn type_text(
     code_page: CodePage,
     fills: bool,
     typing: Typing,
-    out: &mut Out,
-) -> Result<Step, AllocError> {
+    saying: &mut Saying,
+) -> Result<Step, AllocError>
+    ensures { Keeps desk.old desk.new }
+{
     if !desk.is_connected() {
-        return type_unconnected(&typing, &mut out.lines);
+        return type_unconnected(alloc, &typing, saying);
     }
     if desk.waits() {
-        return Ok(Step::Waits(Doing::Typing(typing), Wants::Bytes));
+        return Ok(Step::Waits(Doing::Typing(typing), Need::Bytes));
     }
     if desk.is_in_error() && !typing.text.is_empty() {
-        return Ok(Step::Ended(fail(&mut out.lines, b"Operator error")?));
+        return Ok(Step::Ended(saying.fail(alloc, b"Operator error")?));
     }
-    type_free(alloc, desk, code_page, fills, &typing.text, out)
+    type_free(alloc, desk, code_page, fills, &typing.text, saying)
 }

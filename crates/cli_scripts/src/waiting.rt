@@ -1,16 +1,16 @@
 //! Wait.
 
-use crate::answer::fail;
-use crate::came::Wants;
+use crate::answer::Saying;
+use crate::came::Need;
 use crate::desk::Desk;
 use crate::doing::{Doing, Step};
 use script_requests::{Awaited, Wait, WaitFault};
 use script_screens::Outcome;
-use std::alloc::AllocError;
+use std::alloc::{AllocError, Global};
 
 /// An action that is at fault, as these words say.
-fn failed(lines: &mut Vec<u8>, text: &[u8]) -> Result<Step, AllocError> {
-    Ok(Step::Ended(fail(lines, text)?))
+fn failed(alloc: Global, saying: &mut Saying, text: &[u8]) -> Result<Step, AllocError> {
+    Ok(Step::Ended(saying.fail(alloc, text)?))
 }
 
 /// An action that is done.
@@ -21,29 +21,34 @@ fn holds(desk: &Desk, what: Awaited) -> bool {
     match what {
         Awaited::InputField => desk.takes_input(),
         Awaited::Mode3270 => desk.is_ready(),
-        Awaited::Output => !desk.was_read,
+        Awaited::Output => !desk.was_read(),
         Awaited::Unlock => !desk.waits(),
         Awaited::NvtMode | Awaited::Disconnect | Awaited::Seconds => false,
     }
 }
 
 /// What is wanted for a wait.
-fn wanted(limit: Option<u32>, begins: bool) -> Wants {
+fn wanted(limit: Option<u32>, begins: bool) -> Need {
     match limit {
-        None | Some(0) => Wants::Bytes,
-        Some(limit) => Wants::BytesWithin { limit, begins },
+        None | Some(0) => Need::Bytes,
+        Some(limit) => Need::BytesWithin { limit, begins },
     }
 }
 
 /// Waits at a terminal that isn't connected.
-fn wait_unconnected(desk: &Desk, wait: Wait, lines: &mut Vec<u8>) -> Result<Step, AllocError> {
+fn wait_unconnected(
+    alloc: Global,
+    desk: &Desk,
+    wait: Wait,
+    saying: &mut Saying,
+) -> Result<Step, AllocError> {
     match wait.what {
         Awaited::InputField | Awaited::NvtMode | Awaited::Mode3270 => {
-            failed(lines, b"Wait(): Not connected")
+            failed(alloc, saying, b"Wait(): Not connected")
         }
         Awaited::Output => {
-            if desk.was_read {
-                failed(lines, b"Wait(): Not connected")
+            if desk.was_read() {
+                failed(alloc, saying, b"Wait(): Not connected")
             } else {
                 Ok(DONE)
             }
@@ -51,7 +56,7 @@ fn wait_unconnected(desk: &Desk, wait: Wait, lines: &mut Vec<u8>) -> Result<Step
         Awaited::Unlock | Awaited::Disconnect => Ok(DONE),
         Awaited::Seconds => {
             let limit = wait.limit.unwrap_or(0);
-            Ok(Step::Waits(Doing::Waiting(wait), Wants::Pause(limit)))
+            Ok(Step::Waits(Doing::Waiting(wait), Need::Pause(limit)))
         }
     }
 }
@@ -67,44 +72,62 @@ fn wait_connected(desk: &Desk, wait: Wait, begins: bool) -> Step {
 
 /// Whether seconds are waited for without a number of them.
 fn lacks_time(wait: Wait) -> bool {
-    wait.what == Awaited::Seconds && wait.limit == Some(0)
+    matches!(wait.what, Awaited::Seconds) && matches!(wait.limit, Some(0))
 }
 
 /// Begins a wait.
-pub(crate) fn wait(desk: &Desk, wait: Wait, lines: &mut Vec<u8>) -> Result<Step, AllocError> {
+pub(crate) fn wait(
+    alloc: Global,
+    desk: &Desk,
+    wait: Wait,
+    saying: &mut Saying,
+) -> Result<Step, AllocError> {
     if lacks_time(wait) {
-        return failed(lines, WaitFault::Parameter.text().as_bytes());
+        return failed(alloc, saying, WaitFault::Parameter.text().as_bytes());
     }
     if desk.is_connected() {
         Ok(wait_connected(desk, wait, true))
     } else {
-        wait_unconnected(desk, wait, lines)
+        wait_unconnected(alloc, desk, wait, saying)
     }
 }
 
 /// Ends a wait as the line to the host ends.
-pub(crate) fn wait_closed(wait: Wait, lines: &mut Vec<u8>) -> Result<Step, AllocError> {
+pub(crate) fn wait_closed(
+    alloc: Global,
+    wait: Wait,
+    saying: &mut Saying,
+) -> Result<Step, AllocError> {
     match wait.what {
         Awaited::InputField | Awaited::NvtMode | Awaited::Mode3270 | Awaited::Output => {
-            failed(lines, b"Host disconnected")
+            failed(alloc, saying, b"Host disconnected")
         }
         Awaited::Unlock | Awaited::Disconnect | Awaited::Seconds => Ok(DONE),
     }
 }
 
 /// Goes on with a wait after bytes of the host.
-pub(crate) fn wait_heard(desk: &Desk, wait: Wait, lines: &mut Vec<u8>) -> Result<Step, AllocError> {
+pub(crate) fn wait_heard(
+    alloc: Global,
+    desk: &Desk,
+    wait: Wait,
+    saying: &mut Saying,
+) -> Result<Step, AllocError> {
     if desk.is_connected() {
         Ok(wait_connected(desk, wait, false))
     } else {
-        wait_closed(wait, lines)
+        wait_closed(alloc, wait, saying)
     }
 }
 
 /// Ends a wait whose time is over.
-pub(crate) fn wait_late(wait: Wait, lines: &mut Vec<u8>) -> Result<Step, AllocError> {
+pub(crate) fn wait_late(
+    alloc: Global,
+    wait: Wait,
+    saying: &mut Saying,
+) -> Result<Step, AllocError> {
     match wait.what {
         Awaited::Seconds => Ok(DONE),
-        _ => failed(lines, b"Wait(): Timed out"),
+        _ => failed(alloc, saying, b"Wait(): Timed out"),
     }
 }

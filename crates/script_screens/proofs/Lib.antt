@@ -3,7 +3,7 @@ mod Pushed
 mod Sizes
 mod Fields
 mod Items
-mod Whole
+pub mod Whole
 mod Sayings
 mod Connections
 mod Rows

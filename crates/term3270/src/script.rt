@@ -13,13 +13,13 @@ use std::io::{Read, Write};
 use std::net::TcpStream;
 use std::time::{Duration, Instant};
 use std::{fs, io, str, thread};
-use tn_session::{Device, RunFault};
-
-/// What Query tells of the program.
-const VERSION: &str = "Takvorn 1.0.0";
+use tn_session::{Device, History, RunFault};
 
 /// The port of a host that names none (RFC 854).
 const TELNET: u16 = 23;
+
+/// How many bytes a layout's file has at most; what comes after them is not read, so that it is too long.
+const MOST_BYTES: u64 = 16_777_217;
 
 /// How a socket waits.
 #[derive(Clone, Copy, PartialEq, Eq)]
@@ -82,6 +82,15 @@ struct Surroundings<'a> {
     socket: Option<Socket>,
     /// When the wait that was begun last is over.
     deadline: Option<Instant>,
+    received: History<u8>,
+    sent: History<u8>,
+}
+
+/// Adds bytes to a history.
+fn add_bytes(history: &mut History<u8>, bytes: &[u8]) {
+    'bytes: for byte in bytes {
+        *history = history.and(byte);
+    }
 }
 
 /// What a read gave.
@@ -133,6 +142,18 @@ impl Surroundings<'_> {
         }
     }
 
+    /// Notes what a read gave.
+    fn note(&mut self, piece: &[u8], given: Heard) -> Heard {
+        match given {
+            Heard::Bytes(count) if count <= piece.len() => {
+                add_bytes(&mut self.received, &piece[..count]);
+                given
+            }
+            Heard::Bytes(_) => Heard::Closed,
+            Heard::Nothing | Heard::Closed => given,
+        }
+    }
+
     fn call(&mut self, host: &[u8], port: u16) -> io::Result<()> {
         let Ok(host) = str::from_utf8(host) else {
             return Err(io::Error::from(io::ErrorKind::InvalidInput));
@@ -143,16 +164,32 @@ impl Surroundings<'_> {
     }
 
     fn page(&mut self, path: &[u8], screen: &Screen<PlaneCells>) -> io::Result<()> {
-        let Ok(path) = str::from_utf8(path) else {
-            return Err(io::Error::from(io::ErrorKind::InvalidInput));
-        };
         let mut text = String::new(self.rt.alloc());
         push_page(&mut text, screen)?;
-        fs::write(self.rt, path, text.as_bytes())
+        fs::write(self.rt, path_of(path)?, text.as_bytes())
+    }
+
+    /// Reads a file of at most so many bytes.
+    fn layout(&mut self, path: &[u8], text: &mut Vec<u8>) -> io::Result<()> {
+        let file = fs::open(self.rt, path_of(path)?)?;
+        file.take(MOST_BYTES).read_to_end(text)?;
+        Ok(())
+    }
+}
+
+/// A path that is written to or read.
+fn path_of(path: &[u8]) -> io::Result<&str> {
+    match str::from_utf8(path) {
+        Ok(path) => Ok(path),
+        Err(_) => Err(io::Error::from(io::ErrorKind::InvalidInput)),
     }
 }
 
 impl World for Surroundings<'_> {
+    ghost received = { λ s. s.received.items };
+
+    ghost sent = { λ s. s.sent.items };
+
     fn connect(&mut self, host: &[u8], port: u16, cause: &mut Vec<u8>) -> bool {
         match self.call(host, port) {
             Ok(()) => true,
@@ -167,13 +204,15 @@ impl World for Surroundings<'_> {
         let Ok(manner) = self.manner(patience) else {
             return Heard::Closed;
         };
-        match &mut self.socket {
+        let given = match &mut self.socket {
             Some(socket) => heard(socket.read(piece, manner)),
             None => Heard::Closed,
-        }
+        };
+        self.note(piece, given)
     }
 
     fn write(&mut self, bytes: &[u8]) {
+        add_bytes(&mut self.sent, bytes);
         if let Some(socket) = &mut self.socket {
             // The next read tells it.
             let _ = socket.write(bytes);
@@ -198,6 +237,17 @@ impl World for Surroundings<'_> {
             Ok(()) => true,
             Err(error) => {
                 let _ = leave_cause(self.rt, cause, &error);
+                false
+            }
+        }
+    }
+
+    fn read_file(&mut self, path: &[u8], text: &mut Vec<u8>) -> bool {
+        match self.layout(path, text) {
+            Ok(()) => true,
+            Err(error) => {
+                text.clear();
+                let _ = leave_cause(self.rt, text, &error);
                 false
             }
         }
@@ -254,13 +304,15 @@ pub(crate) fn script(rt: &HostRuntime, asked: ScriptAsked<'_>) -> Status {
         tell_unknown_device(rt);
         return Status::BadInput;
     };
-    let Ok(mut machine) = Machine::new(rt.alloc(), device, asked.code_page, VERSION) else {
+    let Ok(mut machine) = Machine::new(rt.alloc(), device, asked.code_page) else {
         return Status::NoMemory;
     };
     let mut world = Surroundings {
         rt,
         socket: None,
         deadline: None,
+        received: History::new(),
+        sent: History::new(),
     };
     if let Some(text) = asked.host {
         let Ok(address) = read_address(text.as_bytes()) else {

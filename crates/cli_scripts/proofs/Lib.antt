@@ -1,0 +1,4 @@
+mod DataLines
+mod Telling
+mod DeskSteps
+mod Presses

@@ -1,0 +1,13 @@
+use Rattle.std.proofs.Common.{◌≡◌, ◌++◌, map, take}
+use Rattle.script_keys.specs.Runs.{keys_of}
+use Rattle.cli_scripts.specs.declared.deed.Deed.TheVariants.{Pressed}
+use Rattle.cli_scripts.proofs.desk.Desk.press_runs.Given as goal
+
+abbrev pub invariant-runs : goal.invariant-runs
+invariant-runs l =
+    record {
+      deeds : l.self.deeds ≡ l.initial.self.deeds ++ map Pressed (keys_of (take l.run-index l.runs));
+      heard : l.self.heard ≡ l.initial.self.heard;
+      gone : l.self.gone ≡ l.initial.self.gone;
+      host : l.self.host ≡ l.initial.self.host;
+    }

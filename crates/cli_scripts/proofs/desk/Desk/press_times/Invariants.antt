@@ -1,0 +1,12 @@
+use Rattle.std.proofs.Common.{◌≡◌, ◌++◌, replicate}
+use Rattle.cli_scripts.specs.declared.deed.Deed.TheVariants.{Pressed}
+use Rattle.cli_scripts.proofs.desk.Desk.press_times.Given as goal
+
+abbrev pub invariant-times : goal.invariant-times
+invariant-times l =
+    record {
+      deeds : l.self.deeds ≡ l.initial.self.deeds ++ replicate l._time (Pressed l.key);
+      heard : l.self.heard ≡ l.initial.self.heard;
+      gone : l.self.gone ≡ l.initial.self.gone;
+      host : l.self.host ≡ l.initial.self.host;
+    }

@@ -1,0 +1,12 @@
+use Rattle.std.proofs.Common.{◌≡◌}
+use Rattle.cli_scripts.specs.Worlds.{Exchanged, TellsAll, is_need}
+use Rattle.cli_scripts.proofs.run.work.Given as goal
+
+abbrev pub invariant-turns : goal.invariant-turns
+invariant-turns g l =
+    record {
+      exchanged : Exchanged l.initial.machine.desk l.machine.desk (g.W.World.sent l.initial.world) (g.W.World.sent l.world)
+          (g.W.World.received l.initial.world) (g.W.World.received l.world);
+      told : TellsAll l.initial.machine l.machine (g.O.TakesBytes.contents l.initial.output) (g.O.TakesBytes.contents l.output);
+      busy : l.machine.is_busy ≡ is_need l.wants;
+    }

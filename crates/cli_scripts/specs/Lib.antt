@@ -1,0 +1,5 @@
+pub mod Answers
+pub mod Deeds
+pub mod Desks
+pub mod Machines
+pub mod Worlds

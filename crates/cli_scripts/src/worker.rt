@@ -1,0 +1,342 @@
+//! The actions of a script at its terminal.
+
+ghost use Rattle.std.specs.Prelude.{◌≡◌};
+ghost use Rattle.cli_scripts.specs.Desks.{Keeps};
+ghost use Rattle.cli_scripts.specs.Machines.{HearsCame};
+
+use crate::answer::Saying;
+use crate::came::{Came, Need};
+use crate::connecting::{connect, connected, disconnected, unconnected};
+use crate::desk::Desk;
+use crate::doing::{Doing, Step, Typing};
+use crate::files::{Printing, printing_of, read_layout, unwritten, write_page};
+use crate::kept::KeptScreen;
+use crate::keys::{after_sent, press, type_code};
+use crate::reading::{read, reading_named, snap};
+use crate::settings::{FIRST, Settings, Verb, change};
+use crate::typing::type_text;
+use crate::waiting::{wait, wait_closed, wait_heard, wait_late};
+use script_keys::{Action, Name, push_fault, read_action};
+use script_requests::read_wait;
+use script_screens::{CodePage, Outcome, Query, Reading, Typed, key_of};
+use std::alloc::{AllocError, Global};
+
+/// What does the actions of a script: its terminal, what was set and kept, and what is said.
+#[derive(Drop)]
+pub(crate) struct Worker {
+    pub(crate) desk: Desk,
+    code_page: CodePage,
+    settings: Settings,
+    kept: Option<KeptScreen>,
+    /// The data lines of the line that is under way.
+    pub(crate) saying: Saying,
+}
+
+impl Worker {
+    pub(crate) fn new(alloc: Global, desk: Desk, code_page: CodePage) -> Worker
+        ensures { result.desk ≡ desk }
+    {
+        Worker {
+            desk,
+            code_page,
+            settings: FIRST,
+            kept: None,
+            saying: Saying::new(alloc),
+        }
+    }
+
+    /// Does an action.
+    pub(crate) fn act(
+        &mut self,
+        alloc: Global,
+        name: &[u8],
+        arguments: &[Vec<u8>],
+    ) -> Result<Step, AllocError>
+        ensures { Keeps self.old.desk self.new.desk }
+    {
+        match read_action(name, arguments) {
+            Ok(Action::Keys(keys)) => press(alloc, &mut self.desk, &keys, &mut self.saying),
+            Ok(Action::Connect(text)) => connect(alloc, &self.desk, text, &mut self.saying),
+            Ok(Action::Disconnect) => {
+                self.desk.close();
+                Ok(Step::Ended(Outcome::Done))
+            }
+            Ok(Action::Quit) => Ok(Step::Quits),
+            Ok(Action::Other(name, arguments)) => self.act_otherwise(alloc, name, arguments),
+            Err(fault) => {
+                let mut words = Vec::new(alloc);
+                push_fault(&mut words, &fault)?;
+                Ok(Step::Ended(self.saying.fail(alloc, &words)?))
+            }
+        }
+    }
+
+    /// Does an action that may wait and presses no key of its name.
+    fn act_otherwise(
+        &mut self,
+        alloc: Global,
+        name: Name,
+        arguments: &[Vec<u8>],
+    ) -> Result<Step, AllocError>
+        ensures { Keeps self.old.desk self.new.desk }
+    {
+        match name {
+            Name::String => self.type_arguments(alloc, arguments),
+            Name::Key => self.type_key(alloc, arguments),
+            Name::Wait => self.begin_wait(alloc, arguments),
+            Name::PrintText => self.print(alloc, arguments),
+            Name::Check => read_layout(alloc, arguments),
+            _ => {
+                let outcome = self.answer(alloc, name, arguments)?;
+                Ok(Step::Ended(outcome))
+            }
+        }
+    }
+
+    /// Types what the arguments of String say, put together.
+    fn type_arguments(&mut self, alloc: Global, arguments: &[Vec<u8>]) -> Result<Step, AllocError>
+        ensures { Keeps self.old.desk self.new.desk }
+    {
+        let mut text = Vec::new(alloc);
+        'arguments: for argument in arguments {
+            text.extend_from_slice(argument)?;
+        }
+        let typing = Typing {
+            text,
+            after_send: false,
+        };
+        self.type_on(alloc, typing)
+    }
+
+    fn type_on(&mut self, alloc: Global, typing: Typing) -> Result<Step, AllocError>
+        ensures { Keeps self.old.desk self.new.desk }
+    {
+        let fills = self.settings.blank_fill;
+        type_text(
+            alloc,
+            &mut self.desk,
+            self.code_page,
+            fills,
+            typing,
+            &mut self.saying,
+        )
+    }
+
+    /// Types the characters that the arguments of Key say, in turn.
+    fn type_key(&mut self, alloc: Global, arguments: &[Vec<u8>]) -> Result<Step, AllocError>
+        ensures { Keeps self.old.desk self.new.desk }
+    {
+        let [argument] = arguments else {
+            return Ok(Step::Ended(Outcome::Done));
+        };
+        match key_of(self.code_page, argument) {
+            Typed::Code(code) => {
+                let fills = self.settings.blank_fill;
+                type_code(alloc, &mut self.desk, fills, code, &mut self.saying)
+            }
+            Typed::NoCode => Ok(Step::Ended(Outcome::Done)),
+            Typed::Unknown => self.refuse_key(alloc, argument),
+        }
+    }
+
+    /// Says that there is no such key.
+    fn refuse_key(&mut self, alloc: Global, argument: &[u8]) -> Result<Step, AllocError>
+        ensures { Keeps self.old.desk self.new.desk }
+    {
+        let mut words = Vec::new(alloc);
+        words.extend_from_slice(b"Key(): Nonexistent or invalid name:")?;
+        if !argument.is_empty() {
+            words.extend_from_slice(b" ")?;
+            words.extend_from_slice(argument)?;
+        }
+        Ok(Step::Ended(self.saying.fail(alloc, &words)?))
+    }
+
+    fn begin_wait(&mut self, alloc: Global, arguments: &[Vec<u8>]) -> Result<Step, AllocError>
+        ensures { Keeps self.old.desk self.new.desk }
+    {
+        match read_wait(arguments) {
+            Ok(asked) => wait(alloc, &self.desk, asked, &mut self.saying),
+            Err(fault) => Ok(Step::Ended(self.saying.fail(alloc, fault.text().as_bytes())?)),
+        }
+    }
+
+    /// Prints the screen.
+    fn print(&mut self, alloc: Global, arguments: &[Vec<u8>]) -> Result<Step, AllocError>
+        ensures { Keeps self.old.desk self.new.desk }
+    {
+        match printing_of(arguments) {
+            Printing::Lines => {
+                let outcome = self.read(alloc, Reading::Ascii, &[])?;
+                Ok(Step::Ended(outcome))
+            }
+            Printing::Page(path) => write_page(alloc, path),
+            Printing::Fault(words) => Ok(Step::Ended(self.saying.fail(alloc, words)?)),
+        }
+    }
+
+    /// Says what an action says that waits for nothing.
+    fn answer(
+        &mut self,
+        alloc: Global,
+        name: Name,
+        arguments: &[Vec<u8>],
+    ) -> Result<Outcome, AllocError>
+        ensures { Keeps self.old.desk self.new.desk }
+    {
+        if let Some(reading) = reading_named(name) {
+            return self.read(alloc, reading, arguments);
+        }
+        match name {
+            Name::Snap => snap(
+                alloc,
+                &self.desk,
+                &mut self.kept,
+                self.code_page,
+                arguments,
+                &mut self.saying,
+            ),
+            Name::Query => self.tell(alloc, Query::Query, arguments),
+            Name::Show => self.tell(alloc, Query::Show, arguments),
+            Name::Set => change(
+                alloc,
+                &mut self.settings,
+                Verb::Set,
+                arguments,
+                &mut self.saying,
+            ),
+            Name::Toggle => change(
+                alloc,
+                &mut self.settings,
+                Verb::Toggle,
+                arguments,
+                &mut self.saying,
+            ),
+            Name::Expect => self.saying.fail(
+                alloc,
+                b"Expect() is valid only when connected in NVT mode",
+            ),
+            Name::Bell => {
+                self.saying.say(alloc, b"(ding)")?;
+                Ok(Outcome::Done)
+            }
+            _ => Ok(Outcome::Done),
+        }
+    }
+
+    fn read(
+        &mut self,
+        alloc: Global,
+        reading: Reading,
+        arguments: &[Vec<u8>],
+    ) -> Result<Outcome, AllocError>
+        ensures { Keeps self.old.desk self.new.desk }
+    {
+        let page = self.code_page;
+        read(
+            alloc,
+            &mut self.desk,
+            page,
+            reading,
+            arguments,
+            &mut self.saying,
+        )
+    }
+
+    fn tell(
+        &mut self,
+        alloc: Global,
+        asked: Query,
+        arguments: &[Vec<u8>],
+    ) -> Result<Outcome, AllocError>
+        ensures { Keeps self.old.desk self.new.desk }
+    {
+        self.saying.query(alloc, &self.desk, asked, arguments)
+    }
+
+    /// Goes on with what is under way.
+    pub(crate) fn resume(
+        &mut self,
+        alloc: Global,
+        doing: Doing,
+        came: Came<'_>,
+    ) -> Result<Step, AllocError>
+        ensures { HearsCame came.entry self.old.desk self.new.desk }
+    {
+        match came {
+            Came::Bytes(bytes) => {
+                let shown = self.desk.hear(alloc, bytes)?;
+                self.heard(alloc, doing, shown)
+            }
+            Came::Closed => {
+                self.desk.close();
+                self.closed(alloc, doing)
+            }
+            other => self.told(alloc, doing, other),
+        }
+    }
+
+    /// Goes on after bytes of the host, of which it is known whether a record was shown.
+    fn heard(&mut self, alloc: Global, doing: Doing, shown: bool) -> Result<Step, AllocError>
+        ensures { Keeps self.old.desk self.new.desk }
+    {
+        if !self.desk.is_connected() {
+            return self.closed(alloc, doing);
+        }
+        match doing {
+            Doing::Arriving => Ok(Step::Waits(Doing::Arriving, Need::Arrived)),
+            Doing::Opening if shown => Ok(Step::Ended(Outcome::Done)),
+            Doing::Opening => Ok(Step::Waits(Doing::Opening, Need::Bytes)),
+            Doing::Sent => Ok(after_sent(&self.desk)),
+            Doing::Pressing(keys) => press(alloc, &mut self.desk, &keys, &mut self.saying),
+            Doing::TypingCode(code) => {
+                let fills = self.settings.blank_fill;
+                type_code(alloc, &mut self.desk, fills, code, &mut self.saying)
+            }
+            Doing::Typing(typing) => self.type_on(alloc, typing),
+            Doing::Waiting(asked) => wait_heard(alloc, &self.desk, asked, &mut self.saying),
+            Doing::Calling(host) => Ok(Step::Waits(Doing::Calling(host), Need::Connection)),
+            Doing::Writing(path) => Ok(Step::Waits(Doing::Writing(path), Need::Page)),
+            Doing::Checking(path) => Ok(Step::Waits(Doing::Checking(path), Need::Layout)),
+        }
+    }
+
+    /// Goes on after the line to the host ended.
+    fn closed(&mut self, alloc: Global, doing: Doing) -> Result<Step, AllocError>
+        ensures { Keeps self.old.desk self.new.desk }
+    {
+        match doing {
+            Doing::Opening | Doing::Calling(_) => disconnected(alloc, &mut self.saying),
+            Doing::Typing(typing) => self.type_on(alloc, typing),
+            Doing::Waiting(asked) => wait_closed(alloc, asked, &mut self.saying),
+            Doing::Arriving
+            | Doing::Sent
+            | Doing::Pressing(_)
+            | Doing::TypingCode(_)
+            | Doing::Writing(_)
+            | Doing::Checking(_) => Ok(Step::Ended(Outcome::Done)),
+        }
+    }
+
+    /// Goes on after something else than the host's bytes.
+    fn told(&mut self, alloc: Global, doing: Doing, came: Came<'_>) -> Result<Step, AllocError>
+        ensures { Keeps self.old.desk self.new.desk }
+    {
+        match (doing, came) {
+            (Doing::Calling(host), Came::Connected) => connected(alloc, &mut self.desk, host),
+            (Doing::Calling(host), Came::Unconnected(why)) => {
+                unconnected(alloc, &host, why, &mut self.saying)
+            }
+            (Doing::Waiting(asked), Came::Late) => wait_late(alloc, asked, &mut self.saying),
+            (Doing::Writing(path), Came::Unwritten(why)) => {
+                let outcome = unwritten(alloc, &path, why, &mut self.saying)?;
+                Ok(Step::Ended(outcome))
+            }
+            (Doing::Checking(path), Came::Layout(text)) => {
+                let outcome = self.saying.check(alloc, &self.desk, &path, text)?;
+                Ok(Step::Ended(outcome))
+            }
+            _ => Ok(Step::Ended(Outcome::Done)),
+        }
+    }
+}
