@@ -6,3 +6,4 @@ pub mod Said
 pub mod Named
 pub mod NamedView
 pub mod Report
+pub mod KnownView

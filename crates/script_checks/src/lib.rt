@@ -9,7 +9,7 @@ mod lines;
 mod push_check;
 mod read;
 
-pub use judge::{Judge, ReportFormat};
+pub use judge::Judge;
 pub use layouts::Layouts;
 pub use push_check::push_check;
 pub use read::{LayoutRefusal, LayoutText};
