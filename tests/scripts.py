@@ -21,6 +21,7 @@ from functools import partial
 from typing import Callable, Iterator
 
 from script_hosts import ITEMS, MENU, SIGNON, WRONG, Host, serve
+from script_words import ROWS, wrapped_as
 
 CASES = os.path.join(os.path.dirname(os.path.abspath(__file__)), "scripts")
 REFERENCE = ["s3270", "-model", "3278-2", "-utf8", "-codepage", "cp037"]
@@ -660,6 +661,16 @@ def refused_layouts(program: Program) -> None:
             want(driver.end() == (b"", 2) and name in told and words in told, f"{name}: {told!r}")
 
 
+# ---- the words of tools
+
+
+def wrapper(_program: Program) -> None:
+    """The words by which tools call s3270 become those of the program."""
+    for call, expected, said in ROWS:
+        fault = wrapped_as(call, expected, said)
+        want(fault is None, f"{fault}")
+
+
 # ---- all of them
 
 
@@ -670,6 +681,7 @@ OTHERS: list[tuple[str, Callable[[Program], None], bool]] = [
     ("closing-hosts", closing_hosts, False),
     ("side-by-side", side_by_side, False),
     ("closed-output", closed_output, False),
+    ("wrapper", wrapper, False),
     ("pages", pages, True),
     ("checks", checks, True),
     ("check-of-nothing", check_of_nothing, True),
