@@ -1,5 +1,5 @@
 -- What is reported of the screens of a session, each once.
-use Rattle.std.specs.Prelude.{◌≡◌, ℕ, ◌+◌, ◌-◌, ◌==◌, Bool, true, false, ◌&&◌, ◌||◌, nat_le, nat_lt, min, List, [], ◌∷◌, ◌++◌, codes, length, Option, Some, None, if◌then◌else◌}
+use Rattle.std.specs.Prelude.{◌≡◌, ℕ, ◌+◌, ◌-◌, Bool, true, false, not, ◌&&◌, ◌||◌, nat_le, nat_lt, min, List, [], ◌∷◌, ◌++◌, codes, length, Option, Some, None, if◌then◌else◌}
 use Rattle.std.specs.List.{list_any}
 use Rattle.std.specs.Str.{bytes_eq}
 use Rattle.std.specs.Fmt.{decimal}
@@ -58,8 +58,12 @@ pub record Judging : Type 0 where
 abbrev pub nothing_judged : Listed → Judging
 nothing_judged layouts = record { layouts = layouts; known = []; room = 8388608; screens = 0; has_findings = false }
 
+abbrev pub are_both : Bool → Bool → Bool
+are_both true other = other
+are_both false other = not other
+
 abbrev pub is_same : Kept → Kept → Bool
-is_same one other = (one.begins_turn == other.begins_turn) && bytes_eq one.bytes other.bytes
+is_same one other = are_both one.begins_turn other.begins_turn && bytes_eq one.bytes other.bytes
 
 -- the same records, parted into the same turns
 abbrev pub are_same : List Kept → List Kept → Bool

@@ -1,6 +1,7 @@
 //! The layout that a screen is taken for.
 
 ghost use Rattle.std.specs.Prelude.{◌≡◌, map, option_map};
+ghost use Rattle.std.specs.List.{list_all};
 ghost use Rattle.ds_screen.specs.Fields.{is_attribute};
 ghost use Rattle.ds_screen.specs.Picture.{cell_at};
 ghost use Rattle.cli_commands.specs.Talk.{sizes_equal};
@@ -48,15 +49,18 @@ fn begins_field(screen: &Screen<PlaneCells>, entry: &Entry) -> bool
     is_attribute(screen, place_before(screen.size().cells(), entry.place))
 }
 
+/// Whether a field begins at each of these entries.
+fn begins_fields(screen: &Screen<PlaneCells>, entries: &[Entry]) -> bool
+    ensures { result ≡ list_all (begins_field screen.now.cells) entries.now }
+{
+    entries.iter().all(|entry| begins_field(screen, entry))
+}
+
 /// Whether the screen has the layout's size, and a field begins at each entry.
 fn matches_layout(screen: &Screen<PlaneCells>, layout: &Layout) -> bool
     ensures { result ≡ matches screen.now layout.now }
 {
-    sizes_equal(screen.size(), layout.size())
-        && layout
-            .entries()
-            .iter()
-            .all(|entry| begins_field(screen, entry))
+    sizes_equal(screen.size(), layout.size()) && begins_fields(screen, layout.entries())
 }
 
 /// Whether a name is the other, or stands before it in the order of their bytes.

@@ -1,6 +1,7 @@
 //! The records that made a screen, as the turns of a dialogue that all have one layout.
 
 ghost use Rattle.std.specs.Prelude.{◌≡◌, ◌++◌, [], ◌∷◌, map, IfOk};
+ghost use Rattle.std.specs.List.{list_any};
 ghost use Rattle.cli_commands.specs.TurnsHeld.{lent_held};
 ghost use Rattle.scr_check.specs.TalkSeen.{rounds_of, stop_in};
 ghost use Rattle.tn_session.specs.KeptView.{kept_view};
@@ -78,12 +79,20 @@ pub(crate) fn verdict_on(
     check_talk(alloc, rounds.as_slice())
 }
 
+/// Whether one of the records begins a turn.
+fn begin_turns(kept: &[KeptRecord]) -> bool
+    ensures { result ≡ list_any (λ one. one.begins_turn) kept.now }
+{
+    kept.iter().any(|record| record.begins_turn)
+}
+
 /// Whether there is more than one turn.
+#[tactic(auto, using(crate::proofs::Lists::any_mapped))]
 pub(crate) fn are_several(kept: &[KeptRecord]) -> bool
     ensures { result ≡ are_several (map kept_view kept.now) }
 {
     match kept.split_first() {
-        Some((_, others)) => others.iter().any(|record| record.begins_turn),
+        Some((_, others)) => begin_turns(others),
         None => false,
     }
 }

@@ -1,18 +1,19 @@
 //! Each screen judged at the key that sends, by the layout that it matches.
 
 ghost use Rattle.std.specs.Prelude.{◌≡◌, ◌++◌, [], map, option_map, IfOk, OnOk};
+ghost use Rattle.std.specs.List.{list_any};
 ghost use Rattle.scr_check.specs.TalkSeen.{stop_in};
 ghost use Rattle.tn_session.specs.KeptView.{kept_view};
 ghost use Rattle.script_checks.specs.KnownView.{known_view};
 ghost use Rattle.script_checks.specs.Lines.{clean, line_after};
 ghost use Rattle.script_checks.specs.NamedView.{named_view};
-ghost use Rattle.script_checks.specs.Report.{screen_text, stop_told, kept_told, told_of, is_same, are_same, is_known, room_after, room_for, next_number, Tells};
+ghost use Rattle.script_checks.specs.Report.{screen_text, stop_told, kept_told, told_of, are_both, is_same, are_same, is_known, room_after, room_for, next_number, Tells};
 
+use crate::check::push_stop;
 use crate::chosen::choose;
 use crate::dialogue::{are_several, verdict_on};
 use crate::layouts::{Layouts, Named};
 use crate::lines::{PLAIN, push_clean, push_decimal};
-use crate::push_check::push_stop;
 use ds_screen::{PlaneCells, Screen};
 use scr_check::TalkVerdict;
 use std::alloc::{AllocError, Global};
@@ -137,11 +138,18 @@ fn push_told(
     }
 }
 
+/// Whether both hold, or neither does.
+fn are_both(one: bool, other: bool) -> bool
+    ensures { result ≡ are_both one other }
+{
+    if one { other } else { !other }
+}
+
 /// Whether two records are the same, and begin a turn or not.
 fn is_same(one: &KeptRecord, other: &KeptRecord) -> bool
     ensures { result ≡ is_same (kept_view one.now) (kept_view other.now) }
 {
-    one.begins_turn == other.begins_turn && one.bytes.as_slice() == other.bytes.as_slice()
+    are_both(one.begins_turn, other.begins_turn) && one.bytes.as_slice() == other.bytes.as_slice()
 }
 
 /// Whether the records and their turns are the same.
@@ -159,12 +167,21 @@ fn are_same(kept: &[KeptRecord], others: &[KeptRecord]) -> bool
     true
 }
 
+/// Whether these records are among those that are known.
+fn are_known(known: &[Vec<KeptRecord>], kept: &[KeptRecord]) -> bool
+    ensures { result ≡ list_any (λ others. are_same (map kept_view kept.now) (known_view others))
+        known.now }
+{
+    known.iter().any(|others| are_same(kept, others))
+}
+
 /// Whether turns are among those that are known.
+#[tactic(auto, using(crate::proofs::Lists::any_mapped))]
 fn is_known(known: &[Vec<KeptRecord>], turns: Option<&[KeptRecord]>) -> bool
     ensures { result ≡ is_known (map known_view known.now) (option_map (λ kept. map kept_view kept.now) turns.entry) }
 {
     match turns {
-        Some(kept) => known.iter().any(|others| are_same(kept, others)),
+        Some(kept) => are_known(known, kept),
         None => false,
     }
 }

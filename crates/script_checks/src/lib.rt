@@ -1,17 +1,17 @@
 //! What a script asks of the screen that it drives: whether it agrees with a layout, when it is asked, and at each key that sends.
 #![tactic(auto)]
 
+mod check;
 mod chosen;
 mod dialogue;
 mod judge;
 mod layouts;
 mod lines;
-mod push_check;
 mod read;
 
+pub use check::push_check;
 pub use judge::Judge;
 pub use layouts::Layouts;
-pub use push_check::push_check;
 pub use read::{LayoutRefusal, LayoutText};
 
 #[cfg(test)]

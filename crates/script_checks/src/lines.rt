@@ -1,6 +1,6 @@
 //! Lines of an answer and of a report.
 
-ghost use Rattle.std.specs.Prelude.{◌≡◌, ◌++◌, OnOk};
+ghost use Rattle.std.specs.Prelude.{◌≡◌, ◌++◌, codes, OnOk};
 ghost use Rattle.std.specs.Fmt.{decimal};
 ghost use Rattle.script_checks.specs.Lines.{clean, clean_byte, line_after};
 
@@ -12,6 +12,20 @@ pub(crate) const DATA: &[u8] = b"data: ";
 
 /// What a line of a report begins with: nothing.
 pub(crate) const PLAIN: &[u8] = b"";
+
+/// Begins a data line.
+pub(crate) fn begin_data(out: &mut Vec<u8>) -> Result<(), AllocError>
+    ensures { OnOk result (out.new.items ≡ out.old.items ++ codes "data: ") }
+{
+    out.extend_from_slice(DATA)
+}
+
+/// Ends a line.
+pub(crate) fn end_line(out: &mut Vec<u8>) -> Result<(), AllocError>
+    ensures { OnOk result (out.new.items ≡ out.old.items ++ codes "\n") }
+{
+    out.extend_from_slice(b"\n")
+}
 
 /// Adds a line of a text, after this front.
 pub(crate) fn push_line(out: &mut Vec<u8>, front: &[u8], text: &[u8]) -> Result<(), AllocError>

@@ -2,7 +2,7 @@
 
 ghost use Rattle.std.specs.Prelude.{◌≡◌, IfOk, IfErr, Some};
 ghost use Rattle.cli_commands.specs.Talk.{is_geometry, modes_equal, sizes_equal};
-ghost use Rattle.script_checks.specs.Read.{fitting, layout_for, refusal_text, GivesLayout};
+ghost use Rattle.script_checks.specs.Read.{fitting, layout_for, refusal_text};
 
 use cli_commands::{CommandError, Fault, layout_in};
 use ds_codec::{Geometry, Mode, Size};

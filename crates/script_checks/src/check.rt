@@ -12,7 +12,7 @@ ghost use Rattle.script_checks.specs.ReadSeen.{read_seen};
 ghost use Rattle.script_checks.specs.Said.{turn_texts, stop_texts, verdict_said, judged_said, kept_said, layout_said, said_of_check};
 
 use crate::dialogue::{are_several, verdict_on};
-use crate::lines::{DATA, push_clean, push_decimal, push_line};
+use crate::lines::{DATA, begin_data, end_line, push_clean, push_decimal, push_line};
 use crate::read::{LayoutRefusal, LayoutText, layout_for};
 use ds_codec::Geometry;
 use scr_check::{Finding, TalkVerdict};
@@ -140,6 +140,38 @@ fn refusal_words(alloc: Global, refusal: LayoutRefusal) -> Result<String, AllocE
     format!(in alloc; "{refusal}")
 }
 
+/// Adds the data line of a fault, of two parts.
+fn push_fault(out: &mut Vec<u8>, name: &[u8], words: &[u8]) -> Result<Outcome, AllocError>
+    ensures { IfOk result (λ outcome. Says out.old.items out.new.items outcome
+        (failed (name.now ++ words.now))) }
+{
+    begin_data(out)?;
+    out.extend_from_slice(name)?;
+    out.extend_from_slice(words)?;
+    end_line(out)?;
+    Ok(Outcome::Failed)
+}
+
+/// Adds the data line of a fault of a file, and of its cause.
+fn push_cause(
+    out: &mut Vec<u8>,
+    name: &[u8],
+    path: &[u8],
+    mark: &[u8],
+    cause: &[u8],
+) -> Result<Outcome, AllocError>
+    ensures { IfOk result (λ outcome. Says out.old.items out.new.items outcome
+        (failed (name.now ++ (clean path.now ++ (mark.now ++ clean cause.now))))) }
+{
+    begin_data(out)?;
+    out.extend_from_slice(name)?;
+    push_clean(out, path)?;
+    out.extend_from_slice(mark)?;
+    push_clean(out, cause)?;
+    end_line(out)?;
+    Ok(Outcome::Failed)
+}
+
 /// Adds the data line of a refusal.
 fn push_refusal(
     alloc: Global,
@@ -150,9 +182,7 @@ fn push_refusal(
         (failed (codes "Check(): " ++ refusal_text refusal))) }
 {
     let words = refusal_words(alloc, refusal)?;
-    out.extend_from_slice(DATA)?;
-    push_line(out, b"Check(): ", words.as_bytes())?;
-    Ok(Outcome::Failed)
+    push_fault(out, b"Check(): ", words.as_bytes())
 }
 
 /// Adds the data line of a file that can't be read.
@@ -160,12 +190,7 @@ fn push_unreadable(out: &mut Vec<u8>, path: &[u8], cause: &[u8]) -> Result<Outco
     ensures { IfOk result (λ outcome. Says out.old.items out.new.items outcome
         (failed (codes "Check(): " ++ (clean path.now ++ (codes ": " ++ clean cause.now))))) }
 {
-    out.extend_from_slice(b"data: Check(): ")?;
-    push_clean(out, path)?;
-    out.extend_from_slice(b": ")?;
-    push_clean(out, cause)?;
-    out.extend_from_slice(b"\n")?;
-    Ok(Outcome::Failed)
+    push_cause(out, b"Check(): ", path, b": ", cause)
 }
 
 fn push_text(
