@@ -7,3 +7,4 @@ pub mod Named
 pub mod NamedView
 pub mod Report
 pub mod KnownView
+pub mod Laws

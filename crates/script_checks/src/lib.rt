@@ -5,12 +5,14 @@ mod check;
 mod chosen;
 mod dialogue;
 mod judge;
+mod law;
 mod layouts;
 mod lines;
 mod read;
 
 pub use check::push_check;
 pub use judge::Judge;
+pub use law::{chosen_law, lines_law, texts_law, yes_law};
 pub use layouts::Layouts;
 pub use read::{LayoutRefusal, LayoutText};
 
