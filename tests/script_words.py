@@ -25,7 +25,7 @@ ROWS: list[tuple[str, str | int, list[str]]] = [
     ("-port 992", "script", ["-port is left out"]),
     ("-xrm 's3270.model: 3278-4' -xrm '*port: 3270' -xrm 'x3270.codePage: us' host", "script host:3270 --device IBM-3278-4 --code-page 037", []),
     ("-set monoCase -clear blankFill -set monoCase", "script", ["-set monoCase is left out", "-clear blankFill is left out"]),
-    ("-connecttimeout 5 -tracefile '/tmp/a b' -devname X", "script",
+    ("-connecttimeout 5 -tracefile 'a b' -devname X", "script",
      ["-connecttimeout is left out", "-tracefile is left out", "-devname is left out"]),
     ("-- host", "script host", []),
     ("-version", 2, ["no such option: -version"]),

@@ -1,9 +1,9 @@
 -- The layout that a screen is taken for.
-use Rattle.std.proofs.Common.{◌≡◌, ◌<◌, ◌≤◌, ℕ, Bool, true, false, cond, List, [], ◌∷◌, length, Option, Some, None, refl, sym, ◌∙◌, ap, subst, inl, inr, arith, true≢false}
+use Rattle.std.proofs.Common.{◌≡◌, ℕ, Bool, true, false, cond, List, [], ◌∷◌, length, Option, Some, None, refl, sym, ◌∙◌, ap, subst, inl, inr, arith, true≢false}
 use Rattle.std.specs.Prelude.{◌⊎◌, ◌&&◌, ◌||◌, ◌==◌, nat_lt}
 use Rattle.std.proofs.lemmas.Bool.Decides.{nat_tests}
 use Rattle.ds_screen.specs.Picture.{Picture}
-use Rattle.script_checks.specs.Named.{Named, matches, comes_first, precedes, IsAmong, IsChosen, Chooses, better, better_of, best_after, chosen, IsFound, HaveNames, OrderIsNothing}
+use Rattle.script_checks.specs.Named.{Named, matches, comes_first, precedes, IsAmong, Chooses, better, better_of, best_after, chosen, IsFound, HaveNames, OrderIsNothing}
 
 -- ---- names
 

@@ -14,7 +14,7 @@ use Rattle.ds_codec.specs.declared.write.Unwritable.TheVariants as flaws
 use Rattle.ds_codec.specs.Writing.{flaw_words}
 use Rattle.ds_terminal.specs.declared.refused.Refused.{Refused}
 use Rattle.ds_terminal.specs.declared.refused.Refused.TheVariants.{Read, Apply}
-use Rattle.ds_terminal.specs.Refused.{refused_at, refused_words, refused_text}
+use Rattle.ds_terminal.specs.Refused.{refused_text}
 use Rattle.scr_layout.specs.declared.fault.Why as layout_why
 use Rattle.scr_layout.specs.declared.fault.Why.TheVariants as layout_whys
 use Rattle.scr_layout.specs.declared.fault.LayoutKey.{LayoutKey}
@@ -27,7 +27,7 @@ use Rattle.scr_check.specs.declared.finding.Demo.{Demo}
 use Rattle.scr_check.specs.declared.finding.Overlong.{Overlong}
 use Rattle.scr_check.specs.declared.finding.Finding.{Finding}
 use Rattle.scr_check.specs.declared.finding.Finding.TheVariants as findings
-use Rattle.scr_check.specs.FindingText.{named, name_at, demo_text, keys_end, overlong_text, finding_text}
+use Rattle.scr_check.specs.FindingText.{named, name_at, keys_end, overlong_text, finding_text}
 use Rattle.cli_commands.specs.declared.fault.Fault.{Fault}
 use Rattle.cli_commands.specs.declared.fault.Fault.TheVariants as faults
 use Rattle.cli_commands.specs.Fault.{fault_text}

@@ -1,5 +1,5 @@
 -- Turns whose screens all have one layout.
-use Rattle.std.proofs.Common.{◌≡◌, ℕ, List, [], ◌∷◌, refl}
+use Rattle.std.proofs.Common.{ℕ, List, [], ◌∷◌, refl}
 use Rattle.scr_layout.specs.Layout.{Declaration}
 use Rattle.scr_check.specs.TalkSeen.{AreOfGeometry, HaveOneGeometry}
 use Rattle.script_checks.specs.Turns.{rounds_with}

@@ -1,6 +1,6 @@
 -- The texts of Check as `check` and `talk` print them.
-use Rattle.std.proofs.Common.{◌≡◌, ℕ, Bool, true, false, List, [], ◌∷◌, ◌++◌, map, codes, Option, Some, None, refl, sym, ◌∙◌, ap, append-nil, append_assoc}
-use Rattle.std.specs.Prelude.{Result, Ok, Err, slice_get}
+use Rattle.std.proofs.Common.{◌≡◌, ℕ, false, List, [], ◌∷◌, ◌++◌, map, codes, Option, Some, None, refl, sym, ◌∙◌, ap, append-nil, append_assoc}
+use Rattle.std.specs.Prelude.{Result, Ok, Err}
 use Rattle.std.specs.Fmt.{decimal}
 use Rattle.std.specs.List.{flat_map}
 use Rattle.std.proofs.lemmas.List.Concat.{flat_map-cons}
@@ -12,15 +12,14 @@ use Rattle.scr_check.specs.declared.finding.Finding.{Finding}
 use Rattle.scr_check.specs.FindingText.{demo_of, finding_text}
 use Rattle.scr_check.specs.Findings.{answer_of}
 use Rattle.scr_check.specs.Opening.{opening_of}
-use Rattle.scr_check.specs.Walk.{Round, Stop, walk_of, stops_or, goes_on, walk_from}
+use Rattle.scr_check.specs.Walk.{walk_of, stops_or, goes_on, walk_from}
 use Rattle.cli_commands.specs.Check.{printed_verdict}
 use Rattle.cli_commands.specs.DemoLines.{finding_lines, sends_on}
-use Rattle.cli_commands.specs.Talk.{stop_text, turn_lines}
-use Rattle.tn_session.specs.Kept.{Kept}
+use Rattle.cli_commands.specs.Talk.{turn_lines}
 use Rattle.script_checks.specs.Laws.{SaysWhatCheckPrints, SaysWhatTalkPrints}
 use Rattle.script_checks.specs.Lines.{line_after, lines_after}
-use Rattle.script_checks.specs.Said.{verdict_said, stop_texts}
-use Rattle.script_checks.specs.Turns.{are_several, rounds_with, turns_of, stop_of}
+use Rattle.script_checks.specs.Said.{verdict_said}
+use Rattle.script_checks.specs.Turns.{rounds_with, stop_of}
 use Rattle.script_checks.proofs.Promised.{bytes_of, only_turn}
 
 no_demo : (demo : Option Demo) → sends_on None demo ≡ []

@@ -1,5 +1,5 @@
 -- What a yes of Check promises.
-use Rattle.std.proofs.Common.{◌≡◌, ℕ, Bool, true, false, cond, List, [], ◌∷◌, map, Option, Some, None, refl, sym, ◌∙◌, ap, subst, inl}
+use Rattle.std.proofs.Common.{◌≡◌, ℕ, Bool, true, false, cond, List, [], ◌∷◌, map, Option, Some, None, refl, ◌∙◌, ap, subst, inl}
 use Rattle.std.specs.Prelude.{Result, Ok, Err, ◌||◌}
 use Rattle.std.specs.List.{list_any}
 use Rattle.std.specs.Str.{is_utf8}
@@ -15,8 +15,6 @@ use Rattle.scr_layout.specs.Entry.{Declared}
 use Rattle.scr_layout.specs.Fault.{not_toml}
 use Rattle.scr_layout.specs.Layout.{Declaration, IsLayout, layout_of}
 use Rattle.scr_layout.proofs.LayoutLaw.{layout_of-law}
-use Rattle.scr_check.specs.declared.finding.Finding.{Finding}
-use Rattle.scr_check.specs.Findings.{findings_of}
 use Rattle.scr_check.specs.Leads.{IsPromised}
 use Rattle.scr_check.specs.Any.{IsPromisedForAny, TalksKeepForAny}
 use Rattle.scr_check.specs.Talk.{TalksKeep}
@@ -32,7 +30,7 @@ use Rattle.cli_commands.specs.declared.fault.Fault.{Fault}
 use Rattle.cli_commands.specs.LayoutText as layouts
 use Rattle.cli_commands.specs.Lines.{within_limit}
 use Rattle.cli_commands.specs.Talk.{is_geometry}
-use Rattle.script_screens.specs.declared.lines.Outcome.TheVariants.{Done, Failed}
+use Rattle.script_screens.specs.declared.lines.Outcome.TheVariants.{Done}
 use Rattle.tn_session.specs.Kept.{Kept}
 use Rattle.script_checks.specs.declared.read.LayoutRefusal.TheVariants.{OtherSizes}
 use Rattle.script_checks.specs.Laws.{IsChecked, Promised, YesIsPromised}

@@ -17,10 +17,10 @@ use Rattle.script_checks.specs.declared.read.LayoutRefusal.{LayoutRefusal}
 use Rattle.script_checks.specs.declared.read.LayoutRefusal.TheVariants.{Refused, OtherSizes}
 use Rattle.script_checks.specs.Laws.{ChecksAreLines, ReportsAreLines, AreLayouts}
 use Rattle.script_checks.specs.Lines.{clean}
-use Rattle.script_checks.specs.Named.{Named, Listed, chosen, IsAmong, Chooses}
+use Rattle.script_checks.specs.Named.{Named, chosen, IsAmong, Chooses}
 use Rattle.script_checks.specs.Read.{fitting_said, refusal_text}
-use Rattle.script_checks.specs.Report.{screen_text, stop_told, kept_told, chosen_told, told_of}
-use Rattle.script_checks.specs.Said.{turn_texts, stop_texts, verdict_said, kept_said, layout_said, said_of_check}
+use Rattle.script_checks.specs.Report.{screen_text, stop_told, kept_told, chosen_told}
+use Rattle.script_checks.specs.Said.{turn_texts, stop_texts, verdict_said, kept_said, layout_said}
 use Rattle.script_checks.specs.Turns.{are_several, stop_of}
 use Rattle.script_checks.proofs.BestLaws.{is_found}
 use Rattle.script_checks.proofs.FaultTexts.{NamesAreWhole, finding_line, names_of_layout, refusal_line}

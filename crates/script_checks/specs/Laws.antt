@@ -1,5 +1,5 @@
 -- What a yes promises, that the texts are those of `check` and `talk`, and that each is one line.
-use Rattle.std.specs.Prelude.{◌≡◌, ℕ, Bool, true, false, List, [], ◌∷◌, map, slice_get, Option, Some, None, Result, Ok}
+use Rattle.std.specs.Prelude.{◌≡◌, ℕ, true, false, List, [], ◌∷◌, map, slice_get, Option, Some, Result, Ok}
 use Rattle.ds_codec.specs.Geometry.{Sizes}
 use Rattle.ds_screen.specs.Picture.{Picture}
 use Rattle.scr_layout.specs.Layout.{Declaration, IsLayout}

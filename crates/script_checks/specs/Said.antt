@@ -6,7 +6,7 @@ use Rattle.scr_layout.specs.Entry.{Declared}
 use Rattle.scr_layout.specs.Layout.{Declaration}
 use Rattle.scr_check.specs.FindingText.{finding_text}
 use Rattle.scr_check.specs.Walk.{Stop}
-use Rattle.script_screens.specs.declared.lines.Outcome.TheVariants.{Done, Failed}
+use Rattle.script_screens.specs.declared.lines.Outcome.TheVariants.{Failed}
 use Rattle.script_screens.specs.Lines.{Said, done, failed}
 use Rattle.tn_session.specs.Kept.{Kept}
 use Rattle.script_checks.specs.declared.read.LayoutRefusal.{LayoutRefusal}

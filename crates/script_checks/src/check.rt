@@ -1,15 +1,15 @@
 //! The action `Check`.
 
-ghost use Rattle.std.specs.Prelude.{◌≡◌, ◌++◌, codes, map, option_map, IfOk, OnOk};
+ghost use Rattle.std.specs.Prelude.{◌≡◌, ◌++◌, codes, map, IfOk, OnOk};
 ghost use Rattle.std.specs.String.{string_bytes};
 ghost use Rattle.scr_check.specs.TalkSeen.{stop_in};
 ghost use Rattle.scr_check.specs.FindingText.{finding_text};
 ghost use Rattle.script_screens.specs.Lines.{Says, failed};
-ghost use Rattle.tn_session.specs.KeptView.{kept_view};
+ghost use Rattle.script_checks.specs.KnownView.{turns_seen};
 ghost use Rattle.script_checks.specs.Lines.{clean, line_after, lines_after};
 ghost use Rattle.script_checks.specs.Read.{layout_for, refusal_text};
 ghost use Rattle.script_checks.specs.ReadSeen.{read_seen};
-ghost use Rattle.script_checks.specs.Said.{turn_texts, stop_texts, verdict_said, judged_said, kept_said, layout_said, said_of_check};
+ghost use Rattle.script_checks.specs.Said.{turn_texts, stop_texts, verdict_said, kept_said, layout_said, said_of_check};
 
 use crate::dialogue::{are_several, verdict_on};
 use crate::lines::{DATA, begin_data, end_line, push_clean, push_decimal, push_line};
@@ -124,7 +124,7 @@ fn push_kept(
     layout: &Layout,
 ) -> Result<Outcome, AllocError>
     ensures { IfOk result (λ outcome. Says out.old.items out.new.items outcome
-        (kept_said layout.now (option_map (λ kept. map kept_view kept.now) turns.entry))) }
+        (kept_said layout.now (turns_seen turns.entry))) }
 {
     let Some(kept) = turns else {
         push_line(out, DATA, b"Check(): input too long")?;
@@ -201,7 +201,7 @@ fn push_text(
     text: &[u8],
 ) -> Result<Outcome, AllocError>
     ensures { IfOk result (λ outcome. Says out.old.items out.new.items outcome
-        (layout_said (option_map (λ kept. map kept_view kept.now) turns.entry) (layout_for geometry text.now))) }
+        (layout_said (turns_seen turns.entry) (layout_for geometry text.now))) }
 {
     match layout_for(alloc, geometry, text)? {
         Ok(layout) => push_kept(alloc, out, turns, &layout),
@@ -227,7 +227,7 @@ pub fn push_check(
     read: LayoutText<'_>,
 ) -> Result<Outcome, AllocError>
     ensures { IfOk result (λ outcome. Says out.old.items out.new.items outcome
-        (said_of_check (option_map (λ kept. map kept_view kept.now) turns.entry) geometry path.now (read_seen read.entry))) }
+        (said_of_check (turns_seen turns.entry) geometry path.now (read_seen read.entry))) }
 {
     match read {
         LayoutText::Text(text) => push_text(alloc, out, turns, geometry, text),

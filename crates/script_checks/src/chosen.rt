@@ -1,12 +1,12 @@
 //! The layout that a screen is taken for.
 
-ghost use Rattle.std.specs.Prelude.{◌≡◌, map, option_map};
+ghost use Rattle.std.specs.Prelude.{◌≡◌, map};
 ghost use Rattle.std.specs.List.{list_all};
 ghost use Rattle.ds_screen.specs.Fields.{is_attribute};
 ghost use Rattle.ds_screen.specs.Picture.{cell_at};
 ghost use Rattle.cli_commands.specs.Talk.{sizes_equal};
 ghost use Rattle.script_checks.specs.Named.{place_before, begins_field, matches, comes_first, precedes, better, chosen};
-ghost use Rattle.script_checks.specs.NamedView.{named_view};
+ghost use Rattle.script_checks.specs.NamedView.{named_view, one_seen};
 
 use crate::layouts::Named;
 use ds_codec::{Cell, Size};
@@ -80,7 +80,7 @@ fn precedes(one: &Named, other: &Named) -> bool
 
 /// The better of two layouts that match.
 fn better<'a>(best: Option<&'a Named>, one: &'a Named) -> &'a Named
-    ensures { named_view result.now ≡ better (option_map (λ n. named_view n.now) best.entry) (named_view one.now) }
+    ensures { named_view result.now ≡ better (one_seen best.entry) (named_view one.now) }
 {
     match best {
         Some(best) if precedes(best, one) => best,
@@ -90,7 +90,7 @@ fn better<'a>(best: Option<&'a Named>, one: &'a Named) -> &'a Named
 
 /// The layout that a screen is taken for, if any matches: the one with the most entries; of several with as many the first by name.
 pub(crate) fn choose<'a>(screen: &Screen<PlaneCells>, all: &'a [Named]) -> Option<&'a Named>
-    ensures { option_map (λ n. named_view n.now) result ≡ chosen screen.now (map named_view all.now) }
+    ensures { one_seen result ≡ chosen screen.now (map named_view all.now) }
 {
     let mut best: Option<&'a Named> = None;
     for one in all {

@@ -1,6 +1,6 @@
 //! The records that made a screen, as the turns of a dialogue that all have one layout.
 
-ghost use Rattle.std.specs.Prelude.{◌≡◌, ◌++◌, [], ◌∷◌, map, IfOk};
+ghost use Rattle.std.specs.Prelude.{◌≡◌, ◌∷◌, map, IfOk};
 ghost use Rattle.std.specs.List.{list_any};
 ghost use Rattle.cli_commands.specs.TurnsHeld.{lent_held};
 ghost use Rattle.scr_check.specs.TalkSeen.{rounds_of, stop_in};
@@ -54,7 +54,8 @@ fn with_layout<'a, 'r>(
     turns: &'a [Vec<&'r [u8]>],
     layout: &'a Layout,
 ) -> Result<Vec<Turn<'a, 'r>>, AllocError>
-    ensures { IfOk result (λ v. rounds_of v.items ≡ rounds_with layout.now (lent_held turns.now)) }
+    ensures { IfOk result (λ v. rounds_of v.items
+        ≡ rounds_with layout.now (lent_held turns.now)) }
 {
     let mut rounds = Vec::new(alloc);
     for records in turns {
@@ -72,7 +73,8 @@ pub(crate) fn verdict_on(
     kept: &[KeptRecord],
     layout: &Layout,
 ) -> Result<TalkVerdict, AllocError>
-    ensures { IfOk result (λ verdict. stop_in verdict ≡ stop_of layout.now (map kept_view kept.now)) }
+    ensures { IfOk result (λ verdict. stop_in verdict
+        ≡ stop_of layout.now (map kept_view kept.now)) }
 {
     let turns = turns_of(alloc, kept)?;
     let rounds = with_layout(alloc, turns.as_slice(), layout)?;

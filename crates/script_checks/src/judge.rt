@@ -4,7 +4,7 @@ ghost use Rattle.std.specs.Prelude.{◌≡◌, ◌++◌, [], map, option_map, If
 ghost use Rattle.std.specs.List.{list_any};
 ghost use Rattle.scr_check.specs.TalkSeen.{stop_in};
 ghost use Rattle.tn_session.specs.KeptView.{kept_view};
-ghost use Rattle.script_checks.specs.KnownView.{known_view};
+ghost use Rattle.script_checks.specs.KnownView.{known_view, turns_seen};
 ghost use Rattle.script_checks.specs.Lines.{clean, line_after};
 ghost use Rattle.script_checks.specs.NamedView.{named_view};
 ghost use Rattle.script_checks.specs.Report.{screen_text, stop_told, kept_told, told_of, are_both, is_same, are_same, is_known, room_after, room_for, next_number, Tells};
@@ -107,7 +107,7 @@ fn push_kept(
     turns: Option<&[KeptRecord]>,
 ) -> Result<bool, AllocError>
     ensures { IfOk result (λ finds. Tells out.old.items out.new.items finds
-        (kept_told number (named_view one.now) (option_map (λ kept. map kept_view kept.now) turns.entry))) }
+        (kept_told number (named_view one.now) (turns_seen turns.entry))) }
 {
     let Some(kept) = turns else {
         push_screen(out, number, &one.name, b" input too long")?;
@@ -127,7 +127,7 @@ fn push_told(
     turns: Option<&[KeptRecord]>,
 ) -> Result<bool, AllocError>
     ensures { IfOk result (λ finds. Tells out.old.items out.new.items finds
-        (told_of layouts.now screen.now (option_map (λ kept. map kept_view kept.now) turns.entry) number)) }
+        (told_of layouts.now screen.now (turns_seen turns.entry) number)) }
 {
     match choose(screen, layouts.all()) {
         Some(one) => push_kept(alloc, out, number, one, turns),
@@ -178,7 +178,7 @@ fn are_known(known: &[Vec<KeptRecord>], kept: &[KeptRecord]) -> bool
 /// Whether turns are among those that are known.
 #[tactic(auto, using(crate::proofs::Lists::any_mapped))]
 fn is_known(known: &[Vec<KeptRecord>], turns: Option<&[KeptRecord]>) -> bool
-    ensures { result ≡ is_known (map known_view known.now) (option_map (λ kept. map kept_view kept.now) turns.entry) }
+    ensures { result ≡ is_known (map known_view known.now) (turns_seen turns.entry) }
 {
     match turns {
         Some(kept) => are_known(known, kept),
@@ -219,6 +219,7 @@ fn next_number(number: u64) -> u64
 impl Judge {
     ghost use Rattle.std.specs.Prelude.{◌≡◌, ◌++◌, map, option_map, IfOk, OnOk};
     ghost use Rattle.tn_session.specs.KeptView.{kept_view};
+    ghost use Rattle.script_checks.specs.KnownView.{turns_seen};
     ghost use Rattle.script_checks.specs.Lines.{lines_after};
     ghost use Rattle.script_checks.specs.Report.{Judging, nothing_judged, knowing, judging_after, texts_due};
 
@@ -255,7 +256,7 @@ impl Judge {
 
     /// Knows a screen again, where there is room.
     fn know(&mut self, alloc: Global, turns: Option<&[KeptRecord]>) -> Result<(), AllocError>
-        ensures { OnOk result (self.new ≡ knowing self.old (option_map (λ kept. map kept_view kept.now) turns.entry)) }
+        ensures { OnOk result (self.new ≡ knowing self.old (turns_seen turns.entry)) }
     {
         let Some(kept) = turns else {
             return Ok(());
@@ -284,9 +285,9 @@ impl Judge {
         report: &mut Vec<u8>,
     ) -> Result<(), AllocError>
         ensures report { OnOk result (report.new.items ≡ report.old.items ++ lines_after []
-            (texts_due self.old screen.now (option_map (λ kept. map kept_view kept.now) turns.entry))) }
+            (texts_due self.old screen.now (turns_seen turns.entry))) }
         ensures after { OnOk result (self.new
-            ≡ judging_after self.old screen.now (option_map (λ kept. map kept_view kept.now) turns.entry)) }
+            ≡ judging_after self.old screen.now (turns_seen turns.entry)) }
     {
         if is_known(&self.known, turns) {
             return Ok(());

@@ -60,8 +60,10 @@ impl Layouts {
         name: &[u8],
         text: &[u8],
     ) -> Result<Result<(), LayoutRefusal>, AllocError>
-        ensures added { IfOk result (λ answer. answer ≡ added (layout_for self.old.geometry text.now)) }
-        ensures listed { IfOk result (λ answer. self.new ≡ listed_with self.old name.now (layout_for self.old.geometry text.now)) }
+        ensures added { IfOk result
+            (λ answer. answer ≡ added (layout_for self.old.geometry text.now)) }
+        ensures listed { IfOk result (λ answer. self.new
+            ≡ listed_with self.old name.now (layout_for self.old.geometry text.now)) }
         ensures err { OnErr result (self.new ≡ self.old) }
     {
         match layout_for(alloc, self.geometry, text)? {

@@ -1,6 +1,6 @@
 //! The layouts that a script names.
 
-ghost use Rattle.std.specs.Prelude.{◌≡◌, IfOk, IfErr, Some};
+ghost use Rattle.std.specs.Prelude.{◌≡◌, IfOk, Some};
 ghost use Rattle.cli_commands.specs.Talk.{is_geometry, modes_equal, sizes_equal};
 ghost use Rattle.script_checks.specs.Read.{fitting, layout_for, refusal_text};
 

@@ -3,14 +3,24 @@
 use crate::parted;
 use crate::setup::{Setup, opened};
 use crate::words::{arguments_of, push_name, push_text};
+use ds_keys::Key;
 use ds_screen::{PlaneCells, Screen};
 use script_keys::{Action, Run, margin_run, push_fault, read_action, runs_of, typed_runs};
 use std::alloc::AllocError;
 use test_words::Row;
 
+/// Adds a key, with the code that it types or its attention identifier.
+fn push_key(row: &mut Row, key: &Key) {
+    match key {
+        Key::Typed(code) => row.word_hex("Typed ", *code),
+        Key::Attention(aid) => row.word_hex("Attention ", aid.byte()),
+        _ => push_name(row, key),
+    }
+}
+
 /// Adds a key, and how often it is pressed where that isn't once.
 fn push_run(row: &mut Row, run: &Run) {
-    push_name(row, &run.key);
+    push_key(row, &run.key);
     if run.times != 1 {
         row.word_number("*", run.times);
     }
@@ -23,7 +33,7 @@ fn push_runs(row: &mut Row, runs: Result<Vec<Run>, AllocError>) {
     };
     row.word_if(runs.is_empty(), "-");
     for (index, run) in runs.iter().enumerate() {
-        row.word_if(index > 0, " ");
+        row.word_if(index > 0, ", ");
         push_run(row, run);
     }
 }

@@ -1,14 +1,13 @@
 //! What a script reads of a screen, and the texts that it types.
 
+use crate::parted;
 use crate::setup::{Setup, opened};
 use crate::words::{arguments_of, push_name, push_said, push_text};
-use crate::parted;
 use ds_screen::{PlaneCells, Screen};
 use script_screens::{
-    CodePage, Connection, Device, Piece, Protocol, Query, Reading, Snap, Typed,
-    character_of, code_of, codes_law, key_of, next_piece, push_character, push_kept,
-    push_key_fault, push_query, push_reading, push_snap_fault, push_status, push_string_fault,
-    read_number, snap_of,
+    CodePage, Connection, Device, Piece, Protocol, Query, Reading, Snap, Typed, character_of,
+    code_of, codes_law, key_of, next_piece, push_character, push_kept, push_key_fault, push_query,
+    push_reading, push_snap_fault, push_status, push_string_fault, read_number, snap_of,
 };
 use test_words::Row;
 

@@ -1,4 +1,4 @@
-use Rattle.std.proofs.Common.{◌≡◌, ◌∙◌, ap, sym, subst}
+use Rattle.std.proofs.Common.{◌∙◌, ap, sym, subst}
 use Rattle.cli_commands.specs.TurnsHeld.{lent_held}
 use Rattle.scr_check.specs.TalkSeen.{HaveOneGeometry, rounds_of}
 use Rattle.script_checks.proofs.Geometry.{one_geometry}

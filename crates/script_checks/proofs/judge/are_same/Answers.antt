@@ -1,4 +1,4 @@
-use Rattle.std.proofs.Common.{◌≡◌, map, sym}
+use Rattle.std.proofs.Common.{map, sym}
 use Rattle.std.proofs.lemmas.List.{length-map}
 use Rattle.tn_session.specs.KeptView.{kept_view}
 use Rattle.script_checks.proofs.Lists.{differ}

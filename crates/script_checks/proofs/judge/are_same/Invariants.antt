@@ -1,4 +1,4 @@
-use Rattle.std.proofs.Common.{◌≡◌, map, drop, length}
+use Rattle.std.proofs.Common.{◌≡◌, map, drop}
 use Rattle.tn_session.specs.KeptView.{kept_view}
 use Rattle.script_checks.specs.Report.{are_same}
 use Rattle.script_checks.proofs.judge.are_same.Given as goal
