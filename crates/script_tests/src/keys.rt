@@ -39,7 +39,7 @@ fn push_runs(row: &mut Row, runs: Result<Vec<Run>, AllocError>) {
 }
 
 /// Adds what an action that presses no key asks for.
-fn push_other(row: &mut Row, action: Action<'_>) {
+fn push_other(row: &mut Row, action: &Action<'_>) {
     match action {
         Action::Keys(_keys) => row.word("keys"),
         Action::Connect(address) => {
@@ -49,7 +49,7 @@ fn push_other(row: &mut Row, action: Action<'_>) {
         Action::Disconnect => row.word("disconnect"),
         Action::Quit => row.word("quit"),
         Action::Other(name, arguments) => {
-            push_name(row, &name);
+            push_name(row, name);
             row.word_length(" ", arguments.len());
         }
     }
@@ -64,7 +64,7 @@ fn push_action(row: &mut Row, screen: &Screen<PlaneCells>, words: &str) {
             let runs = runs_of(row.alloc(), screen, keys);
             push_runs(row, runs);
         }
-        Ok(action) => push_other(row, action),
+        Ok(action) => push_other(row, &action),
         Err(fault) => {
             let mut out = Vec::new(row.alloc());
             let pushed = push_fault(&mut out, &fault);
