@@ -53,6 +53,9 @@ try_tree() { # WHAT PREFIX LIBDIR
   if "$2/bin/term3270" suite "$work/pair" > "$work/printed" 2>&1; then good; else
     bad "$1: suite: $(cat "$work/printed")"
   fi
+  printf 'L U U N N 2 24 80 0 0 0x0 -\nok\n%.0s' 1 2 > "$work/wanted"
+  printf '\nQuit\n' | "$2/libexec/takvorn/s3270" -model 3278-2 -utf8 > "$work/printed"
+  same "$1: s3270 answers something else"
   page=$(ls "$2"/share/man/man1/term3270.1*)
   named=$({ zcat -f "$page"; for command in '' $("$program" --help | sed -n '/^  help/d; s/^  \([a-z]*\)  .*/\1/p'); do "$program" $command --help; done; } |
     grep -o 'docs/[A-Z]*\.md' | sort -u)

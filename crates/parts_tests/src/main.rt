@@ -20,7 +20,6 @@ mod codes;
 mod lists;
 mod marked;
 mod screens;
-mod scripts;
 mod steps;
 mod streams;
 mod structured;
@@ -108,7 +107,6 @@ fn push_answer(row: &mut Row, setup: &Setup, verb: &str, words: &str) -> bool {
         || streams::push_answer(row, verb, words)
         || wire_codes::push_answer(row, verb, words)
         || structured::push_answer(row, setup, verb, words)
-        || scripts::push_answer(row, setup, verb, words)
         || screens::push_answer(row, setup, verb, words)
 }
 

@@ -31,6 +31,7 @@ mod of_order_lines;
 mod of_scr_check;
 mod of_scr_draft;
 mod of_scr_layout;
+mod of_script_checks;
 mod of_script_keys;
 mod of_script_lines;
 mod of_script_requests;

@@ -16,7 +16,7 @@ mod words;
 
 use crate::Setup;
 use ds_screen::{Cells, PlainCells, PlaneCells, Screen};
-pub(crate) use records::{geometry_of, opened};
+pub(crate) use records::geometry_of;
 use test_words::Row;
 
 /// Adds what a verb answers that makes its own screens; whether it is one.

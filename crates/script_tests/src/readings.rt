@@ -1,16 +1,14 @@
 //! What a script reads of a screen, and the texts that it types.
 
-use crate::screens::opened;
-use crate::words::push_name;
-use crate::{Setup, parted};
+use crate::parted;
+use crate::setup::{Setup, opened};
+use crate::words::{arguments_of, push_name, push_said, push_text};
 use ds_screen::{PlaneCells, Screen};
 use script_screens::{
-    CodePage, Connection, Device, Outcome, Piece, Protocol, Query, Reading, Snap, Typed,
-    character_of, code_of, codes_law, key_of, next_piece, push_character, push_kept,
-    push_key_fault, push_query, push_reading, push_snap_fault, push_status, push_string_fault,
-    read_number, snap_of,
+    CodePage, Connection, Device, Piece, Protocol, Query, Reading, Snap, Typed, character_of,
+    code_of, codes_law, key_of, next_piece, push_character, push_kept, push_key_fault, push_query,
+    push_reading, push_snap_fault, push_status, push_string_fault, read_number, snap_of,
 };
-use std::alloc::AllocError;
 use test_words::Row;
 
 /// The connection of the rows below.
@@ -37,44 +35,6 @@ fn page_of(row: &mut Row, word: &str) -> CodePage {
             CodePage::Bracket
         }
     }
-}
-
-/// Adds a text in one line: `\n` is a line's end.
-fn push_text(row: &mut Row, text: &[u8]) {
-    match str::from_utf8(text) {
-        Ok(text) => {
-            for (index, part) in text.split('\n').enumerate() {
-                row.word_if(index > 0, "\\n");
-                row.word(part);
-            }
-        }
-        Err(_) => row.bytes(text),
-    }
-}
-
-/// Adds what an action said, and how it ended.
-fn push_said(row: &mut Row, said: &[u8], outcome: Result<Outcome, AllocError>) {
-    match row.take(outcome) {
-        Some(Outcome::Done) => row.word("ok "),
-        Some(Outcome::Failed) => row.word("error "),
-        None => {}
-    }
-    push_text(row, said);
-}
-
-/// The arguments of `|A|B`.
-fn arguments_of(row: &mut Row, words: &str) -> Vec<Vec<u8>> {
-    let mut arguments = Vec::new(row.alloc());
-    for (index, word) in words.split('|').enumerate() {
-        if index > 0 {
-            let argument = Vec::from_slice(row.alloc(), word.as_bytes());
-            if let Some(argument) = row.take(argument) {
-                let pushed = arguments.push(argument);
-                let _pushed = row.take(pushed);
-            }
-        }
-    }
-    arguments
 }
 
 fn reading_of(name: &str) -> Option<Reading> {
@@ -238,9 +198,9 @@ fn push_number(row: &mut Row, words: &str) {
 /// Adds what a verb says of a screen; whether it is one of these.
 fn push_of_screen(row: &mut Row, screen: &Screen<PlaneCells>, verb: &str, words: &str) {
     match verb {
-        "script-read" => push_read(row, screen, words),
-        "script-status" => push_status_line(row, screen, words),
-        "script-query" => push_queried(row, screen, words),
+        "read" => push_read(row, screen, words),
+        "status" => push_status_line(row, screen, words),
+        "query" => push_queried(row, screen, words),
         _ => push_snapped(row, screen, words),
     }
 }
@@ -248,10 +208,10 @@ fn push_of_screen(row: &mut Row, screen: &Screen<PlaneCells>, verb: &str, words:
 /// Adds what a verb of texts says; whether it is one of these.
 fn push_of_text(row: &mut Row, verb: &str, words: &str) -> bool {
     match verb {
-        "script-string" => push_pieces(row, words),
-        "script-key" => push_key(row, words),
-        "script-characters" => push_characters(row, words),
-        "script-number" => push_number(row, words),
+        "string" => push_pieces(row, words),
+        "key" => push_key(row, words),
+        "characters" => push_characters(row, words),
+        "number" => push_number(row, words),
         _ => return false,
     }
     true
@@ -260,8 +220,8 @@ fn push_of_text(row: &mut Row, verb: &str, words: &str) -> bool {
 /// Adds what a verb of scripts answers; whether it is one of these.
 pub(crate) fn push_answer(row: &mut Row, setup: &Setup, verb: &str, words: &str) -> bool {
     match verb {
-        "script-read" | "script-status" | "script-query" | "script-snap" => {
-            match opened::<PlaneCells>(row, setup) {
+        "read" | "status" | "query" | "snap" => {
+            match opened(row, setup) {
                 Some(screen) => push_of_screen(row, &screen, verb, words),
                 None => row.spoil(),
             }

@@ -1,0 +1,300 @@
+//! Each screen judged at the key that sends, by the layout that it matches.
+
+ghost use Rattle.std.specs.Prelude.{◌≡◌, ◌++◌, [], map, option_map, IfOk, OnOk};
+ghost use Rattle.std.specs.List.{list_any};
+ghost use Rattle.scr_check.specs.TalkSeen.{stop_in};
+ghost use Rattle.tn_session.specs.KeptView.{kept_view};
+ghost use Rattle.script_checks.specs.KnownView.{known_view, turns_seen};
+ghost use Rattle.script_checks.specs.Lines.{clean, line_after};
+ghost use Rattle.script_checks.specs.NamedView.{named_view};
+ghost use Rattle.script_checks.specs.Report.{screen_text, stop_told, kept_told, told_of, are_both, is_same, are_same, is_known, room_after, room_for, next_number, Tells};
+
+use crate::check::push_stop;
+use crate::chosen::choose;
+use crate::dialogue::{are_several, verdict_on};
+use crate::layouts::{Layouts, Named};
+use crate::lines::{PLAIN, push_clean, push_decimal};
+use ds_screen::{PlaneCells, Screen};
+use scr_check::TalkVerdict;
+use std::alloc::{AllocError, Global};
+use std::marker::Model;
+use tn_session::KeptRecord;
+
+/// The most screens that are known again.
+const MOST_SCREENS: usize = 1_000;
+
+/// The most bytes of their records.
+const MOST_BYTES: usize = 8_388_608;
+
+/// Judges the screens of a session, each once.
+#[derive(Drop)]
+pub struct Judge {
+    layouts: Layouts,
+    known: Vec<Vec<KeptRecord>>,
+    room: usize,
+    screens: u64,
+    has_findings: bool,
+}
+
+impl Model for Judge {
+    ghost use Rattle.std.specs.Prelude.{map};
+    ghost use Rattle.script_checks.specs.Report.{Judging};
+    ghost use Rattle.script_checks.specs.KnownView.{known_view};
+
+    ghost Value = { Judging };
+
+    ghost view = { λ j. record {
+      layouts = j.layouts;
+      known = map known_view j.known.items;
+      room = j.room;
+      screens = j.screens;
+      has_findings = j.has_findings;
+    } };
+}
+
+/// Adds the line of a screen's number, and what is said of it.
+fn push_screen(out: &mut Vec<u8>, number: u64, name: &[u8], words: &[u8]) -> Result<(), AllocError>
+    ensures { OnOk result (out.new.items
+        ≡ out.old.items ++ line_after [] (screen_text number (clean name.now ++ words.now))) }
+{
+    out.extend_from_slice(b"screen ")?;
+    push_decimal(out, number)?;
+    out.extend_from_slice(b" ")?;
+    push_clean(out, name)?;
+    out.extend_from_slice(words)?;
+    out.extend_from_slice(b"\n")
+}
+
+/// Adds the lines of a verdict, and answers whether something stands against the screen.
+fn push_verdict(
+    alloc: Global,
+    out: &mut Vec<u8>,
+    number: u64,
+    one: &Named,
+    several: bool,
+    verdict: &TalkVerdict,
+) -> Result<bool, AllocError>
+    ensures { IfOk result (λ finds. Tells out.old.items out.new.items finds
+        (stop_told number (named_view one.now) several (stop_in verdict.now))) }
+{
+    match verdict {
+        TalkVerdict::Yes => {
+            push_screen(out, number, &one.name, b" yes")?;
+            Ok(false)
+        }
+        TalkVerdict::No { turn, findings } => {
+            push_screen(out, number, &one.name, b" no")?;
+            push_stop(
+                alloc,
+                out,
+                PLAIN,
+                &one.layout,
+                several,
+                *turn,
+                findings.as_slice(),
+            )?;
+            Ok(true)
+        }
+    }
+}
+
+/// Adds the lines of a screen that is taken for a layout.
+fn push_kept(
+    alloc: Global,
+    out: &mut Vec<u8>,
+    number: u64,
+    one: &Named,
+    turns: Option<&[KeptRecord]>,
+) -> Result<bool, AllocError>
+    ensures { IfOk result (λ finds. Tells out.old.items out.new.items finds
+        (kept_told number (named_view one.now) (turns_seen turns.entry))) }
+{
+    let Some(kept) = turns else {
+        push_screen(out, number, &one.name, b" input too long")?;
+        return Ok(false);
+    };
+    let verdict = verdict_on(alloc, kept, &one.layout)?;
+    push_verdict(alloc, out, number, one, are_several(kept), &verdict)
+}
+
+/// Adds the lines of a screen, and answers whether something stands against it.
+fn push_told(
+    alloc: Global,
+    out: &mut Vec<u8>,
+    number: u64,
+    layouts: &Layouts,
+    screen: &Screen<PlaneCells>,
+    turns: Option<&[KeptRecord]>,
+) -> Result<bool, AllocError>
+    ensures { IfOk result (λ finds. Tells out.old.items out.new.items finds
+        (told_of layouts.now screen.now (turns_seen turns.entry) number)) }
+{
+    match choose(screen, layouts.all()) {
+        Some(one) => push_kept(alloc, out, number, one, turns),
+        None => {
+            push_screen(out, number, b"", b"none")?;
+            Ok(false)
+        }
+    }
+}
+
+/// Whether both hold, or neither does.
+fn are_both(one: bool, other: bool) -> bool
+    ensures { result ≡ are_both one other }
+{
+    if one { other } else { !other }
+}
+
+/// Whether two records are the same, and begin a turn or not.
+fn is_same(one: &KeptRecord, other: &KeptRecord) -> bool
+    ensures { result ≡ is_same (kept_view one.now) (kept_view other.now) }
+{
+    are_both(one.begins_turn, other.begins_turn) && one.bytes.as_slice() == other.bytes.as_slice()
+}
+
+/// Whether the records and their turns are the same.
+fn are_same(kept: &[KeptRecord], others: &[KeptRecord]) -> bool
+    ensures { result ≡ are_same (map kept_view kept.now) (map kept_view others.now) }
+{
+    if kept.len() != others.len() {
+        return false;
+    }
+    for index in 0..kept.len() {
+        if !is_same(&kept[index], &others[index]) {
+            return false;
+        }
+    }
+    true
+}
+
+/// Whether these records are among those that are known.
+fn are_known(known: &[Vec<KeptRecord>], kept: &[KeptRecord]) -> bool
+    ensures { result ≡ list_any (λ others. are_same (map kept_view kept.now) (known_view others))
+        known.now }
+{
+    known.iter().any(|others| are_same(kept, others))
+}
+
+/// Whether turns are among those that are known.
+#[tactic(auto, using(crate::proofs::Lists::any_mapped))]
+fn is_known(known: &[Vec<KeptRecord>], turns: Option<&[KeptRecord]>) -> bool
+    ensures { result ≡ is_known (map known_view known.now) (turns_seen turns.entry) }
+{
+    match turns {
+        Some(kept) => are_known(known, kept),
+        None => false,
+    }
+}
+
+/// The room that the bytes of records leave, if there is enough.
+fn room_after(room: usize, kept: &[KeptRecord]) -> Option<usize>
+    ensures { result ≡ room_after room (map kept_view kept.now) }
+{
+    let mut left = room;
+    for record in kept {
+        left = left.checked_sub(record.bytes.len())?;
+    }
+    Some(left)
+}
+
+fn copy_of(alloc: Global, kept: &[KeptRecord]) -> Result<Vec<KeptRecord>, AllocError>
+    ensures { IfOk result (λ copy. known_view copy ≡ map kept_view kept.now) }
+{
+    let mut copy = Vec::new(alloc);
+    for record in kept {
+        copy.push(KeptRecord {
+            begins_turn: record.begins_turn,
+            bytes: record.bytes.as_slice().to_vec(alloc)?,
+        })?;
+    }
+    Ok(copy)
+}
+
+fn next_number(number: u64) -> u64
+    ensures { result ≡ next_number number }
+{
+    number.saturating_add(1)
+}
+
+impl Judge {
+    ghost use Rattle.std.specs.Prelude.{◌≡◌, ◌++◌, map, option_map, IfOk, OnOk};
+    ghost use Rattle.tn_session.specs.KeptView.{kept_view};
+    ghost use Rattle.script_checks.specs.KnownView.{turns_seen};
+    ghost use Rattle.script_checks.specs.Lines.{lines_after};
+    ghost use Rattle.script_checks.specs.Report.{Judging, nothing_judged, knowing, judging_after, texts_due};
+
+    /// No screen yet.
+    pub fn new(alloc: Global, layouts: Layouts) -> Judge
+        ensures { result ≡ nothing_judged layouts }
+    {
+        Judge {
+            layouts,
+            known: Vec::new(alloc),
+            room: MOST_BYTES,
+            screens: 0,
+            has_findings: false,
+        }
+    }
+
+    /// Whether a screen had findings.
+    pub fn has_findings(&self) -> bool
+        ensures { result ≡ self.now.has_findings }
+    {
+        self.has_findings
+    }
+
+    /// Whether one more screen can be known again, and the room that it leaves.
+    fn room_for(&self, kept: &[KeptRecord]) -> Option<usize>
+        ensures { result ≡ room_for self.now (map kept_view kept.now) }
+    {
+        if self.known.len() < MOST_SCREENS {
+            room_after(self.room, kept)
+        } else {
+            None
+        }
+    }
+
+    /// Knows a screen again, where there is room.
+    fn know(&mut self, alloc: Global, turns: Option<&[KeptRecord]>) -> Result<(), AllocError>
+        ensures { OnOk result (self.new ≡ knowing self.old (turns_seen turns.entry)) }
+    {
+        let Some(kept) = turns else {
+            return Ok(());
+        };
+        let Some(room) = self.room_for(kept) else {
+            return Ok(());
+        };
+        self.known.push(copy_of(alloc, kept)?)?;
+        self.room = room;
+        Ok(())
+    }
+
+    /// Judges a screen by the layout that it matches, and adds to the report what is said of it: `screen 1 NAME yes`, `screen 1 NAME no`
+    /// and its findings, or `screen 1 none`. A layout matches where its screen has this one's size and a field begins at each of its
+    /// entries; of several the one with the most entries is taken, then the first by name. The records that made the screen are judged as
+    /// `Check` does. A screen whose records were judged before is left out: up to 1,000 of them, and 8,388,608 bytes, are known again.
+    ///
+    /// # Errors
+    ///
+    /// Where a request for memory was refused.
+    pub fn judge(
+        &mut self,
+        alloc: Global,
+        screen: &Screen<PlaneCells>,
+        turns: Option<&[KeptRecord]>,
+        report: &mut Vec<u8>,
+    ) -> Result<(), AllocError>
+        ensures report { OnOk result (report.new.items ≡ report.old.items ++ lines_after []
+            (texts_due self.old screen.now (turns_seen turns.entry))) }
+        ensures after { OnOk result (self.new
+            ≡ judging_after self.old screen.now (turns_seen turns.entry)) }
+    {
+        if is_known(&self.known, turns) {
+            return Ok(());
+        }
+        self.screens = next_number(self.screens);
+        let finds = push_told(alloc, report, self.screens, &self.layouts, screen, turns)?;
+        self.has_findings = self.has_findings || finds;
+        self.know(alloc, turns)
+    }
+}

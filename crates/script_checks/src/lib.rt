@@ -1,0 +1,23 @@
+//! What a script asks of the screen that it drives: whether it agrees with a layout, when it is asked, and at each key that sends.
+#![tactic(auto)]
+
+mod check;
+mod chosen;
+mod dialogue;
+mod judge;
+mod law;
+mod layouts;
+mod lines;
+mod read;
+
+pub use check::push_check;
+pub use judge::Judge;
+pub use law::{chosen_law, lines_law, texts_law, yes_law};
+pub use layouts::Layouts;
+pub use read::{LayoutRefusal, LayoutText};
+
+#[cfg(test)]
+mod tests {
+    #[test]
+    fn nothing() {}
+}
