@@ -11,7 +11,7 @@ use Rattle.scr_check.specs.Walk.{Stop}
 use Rattle.cli_commands.specs.declared.fault.Fault.{Fault}
 use Rattle.cli_commands.specs.LayoutText.{layout_in}
 use Rattle.cli_commands.specs.Talk.{is_geometry}
-use Rattle.script_screens.specs.Laws.{is_whole, are_whole}
+use Rattle.script_screens.specs.Laws.{are_whole}
 use Rattle.tn_session.specs.Kept.{Kept}
 use Rattle.script_checks.specs.declared.read.LayoutRefusal.{LayoutRefusal}
 use Rattle.script_checks.specs.declared.read.LayoutRefusal.TheVariants.{Refused, OtherSizes}
@@ -19,7 +19,10 @@ use Rattle.script_checks.specs.Laws.{ChecksAreLines, ReportsAreLines, AreLayouts
 use Rattle.script_checks.specs.Lines.{clean}
 use Rattle.script_checks.specs.Named.{Named, chosen, IsAmong, Chooses}
 use Rattle.script_checks.specs.Read.{fitting_said, refusal_text}
-use Rattle.script_checks.specs.Report.{screen_text, stop_told, kept_told, chosen_told}
+use Rattle.script_checks.specs.Forms.{screen_text, told_words, told_texts}
+use Rattle.script_checks.specs.Told.{Told, stop_told, kept_told, chosen_told, told_of}
+use Rattle.script_checks.specs.declared.told.Verdict.{Verdict}
+use Rattle.script_checks.specs.declared.told.Verdict.TheVariants.{NoLayout, NotKept, Yes, No}
 use Rattle.script_checks.specs.Said.{turn_texts, stop_texts, verdict_said, kept_said, layout_said}
 use Rattle.script_checks.specs.Turns.{are_several, stop_of}
 use Rattle.script_checks.proofs.BestLaws.{is_found}
@@ -70,28 +73,33 @@ checks_are_lines turns geometry path (Err cause) =
 screen_line : (number : ℕ) {words : List ℕ} → Whole words → Whole (screen_text number words)
 screen_line number words = plus (lit (codes "screen ") refl) (plus (num number) (plus (lit (codes " ") refl) words))
 
-named_line : (number : ℕ) (name words : List ℕ) → is_whole words ≡ true → Whole (screen_text number (clean name ++ words))
-named_line number name words whole = screen_line number (plus (cleaned name) (lit words whole))
+words_line : (name : List ℕ) (verdict : Verdict) → Whole (told_words name verdict)
+words_line name NoLayout = lit (codes "none") refl
+words_line name NotKept = plus (cleaned name) (lit (codes " input too long") refl)
+words_line name Yes = plus (cleaned name) (lit (codes " yes") refl)
+words_line name No = plus (cleaned name) (lit (codes " no") refl)
 
-told_whole : (number : ℕ) (one : Named) (several : Bool) (stop : Option Stop) → IsLayout one.layout → are_whole (stop_told number one several stop).texts ≡ true
-told_whole number one several None law = one_text (screen_text number (clean one.name ++ codes " yes")) (named_line number one.name (codes " yes") refl).whole
-told_whole number one several (Some stop) law =
-    more_texts (screen_text number (clean one.name ++ codes " no")) (stop_texts one.layout.entries several stop)
-    (named_line number one.name (codes " no") refl).whole (stop_whole one.layout.entries several stop (names_of_layout one.layout law))
+texts_whole : (number : ℕ) (told : Told) → are_whole told.lines ≡ true → are_whole (told_texts number told) ≡ true
+texts_whole number told whole = more_texts (screen_text number (told_words told.name told.verdict)) told.lines (screen_line number (words_line told.name told.verdict)).whole whole
 
-kept_told_whole : (number : ℕ) (one : Named) (turns : Option (List Kept)) → IsLayout one.layout → are_whole (kept_told number one turns).texts ≡ true
-kept_told_whole number one None law = one_text (screen_text number (clean one.name ++ codes " input too long")) (named_line number one.name (codes " input too long") refl).whole
-kept_told_whole number one (Some kept) law = told_whole number one (are_several kept) (stop_of one.layout kept) law
+stop_lines_whole : (one : Named) (several : Bool) (stop : Option Stop) → IsLayout one.layout → are_whole (stop_told one several stop).lines ≡ true
+stop_lines_whole one several None law = refl
+stop_lines_whole one several (Some stop) law = stop_whole one.layout.entries several stop (names_of_layout one.layout law)
+
+kept_lines_whole : (one : Named) (turns : Option (List Kept)) → IsLayout one.layout → are_whole (kept_told one turns).lines ≡ true
+kept_lines_whole one None law = refl
+kept_lines_whole one (Some kept) law = stop_lines_whole one (are_several kept) (stop_of one.layout kept) law
 
 layout_among : (all : List Named) (one : Named) → AreLayouts all → IsAmong one all → IsLayout one.layout
 layout_among [] one laws among = absurd among
 layout_among (first ∷ all) one laws (inl same) = subst (λ (n : Named). IsLayout n.layout) same laws.0
 layout_among (first ∷ all) one laws (inr among) = layout_among all one laws.1 among
 
-choice_whole : (v : Picture) (all : List Named) (choice : Option Named) (turns : Option (List Kept)) (number : ℕ) → AreLayouts all → Chooses v all choice
-    → are_whole (chosen_told number choice turns).texts ≡ true
-choice_whole v all None turns number laws chooses = one_text (screen_text number (codes "none")) (screen_line number (lit (codes "none") refl)).whole
-choice_whole v all (Some one) turns number laws chooses = kept_told_whole number one turns (layout_among all one laws chooses.among)
+choice_whole : (v : Picture) (all : List Named) (choice : Option Named) (turns : Option (List Kept)) → AreLayouts all → Chooses v all choice
+    → are_whole (chosen_told choice turns).lines ≡ true
+choice_whole v all None turns laws chooses = refl
+choice_whole v all (Some one) turns laws chooses = kept_lines_whole one turns (layout_among all one laws chooses.among)
 
 pub reports_are_lines : ReportsAreLines
-reports_are_lines layouts v turns number laws = choice_whole v layouts.all (chosen v layouts.all) turns number laws (is_found v layouts.all)
+reports_are_lines layouts v turns number laws =
+    texts_whole number (told_of layouts v turns) (choice_whole v layouts.all (chosen v layouts.all) turns laws (is_found v layouts.all))

@@ -16,7 +16,8 @@ use Rattle.script_screens.specs.Laws.{are_whole}
 use Rattle.tn_session.specs.Kept.{Kept}
 use Rattle.script_checks.specs.Lines.{lines_after}
 use Rattle.script_checks.specs.Named.{Listed, Named}
-use Rattle.script_checks.specs.Report.{told_of}
+use Rattle.script_checks.specs.Forms.{told_texts}
+use Rattle.script_checks.specs.Told.{told_of}
 use Rattle.script_checks.specs.Said.{judged_said, verdict_said, said_of_check}
 use Rattle.script_checks.specs.Turns.{are_several, rounds_with, turns_of}
 
@@ -68,7 +69,7 @@ abbrev pub AreLayouts : List Named → Type 0
 AreLayouts [] = Unit {0}
 AreLayouts (one ∷ all) = IsLayout one.layout × AreLayouts all
 
--- and none of a report
+-- and none of a report that is a text
 abbrev pub ReportsAreLines : Type 0
 ReportsAreLines =
-    (layouts : Listed) (v : Picture) (turns : Option (List Kept)) (number : ℕ) → AreLayouts layouts.all → are_whole (told_of layouts v turns number).texts ≡ true
+    (layouts : Listed) (v : Picture) (turns : Option (List Kept)) (number : ℕ) → AreLayouts layouts.all → are_whole (told_texts number (told_of layouts v turns)) ≡ true

@@ -5,6 +5,9 @@ pub mod ReadSeen
 pub mod Said
 pub mod Named
 pub mod NamedView
+pub mod Told
+pub mod ToldView
+pub mod Forms
 pub mod Report
 pub mod KnownView
 pub mod Laws

@@ -1,50 +1,16 @@
 -- What is reported of the screens of a session, each once.
-use Rattle.std.specs.Prelude.{◌≡◌, ℕ, ◌+◌, ◌-◌, Bool, true, false, not, ◌&&◌, ◌||◌, nat_le, nat_lt, min, List, [], ◌∷◌, ◌++◌, codes, length, Option, Some, None, if◌then◌else◌}
+use Rattle.std.specs.Prelude.{ℕ, ◌+◌, ◌-◌, Bool, true, false, not, ◌&&◌, ◌||◌, nat_le, nat_lt, min, List, [], ◌∷◌, ◌++◌, length, Option, Some, None, if◌then◌else◌}
 use Rattle.std.specs.List.{list_any}
 use Rattle.std.specs.Str.{bytes_eq}
-use Rattle.std.specs.Fmt.{decimal}
 use Rattle.ds_screen.specs.Picture.{Picture}
-use Rattle.scr_check.specs.Walk.{Stop}
 use Rattle.tn_session.specs.Kept.{Kept}
-use Rattle.script_checks.specs.Lines.{clean, lines_after}
-use Rattle.script_checks.specs.Named.{Named, Listed, chosen}
-use Rattle.script_checks.specs.Said.{stop_texts}
-use Rattle.script_checks.specs.Turns.{are_several, stop_of}
-
--- ---- one screen
-
--- the lines of a screen, and whether something stands against it
-pub record Told : Type 0 where
-  pub texts : List (List ℕ)
-  pub finds : Bool
-
--- what was added to a report, and whether something was found
-abbrev pub Tells : List ℕ → List ℕ → Bool → Told → Type 0
-Tells before after finds told = (after ≡ before ++ lines_after [] told.texts) × (finds ≡ told.finds)
-
--- the screen's number, and what is said of it
-abbrev pub screen_text : ℕ → List ℕ → List ℕ
-screen_text number words = codes "screen " ++ (decimal number ++ (codes " " ++ words))
-
-abbrev pub stop_told : ℕ → Named → Bool → Option Stop → Told
-stop_told number one several None = record { texts = screen_text number (clean one.name ++ codes " yes") ∷ []; finds = false }
-stop_told number one several (Some stop) =
-    record { texts = screen_text number (clean one.name ++ codes " no") ∷ stop_texts one.layout.entries several stop; finds = true }
-
--- its turns are judged as Check does; of records that aren't kept nothing is known
-abbrev pub kept_told : ℕ → Named → Option (List Kept) → Told
-kept_told number one None = record { texts = screen_text number (clean one.name ++ codes " input too long") ∷ []; finds = false }
-kept_told number one (Some kept) = stop_told number one (are_several kept) (stop_of one.layout kept)
-
-abbrev pub chosen_told : ℕ → Option Named → Option (List Kept) → Told
-chosen_told number None turns = record { texts = screen_text number (codes "none") ∷ []; finds = false }
-chosen_told number (Some one) turns = kept_told number one turns
-
--- by the layout that it is taken for
-abbrev pub told_of : Listed → Picture → Option (List Kept) → ℕ → Told
-told_of layouts v turns number = chosen_told number (chosen v layouts.all) turns
-
--- ---- of several
+use Rattle.script_checks.specs.declared.form.ReportFormat.{ReportFormat}
+use Rattle.script_checks.specs.declared.form.Totals.{Totals}
+use Rattle.script_checks.specs.declared.told.Verdict.{Verdict}
+use Rattle.script_checks.specs.declared.told.Verdict.TheVariants.{NoLayout, NotKept, Yes, No}
+use Rattle.script_checks.specs.Forms.{no_totals, counted_in, due_at_once, due_later}
+use Rattle.script_checks.specs.Named.{Listed}
+use Rattle.script_checks.specs.Told.{Told, told_of}
 
 -- what a judge keeps: the turns of screens that it knows again, and for how many bytes more it has room; how many screens it
 -- judged, and whether something stands against one
@@ -54,9 +20,13 @@ pub record Judging : Type 0 where
   pub room : ℕ
   pub screens : ℕ
   pub has_findings : Bool
+  pub format : ReportFormat
+  pub totals : Totals
+  pub cases : List ℕ
 
-abbrev pub nothing_judged : Listed → Judging
-nothing_judged layouts = record { layouts = layouts; known = []; room = 8388608; screens = 0; has_findings = false }
+abbrev pub nothing_judged : Listed → ReportFormat → Judging
+nothing_judged layouts format =
+    record { layouts = layouts; known = []; room = 8388608; screens = 0; has_findings = false; format = format; totals = no_totals; cases = [] }
 
 abbrev pub are_both : Bool → Bool → Bool
 are_both true other = other
@@ -97,15 +67,26 @@ knowing judging (Some kept) = with_known judging kept (room_for judging kept)
 abbrev pub next_number : ℕ → ℕ
 next_number number = min (number + 1) 18446744073709551615
 
+abbrev pub is_no : Verdict → Bool
+is_no NoLayout = false
+is_no NotKept = false
+is_no Yes = false
+is_no No = true
+
 -- the judge after one screen more, of which this is told
-abbrev pub after_told : Judging → Option (List Kept) → Told → Judging
-after_told judging turns told =
-    record (knowing judging turns) { screens = next_number judging.screens; has_findings = judging.has_findings || told.finds }
+abbrev pub told_to : Judging → Told → Judging
+told_to judging told = record judging {
+  screens = next_number judging.screens;
+  has_findings = judging.has_findings || is_no told.verdict;
+  totals = counted_in judging.totals told told.verdict;
+  cases = judging.cases ++ due_later judging.format (next_number judging.screens) told;
+}
 
 -- a screen whose turns are known is not judged again
-abbrev pub texts_due : Judging → Picture → Option (List Kept) → List (List ℕ)
-texts_due judging v turns = if is_known judging.known turns then [] else (told_of judging.layouts v turns (next_number judging.screens)).texts
+abbrev pub report_due : Judging → Picture → Option (List Kept) → List ℕ
+report_due judging v turns =
+    if is_known judging.known turns then [] else due_at_once judging.format (next_number judging.screens) (told_of judging.layouts v turns)
 
 abbrev pub judging_after : Judging → Picture → Option (List Kept) → Judging
 judging_after judging v turns =
-    if is_known judging.known turns then judging else after_told judging turns (told_of judging.layouts v turns (next_number judging.screens))
+    if is_known judging.known turns then judging else knowing (told_to judging (told_of judging.layouts v turns)) turns

@@ -69,7 +69,7 @@ fn push_findings(
 }
 
 /// Adds the lines of a turn and its findings.
-pub(crate) fn push_stop(
+fn push_stop(
     alloc: Global,
     out: &mut Vec<u8>,
     front: &[u8],

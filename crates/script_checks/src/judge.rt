@@ -1,21 +1,17 @@
 //! Each screen judged at the key that sends, by the layout that it matches.
 
-ghost use Rattle.std.specs.Prelude.{◌≡◌, ◌++◌, [], map, option_map, IfOk, OnOk};
+ghost use Rattle.std.specs.Prelude.{◌≡◌, ◌++◌, map, option_map, IfOk, OnOk};
 ghost use Rattle.std.specs.List.{list_any};
-ghost use Rattle.scr_check.specs.TalkSeen.{stop_in};
 ghost use Rattle.tn_session.specs.KeptView.{kept_view};
 ghost use Rattle.script_checks.specs.KnownView.{known_view, turns_seen};
-ghost use Rattle.script_checks.specs.Lines.{clean, line_after};
-ghost use Rattle.script_checks.specs.NamedView.{named_view};
-ghost use Rattle.script_checks.specs.Report.{screen_text, stop_told, kept_told, told_of, are_both, is_same, are_same, is_known, room_after, room_for, next_number, Tells};
+ghost use Rattle.script_checks.specs.Report.{is_no, are_both, is_same, are_same, is_known, room_after, next_number};
 
-use crate::check::push_stop;
-use crate::chosen::choose;
-use crate::dialogue::{are_several, verdict_on};
-use crate::layouts::{Layouts, Named};
-use crate::lines::{PLAIN, push_clean, push_decimal};
+use crate::form::{
+    ReportFormat, Totals, counted_in, no_totals, push_at_once, push_end, push_later_due,
+};
+use crate::layouts::Layouts;
+use crate::told::{Told, Verdict, told_of};
 use ds_screen::{PlaneCells, Screen};
-use scr_check::TalkVerdict;
 use std::alloc::{AllocError, Global};
 use std::marker::Model;
 use tn_session::KeptRecord;
@@ -34,6 +30,9 @@ pub struct Judge {
     room: usize,
     screens: u64,
     has_findings: bool,
+    format: ReportFormat,
+    totals: Totals,
+    cases: Vec<u8>,
 }
 
 impl Model for Judge {
@@ -49,92 +48,18 @@ impl Model for Judge {
       room = j.room;
       screens = j.screens;
       has_findings = j.has_findings;
+      format = j.format;
+      totals = j.totals;
+      cases = j.cases.items;
     } };
 }
 
-/// Adds the line of a screen's number, and what is said of it.
-fn push_screen(out: &mut Vec<u8>, number: u64, name: &[u8], words: &[u8]) -> Result<(), AllocError>
-    ensures { OnOk result (out.new.items
-        ≡ out.old.items ++ line_after [] (screen_text number (clean name.now ++ words.now))) }
-{
-    out.extend_from_slice(b"screen ")?;
-    push_decimal(out, number)?;
-    out.extend_from_slice(b" ")?;
-    push_clean(out, name)?;
-    out.extend_from_slice(words)?;
-    out.extend_from_slice(b"\n")
-}
-
-/// Adds the lines of a verdict, and answers whether something stands against the screen.
-fn push_verdict(
-    alloc: Global,
-    out: &mut Vec<u8>,
-    number: u64,
-    one: &Named,
-    several: bool,
-    verdict: &TalkVerdict,
-) -> Result<bool, AllocError>
-    ensures { IfOk result (λ finds. Tells out.old.items out.new.items finds
-        (stop_told number (named_view one.now) several (stop_in verdict.now))) }
+fn is_no(verdict: Verdict) -> bool
+    ensures { result ≡ is_no verdict }
 {
     match verdict {
-        TalkVerdict::Yes => {
-            push_screen(out, number, &one.name, b" yes")?;
-            Ok(false)
-        }
-        TalkVerdict::No { turn, findings } => {
-            push_screen(out, number, &one.name, b" no")?;
-            push_stop(
-                alloc,
-                out,
-                PLAIN,
-                &one.layout,
-                several,
-                *turn,
-                findings.as_slice(),
-            )?;
-            Ok(true)
-        }
-    }
-}
-
-/// Adds the lines of a screen that is taken for a layout.
-fn push_kept(
-    alloc: Global,
-    out: &mut Vec<u8>,
-    number: u64,
-    one: &Named,
-    turns: Option<&[KeptRecord]>,
-) -> Result<bool, AllocError>
-    ensures { IfOk result (λ finds. Tells out.old.items out.new.items finds
-        (kept_told number (named_view one.now) (turns_seen turns.entry))) }
-{
-    let Some(kept) = turns else {
-        push_screen(out, number, &one.name, b" input too long")?;
-        return Ok(false);
-    };
-    let verdict = verdict_on(alloc, kept, &one.layout)?;
-    push_verdict(alloc, out, number, one, are_several(kept), &verdict)
-}
-
-/// Adds the lines of a screen, and answers whether something stands against it.
-fn push_told(
-    alloc: Global,
-    out: &mut Vec<u8>,
-    number: u64,
-    layouts: &Layouts,
-    screen: &Screen<PlaneCells>,
-    turns: Option<&[KeptRecord]>,
-) -> Result<bool, AllocError>
-    ensures { IfOk result (λ finds. Tells out.old.items out.new.items finds
-        (told_of layouts.now screen.now (turns_seen turns.entry) number)) }
-{
-    match choose(screen, layouts.all()) {
-        Some(one) => push_kept(alloc, out, number, one, turns),
-        None => {
-            push_screen(out, number, b"", b"none")?;
-            Ok(false)
-        }
+        Verdict::No => true,
+        Verdict::NoLayout | Verdict::NotKept | Verdict::Yes => false,
     }
 }
 
@@ -220,12 +145,13 @@ impl Judge {
     ghost use Rattle.std.specs.Prelude.{◌≡◌, ◌++◌, map, option_map, IfOk, OnOk};
     ghost use Rattle.tn_session.specs.KeptView.{kept_view};
     ghost use Rattle.script_checks.specs.KnownView.{turns_seen};
-    ghost use Rattle.script_checks.specs.Lines.{lines_after};
-    ghost use Rattle.script_checks.specs.Report.{Judging, nothing_judged, knowing, judging_after, texts_due};
+    ghost use Rattle.script_checks.specs.Forms.{due_at_once, due_at_the_end};
+    ghost use Rattle.script_checks.specs.Report.{Judging, nothing_judged, knowing, told_to, judging_after, report_due, next_number, room_for};
+    ghost use Rattle.script_checks.specs.ToldView.{told_seen};
 
-    /// No screen yet.
-    pub fn new(alloc: Global, layouts: Layouts) -> Judge
-        ensures { result ≡ nothing_judged layouts }
+    /// No screen yet, and a report of this form.
+    pub fn new(alloc: Global, layouts: Layouts, format: ReportFormat) -> Judge
+        ensures { result ≡ nothing_judged layouts format }
     {
         Judge {
             layouts,
@@ -233,6 +159,9 @@ impl Judge {
             room: MOST_BYTES,
             screens: 0,
             has_findings: false,
+            format,
+            totals: no_totals(),
+            cases: Vec::new(alloc),
         }
     }
 
@@ -269,10 +198,25 @@ impl Judge {
         Ok(())
     }
 
-    /// Judges a screen by the layout that it matches, and adds to the report what is said of it: `screen 1 NAME yes`, `screen 1 NAME no`
-    /// and its findings, or `screen 1 none`. A layout matches where its screen has this one's size and a field begins at each of its
-    /// entries; of several the one with the most entries is taken, then the first by name. The records that made the screen are judged as
-    /// `Check` does. A screen whose records were judged before is left out: up to 1,000 of them, and 8,388,608 bytes, are known again.
+    /// Adds what is told of a screen to the report and to what is kept for its end, and counts it.
+    fn tell(&mut self, alloc: Global, told: &Told, report: &mut Vec<u8>) -> Result<(), AllocError>
+        ensures report { OnOk result (report.new.items ≡ report.old.items
+            ++ due_at_once self.old.format (next_number self.old.screens) (told_seen told.now)) }
+        ensures after { OnOk result (self.new ≡ told_to self.old (told_seen told.now)) }
+    {
+        self.screens = next_number(self.screens);
+        push_at_once(alloc, self.format, report, self.screens, told)?;
+        push_later_due(alloc, self.format, &mut self.cases, self.screens, told)?;
+        self.totals = counted_in(self.totals, told);
+        self.has_findings = self.has_findings || is_no(told.verdict);
+        Ok(())
+    }
+
+    /// Judges a screen by the layout that it matches, and adds to the report what is said of it: in a text `screen 1 NAME yes`, `screen 1
+    /// NAME no` and its findings, or `screen 1 none`. A layout matches where its screen has this one's size and a field begins at each of
+    /// its entries; of several the one with the most entries is taken, then the first by name. The records that made the screen are judged
+    /// as `Check` does. A screen whose records were judged before is left out: up to 1,000 of them, and 8,388,608 bytes, are known
+    /// again.
     ///
     /// # Errors
     ///
@@ -284,17 +228,28 @@ impl Judge {
         turns: Option<&[KeptRecord]>,
         report: &mut Vec<u8>,
     ) -> Result<(), AllocError>
-        ensures report { OnOk result (report.new.items ≡ report.old.items ++ lines_after []
-            (texts_due self.old screen.now (turns_seen turns.entry))) }
+        ensures report { OnOk result (report.new.items ≡ report.old.items
+            ++ report_due self.old screen.now (turns_seen turns.entry)) }
         ensures after { OnOk result (self.new
             ≡ judging_after self.old screen.now (turns_seen turns.entry)) }
     {
         if is_known(&self.known, turns) {
             return Ok(());
         }
-        self.screens = next_number(self.screens);
-        let finds = push_told(alloc, report, self.screens, &self.layouts, screen, turns)?;
-        self.has_findings = self.has_findings || finds;
+        let told = told_of(alloc, &self.layouts, screen, turns)?;
+        self.tell(alloc, &told, report)?;
         self.know(alloc, turns)
+    }
+
+    /// Adds what is due at the end of the report: of JSON the totals, of JUnit all of it.
+    ///
+    /// # Errors
+    ///
+    /// Where a request for memory was refused.
+    pub fn finish(&self, report: &mut Vec<u8>) -> Result<(), AllocError>
+        ensures { OnOk result (report.new.items ≡ report.old.items
+            ++ due_at_the_end self.now.format self.now.totals self.now.cases) }
+    {
+        push_end(self.format, report, self.totals, &self.cases)
     }
 }

@@ -4,13 +4,16 @@
 mod check;
 mod chosen;
 mod dialogue;
+mod form;
 mod judge;
 mod law;
 mod layouts;
 mod lines;
 mod read;
+mod told;
 
 pub use check::push_check;
+pub use form::ReportFormat;
 pub use judge::Judge;
 pub use law::{chosen_law, lines_law, texts_law, yes_law};
 pub use layouts::Layouts;

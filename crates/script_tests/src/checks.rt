@@ -54,7 +54,7 @@ fn push_layouts(row: &mut Row, setup: &mut Setup, words: &str) {
             add_layout(row, &mut layouts, name, text);
         }
     }
-    setup.judge = Judge::new(row.alloc(), layouts);
+    setup.judge = Judge::new(row.alloc(), layouts, setup.format);
 }
 
 /// Adds what the judge says of the screen, and whether something stands against one so far.
@@ -73,6 +73,14 @@ fn push_judged(row: &mut Row, setup: &mut Setup) {
     row.truth(setup.judge.has_findings());
 }
 
+/// Adds what is due at the end of the judge's report.
+fn push_finished(row: &mut Row, setup: &Setup) {
+    let mut report = Vec::new(row.alloc());
+    let finished = setup.judge.finish(&mut report);
+    row.note(finished);
+    push_text(row, &report);
+}
+
 /// Adds what a verb of checks answers; whether it is one of these.
 pub(crate) fn push_answer(row: &mut Row, setup: &mut Setup, verb: &str, words: &str) -> bool {
     match verb {
@@ -80,6 +88,7 @@ pub(crate) fn push_answer(row: &mut Row, setup: &mut Setup, verb: &str, words: &
         "unreadable" => push_unreadable(row, setup, words),
         "layouts" => push_layouts(row, setup, words),
         "judge" => push_judged(row, setup),
+        "finish" => push_finished(row, setup),
         _ => return false,
     }
     true

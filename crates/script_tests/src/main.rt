@@ -5,7 +5,7 @@
 //!
 //! `screen 2x10 3x10` gives the sizes, `after RECORD; RECORD` the records of the screens that the lines below begin with, each on a new one,
 //! and `pressed KEY, KEY` keys after them. `turns RECORD;RECORD|RECORD` are the records that made a screen, with `|` where the operator
-//! sent, and after `not-kept` there are too many; `layout TEXT` is the layout that `check` takes. Every other line is a verb and its
+//! sent, and after `not-kept` there are too many; `layout TEXT` is the layout that `check` takes, and `report json` the form of reports. Every other line is a verb and its
 //! words, arguments parted by `|`. In texts `\n` is a line's end. Lines of `#` say what comes.
 #![tactic(auto)]
 

@@ -5,7 +5,7 @@ use ds_codec::{Geometry, Mode, Size};
 use ds_keys::{key_of_line, press};
 use ds_screen::{PlaneCells, Screen};
 use ds_terminal::take_record;
-use script_checks::{Judge, Layouts};
+use script_checks::{Judge, Layouts, ReportFormat};
 use std::alloc::Global;
 use test_words::Row;
 use tn_session::KeptRecord;
@@ -23,6 +23,8 @@ pub(crate) struct Setup {
     pub(crate) layout: Vec<u8>,
     /// The records that made a screen, and none where they aren't kept.
     pub(crate) kept: Option<Vec<KeptRecord>>,
+    /// The form of the next judge's report.
+    pub(crate) format: ReportFormat,
     pub(crate) judge: Judge,
 }
 
@@ -42,7 +44,8 @@ pub(crate) fn new_setup(alloc: Global) -> Option<Setup> {
         pressed: String::new(alloc),
         layout: Vec::new(alloc),
         kept: Some(Vec::new(alloc)),
-        judge: Judge::new(alloc, Layouts::new(alloc, geometry)),
+        format: ReportFormat::Text,
+        judge: Judge::new(alloc, Layouts::new(alloc, geometry), ReportFormat::Text),
     })
 }
 
@@ -132,6 +135,15 @@ fn kept_of(row: &mut Row, turns: &str) -> Vec<KeptRecord> {
     kept
 }
 
+fn set_format(row: &mut Row, setup: &mut Setup, word: &str) {
+    match word {
+        "text" => setup.format = ReportFormat::Text,
+        "json" => setup.format = ReportFormat::Json,
+        "junit" => setup.format = ReportFormat::Junit,
+        _ => row.spoil(),
+    }
+}
+
 /// Takes a line that says what the lines below begin with; whether it is one.
 pub(crate) fn take_line(row: &mut Row, setup: &mut Setup, verb: &str, words: &str) -> bool {
     match verb {
@@ -144,6 +156,7 @@ pub(crate) fn take_line(row: &mut Row, setup: &mut Setup, verb: &str, words: &st
         "layout" => setup.layout = text_of(row, words),
         "turns" => setup.kept = Some(kept_of(row, words)),
         "not-kept" => setup.kept = None,
+        "report" => set_format(row, setup, words),
         _ => return false,
     }
     true
