@@ -16,7 +16,7 @@ const WHEN: &[&str] = &["auto", "always", "never"];
 
 const FINDING_FORMS: &[&str] = &["text", "json", "sarif"];
 
-const SUITE_FORMS: &[&str] = &["text", "json", "junit"];
+const SUITE_FORMS: &[&str] = &["text", "json", "junit", "sarif"];
 
 const SOURCES: &[&str] = &["trace", "stream", "buffer"];
 
