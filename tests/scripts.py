@@ -610,57 +610,6 @@ def check_of_nothing(program: Program) -> None:
     want(driver.end() == (b"", 0), "more at the end, or another status")
 
 
-def report_of(program: Program, records: str, lines: list[str], to_file: bool) -> tuple[list[str], int | None]:
-    """The report of a session with two layouts, and its status."""
-    with tempfile.TemporaryDirectory() as folder:
-        layouts = os.path.join(folder, "layouts")
-        os.mkdir(layouts)
-        write_file(layouts, "signon.toml", SIGNON_LAYOUT)
-        write_file(layouts, "menu.toml", MENU_LAYOUT)
-        write_file(layouts, "notes.txt", "no layout")
-        report = os.path.join(folder, "report")
-        _host, driver = connected(program, records, ["--layouts", layouts] + (["--report", report] if to_file else []))
-        for line in lines:
-            want(driver.ask(line)[2] == "ok", f"{line} is at fault")
-        assert driver.process.stderr is not None
-        driver.close_input()
-        told = driver.process.stderr.read().decode()
-        said, status = driver.end()
-        want(said == b"", "more at the end")
-        return (read_file(report) if to_file else told).splitlines(), status
-
-
-def judged_screens(program: Program) -> None:
-    """Each screen on which a key sends is judged once, by the layout that it matches."""
-    good = f"{SIGNON}\nturn\n{MENU}\nturn\n{ITEMS}\nturn\n{SIGNON}\n"
-    told = report_of(program, good, ["Enter", "PF(3)", "PA(1)"], True)
-    want(told == (["screen 1 signon.toml yes", "screen 2 menu.toml yes", "screen 3 none"], 0), f"a good session: {told}")
-    flawed = f"{FLAWED}\nturn\n{FLAWED}\nturn\n{MENU}\n"
-    finding = told_by_layout(program)
-    for to_file in (True, False):
-        told = report_of(program, flawed, ["Enter", "Enter", "Ascii(0)"], to_file)
-        want(told == (["screen 1 signon.toml no", *finding], 1), f"a flawed session: {told}")
-
-
-def told_by_layout(program: Program) -> list[str]:
-    with tempfile.TemporaryDirectory() as folder:
-        return told_by(program, ["check", write_file(folder, "signon.toml", SIGNON_LAYOUT)], FLAWED)
-
-
-def refused_layouts(program: Program) -> None:
-    """A layout that is refused, or that the device doesn't fit, ends it before any line is read."""
-    for name, text, words in (("bad.toml", "[[field]", "L1 NotToml"), ("wide.toml", WIDE_LAYOUT, "no device of these sizes")):
-        with tempfile.TemporaryDirectory() as folder:
-            write_file(folder, "signon.toml", SIGNON_LAYOUT)
-            write_file(folder, name, text)
-            driver = Driver(program, ["--layouts", folder])
-            driver.write(b"Query(Cursor)\n")
-            driver.close_input()
-            assert driver.process.stderr is not None
-            told = driver.process.stderr.read().decode()
-            want(driver.end() == (b"", 2) and name in told and words in told, f"{name}: {told!r}")
-
-
 # ---- the words of tools
 
 
@@ -685,8 +634,6 @@ OTHERS: list[tuple[str, Callable[[Program], None], bool]] = [
     ("pages", pages, True),
     ("checks", checks, True),
     ("check-of-nothing", check_of_nothing, True),
-    ("judged-screens", judged_screens, True),
-    ("refused-layouts", refused_layouts, True),
 ]
 
 

@@ -32,8 +32,8 @@ fn push_end(out: &mut String) -> Result<(), AllocError>
     out.push_str("</body>\n</html>\n")
 }
 
-/// Adds a page with the drawing of a screen, on a black ground: what `show --format html` prints.
-pub fn push_page(out: &mut String, screen: &Screen<PlaneCells>) -> Result<(), AllocError>
+/// A page with the drawing, on a black ground.
+pub(crate) fn push_page(out: &mut String, screen: &Screen<PlaneCells>) -> Result<(), AllocError>
     ensures { OnOk result (string_bytes out.new ≡ string_bytes out.old ++ html_page screen.now) }
 {
     push_top(out)?;

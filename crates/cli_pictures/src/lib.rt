@@ -21,7 +21,6 @@ mod svg;
 
 pub use annotated::{Annotated, annotated_text, run_annotated};
 pub use drawing::Drawing;
-pub use html::push_page;
 pub use law::{drawing_law, looks_law, names_law};
 pub use picture::{picture_text, run_picture};
 pub use pressed::pressed_text;

@@ -251,8 +251,13 @@ Statuses:
   reached, or the session, a read or a write failed, 4 out of memory";
 
 pub(crate) const SCRIPT: &str = "Input:
-  actions on standard input, one or more a line, as s3270 takes them (docs/SCRIPT.md)
+  Actions are lines on standard input, one action or more a line, as s3270 takes them (docs/SCRIPT.md).
+
 Output:
-  for each line its data lines, a status line, and 'ok' or 'error'
+  for each line its data lines, a status line, and 'ok' or 'error'.
+
 Example:
-  $ printf 'Connect(localhost:3270)\nString(\"ANNA\\tSECRET\\n\")\nAscii(0,0,1,80)\n' | term3270 script";
+  $ printf 'Connect(localhost:3270)\nString(ANNA)\nAscii(3,19,8)\n' | term3270 script
+
+Statuses:
+  0 done, 2 a fault of the command line, 3 a read or a write failed, 4 out of memory";

@@ -1,14 +1,17 @@
 //! The command `script`: over standard streams, a line over TCP, and files.
 
+ghost use Rattle.std.specs.Prelude.{◌≡◌, ◌++◌};
+ghost use Rattle.cli_scripts.specs.Worlds.{Gives};
+
 use crate::manners::{bare_host, tell_unknown_device};
 use crate::tcp::Place;
 use cli_commands::{Status, Watched, failure};
-use cli_pictures::push_page;
 use cli_scripts::{Heard, Machine, Patience, World, run_script};
 use cli_words::ScriptAsked;
 use ds_screen::{PlaneCells, Screen};
 use script_requests::{Address, push_address_fault, read_address};
-use std::alloc::AllocError;
+use script_screens::{CodePage, Reading, push_reading};
+use std::alloc::{AllocError, Global};
 use std::io::{Read, Write};
 use std::net::TcpStream;
 use std::time::{Duration, Instant};
@@ -80,14 +83,69 @@ impl Socket {
 struct Surroundings<'a> {
     rt: &'a HostRuntime,
     socket: Option<Socket>,
+    code_page: CodePage,
     /// When the wait that was begun last is over.
     deadline: Option<Instant>,
     received: History<u8>,
     sent: History<u8>,
 }
 
+/// What begins a page.
+const PAGE_BEGIN: &str =
+    "<!DOCTYPE html>\n<html lang=\"en\">\n<head>\n<meta charset=\"utf-8\">\n<title>3270 screen</title>\n</head>\n<body style=\"background: black\">\n<pre style=\"color: lime\">\n";
+
+/// What ends a page.
+const PAGE_END: &str = "</pre>\n</body>\n</html>\n";
+
+/// Adds a text to a page.
+fn push_escaped(page: &mut String, text: &str) -> Result<(), AllocError> {
+    'characters: for character in text.chars() {
+        match character {
+            '&' => page.push_str("&amp;")?,
+            '<' => page.push_str("&lt;")?,
+            '>' => page.push_str("&gt;")?,
+            _ => page.push(character)?,
+        }
+    }
+    Ok(())
+}
+
+/// The rows of a screen as Ascii says them, to be searched and copied.
+fn push_rows(
+    alloc: Global,
+    page: &mut String,
+    screen: &Screen<PlaneCells>,
+    code_page: CodePage,
+) -> Result<(), AllocError> {
+    let mut said = Vec::new(alloc);
+    let _outcome = push_reading(&mut said, screen, code_page, Reading::Ascii, &[])?;
+    let Ok(text) = str::from_utf8(&said) else {
+        return Ok(());
+    };
+    'rows: for line in text.lines() {
+        push_escaped(page, line.strip_prefix("data: ").unwrap_or(line))?;
+        page.push_str("\n")?;
+    }
+    Ok(())
+}
+
+/// A screen as a page of its rows.
+fn page_of(
+    alloc: Global,
+    screen: &Screen<PlaneCells>,
+    code_page: CodePage,
+) -> Result<String, AllocError> {
+    let mut page = String::new(alloc);
+    page.push_str(PAGE_BEGIN)?;
+    push_rows(alloc, &mut page, screen, code_page)?;
+    page.push_str(PAGE_END)?;
+    Ok(page)
+}
+
 /// Adds bytes to a history.
-fn add_bytes(history: &mut History<u8>, bytes: &[u8]) {
+fn add_bytes(history: &mut History<u8>, bytes: &[u8])
+    ensures { history.new.items ≡ history.old.items ++ bytes.now }
+{
     'bytes: for byte in bytes {
         *history = history.and(byte);
     }
@@ -117,7 +175,10 @@ fn leave_cause(rt: &HostRuntime, cause: &mut Vec<u8>, error: &io::Error) -> Resu
 
 impl Surroundings<'_> {
     /// How long a socket waits for this.
-    fn manner(&mut self, patience: Patience) -> io::Result<Manner> {
+    fn manner(&mut self, patience: Patience) -> io::Result<Manner>
+        ensures received { self.new.received.items ≡ self.old.received.items }
+        ensures sent { self.new.sent.items ≡ self.old.sent.items }
+    {
         match patience {
             Patience::None => Ok(Manner::Never),
             Patience::Endless => Ok(Manner::For(None)),
@@ -126,7 +187,10 @@ impl Surroundings<'_> {
     }
 
     /// What is left of a wait.
-    fn left(&mut self, limit: u32, begins: bool) -> io::Result<Manner> {
+    fn left(&mut self, limit: u32, begins: bool) -> io::Result<Manner>
+        ensures received { self.new.received.items ≡ self.old.received.items }
+        ensures sent { self.new.sent.items ≡ self.old.sent.items }
+    {
         let now = Instant::now(self.rt)?;
         if begins {
             self.deadline = now.checked_add(Duration::from_millis(u64::from(limit)));
@@ -143,7 +207,10 @@ impl Surroundings<'_> {
     }
 
     /// Notes what a read gave.
-    fn note(&mut self, piece: &[u8], given: Heard) -> Heard {
+    fn note(&mut self, piece: &[u8], given: Heard) -> Heard
+        ensures received { Gives self.old.received.items self.new.received.items piece.now result }
+        ensures sent { self.new.sent.items ≡ self.old.sent.items }
+    {
         match given {
             Heard::Bytes(count) if count <= piece.len() => {
                 add_bytes(&mut self.received, &piece[..count]);
@@ -154,7 +221,10 @@ impl Surroundings<'_> {
         }
     }
 
-    fn call(&mut self, host: &[u8], port: u16) -> io::Result<()> {
+    fn call(&mut self, host: &[u8], port: u16) -> io::Result<()>
+        ensures received { self.new.received.items ≡ self.old.received.items }
+        ensures sent { self.new.sent.items ≡ self.old.sent.items }
+    {
         let Ok(host) = str::from_utf8(host) else {
             return Err(io::Error::from(io::ErrorKind::InvalidInput));
         };
@@ -163,14 +233,19 @@ impl Surroundings<'_> {
         Ok(())
     }
 
-    fn page(&mut self, path: &[u8], screen: &Screen<PlaneCells>) -> io::Result<()> {
-        let mut text = String::new(self.rt.alloc());
-        push_page(&mut text, screen)?;
+    fn page(&mut self, path: &[u8], screen: &Screen<PlaneCells>) -> io::Result<()>
+        ensures received { self.new.received.items ≡ self.old.received.items }
+        ensures sent { self.new.sent.items ≡ self.old.sent.items }
+    {
+        let text = page_of(self.rt.alloc(), screen, self.code_page)?;
         fs::write(self.rt, path_of(path)?, text.as_bytes())
     }
 
     /// Reads a file of at most so many bytes.
-    fn layout(&mut self, path: &[u8], text: &mut Vec<u8>) -> io::Result<()> {
+    fn layout(&mut self, path: &[u8], text: &mut Vec<u8>) -> io::Result<()>
+        ensures received { self.new.received.items ≡ self.old.received.items }
+        ensures sent { self.new.sent.items ≡ self.old.sent.items }
+    {
         let file = fs::open(self.rt, path_of(path)?)?;
         file.take(MOST_BYTES).read_to_end(text)?;
         Ok(())
@@ -310,6 +385,7 @@ pub(crate) fn script(rt: &HostRuntime, asked: ScriptAsked<'_>) -> Status {
     let mut world = Surroundings {
         rt,
         socket: None,
+        code_page: asked.code_page,
         deadline: None,
         received: History::new(),
         sent: History::new(),

@@ -14,6 +14,7 @@ mod of_cli_maps;
 mod of_cli_pictures;
 mod of_cli_reasons;
 mod of_cli_reports;
+mod of_cli_scripts;
 mod of_cli_sessions;
 mod of_cli_suites;
 mod of_cli_traces;
