@@ -22,7 +22,7 @@ _term3270_values() { # OPTION
     show--format) _term3270_offer -W 'text svg html json screen' ;;
     show--color) _term3270_offer -W 'auto always never' ;;
     check--format | talk--format) _term3270_offer -W 'text json sarif' ;;
-    suite--format) _term3270_offer -W 'text json junit' ;;
+    suite--format) _term3270_offer -W 'text json junit sarif' ;;
     records--from) _term3270_offer -W 'trace stream buffer' ;;
     attach--device)
       for device in IBM-327{8,9}-{2,3,4,5}{,-E}; do devices="$devices $device"; done

@@ -103,6 +103,7 @@ if command -v python3 > /dev/null; then
   echo "$told" | sed '$d'
   compare 'the completions at a terminal' '0 failed' "$(echo "$told" | tail -n 1 | sed 's/.*, //')"
   compare 'the logs of SARIF' '0 failed' "$(PYTHONDONTWRITEBYTECODE=1 python3 "$root/tests/sarif.py" "$program" | tail -n 1 | sed 's/.*, //')"
+  compare 'the reports of JUnit' '0 failed' "$(PYTHONDONTWRITEBYTECODE=1 python3 "$root/tests/junit.py" | tail -n 1 | sed 's/.*, //')"
   compare 'maps drawn at random' '1020 passed, 0 failed' "$(PYTHONDONTWRITEBYTECODE=1 python3 "$root/tests/maps.py" "$program" | tail -n 1)"
   compare 'what a help says of a map ends its finding' '0 failed' "$(PYTHONDONTWRITEBYTECODE=1 python3 "$root/tests/mends.py" "$program" | tail -n 1 | sed 's/.*, //')"
   compare 'map sources cut at every byte' '0 failed' "$(PYTHONDONTWRITEBYTECODE=1 python3 "$root/tests/cuts.py" "$program" | tail -n 1 | sed 's/.*, //')"

@@ -9,8 +9,15 @@ import sys
 
 CASES = pathlib.Path(__file__).parent / "cases"
 RULES = [*(f"F{n}" for n in range(1, 15)), "refused"]
-# Each golden log, and the rules that it lists: that of the pen where it is asked for, and those of maps after the others.
-LOGS = {"check_sarif/*/stdout": RULES, "check_pen/sarif*/stdout": [*RULES, "F15"], "check_map_sarif/*/stdout": [*RULES, "M1", "M2", "map-refused"]}
+MAP_RULES = [*RULES, "M1", "M2", "map-refused"]
+# Each golden log, and the rules that it lists: that of the pen where it is asked for, those of maps after the others, and that of a suite last.
+LOGS = {
+    "check_sarif/*/stdout": RULES,
+    "check_pen/sarif*/stdout": [*RULES, "F15"],
+    "talk_sarif/*/stdout": RULES,
+    "check_map_sarif/*/stdout": MAP_RULES,
+    "suite/sarif*/stdout": [*MAP_RULES, "accepted"],
+}
 # What each object must have, by the standard (2.1.0, sections 3.13 to 3.52) and by what GitHub asks for.
 DRIVER = {"name": str, "version": str, "rules": list}
 RULE = {"id": str, "name": str, "shortDescription": dict, "fullDescription": dict, "help": dict, "defaultConfiguration": dict}

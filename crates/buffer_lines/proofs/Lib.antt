@@ -2,3 +2,4 @@ mod Pairs
 mod Rows
 mod Screens
 mod Left
+mod Flawed

@@ -5,3 +5,4 @@ pub mod Status
 pub mod Line
 pub mod Record
 pub mod Screen
+pub mod Flaw

@@ -2,6 +2,7 @@
 #![tactic(auto)]
 
 mod cell;
+mod flaw;
 mod line;
 mod record;
 mod row;
@@ -9,6 +10,7 @@ mod screen;
 mod status;
 mod words;
 
+pub use flaw::Flaw;
 pub use line::{BufferLine, read_line};
 pub use record::record_of;
 pub use screen::{Open, Shot, Step};

@@ -32,7 +32,7 @@ fn is_silent(line: &[u8]) -> bool
 }
 
 /// What follows `data: `, where a line begins so.
-fn data_of(line: &[u8]) -> Option<&[u8]>
+pub(crate) fn data_of(line: &[u8]) -> Option<&[u8]>
     ensures { option_map (λ rest. rest.now) result ≡ data_of line.now }
 {
     match line {

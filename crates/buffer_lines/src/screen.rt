@@ -1,11 +1,13 @@
 //! A screen, row by row, and the status line that ends it.
 
-ghost use Rattle.std.specs.Prelude.{◌≡◌, ◌++◌, ◌+◌, ◌*◌, ◌<◌, IfOk, IfSome, OnOk, length, option_map};
+ghost use Rattle.std.specs.Prelude.{◌≡◌, ◌++◌, ◌+◌, ◌*◌, ◌<◌, IfOk, IfSome, OnOk, is_some, length, option_map};
 ghost use Rattle.ds_codec.specs.Geometry.{geometry_of};
-ghost use Rattle.buffer_lines.specs.Line.{line_seen};
+ghost use Rattle.buffer_lines.specs.Flaw.{flaw_of, is_stop, row_flaw, size_flaw, status_flaw};
+ghost use Rattle.buffer_lines.specs.Line.{line_seen, line_told};
 ghost use Rattle.buffer_lines.specs.Screen.{at_first, course_of, ended_at, ended_by, fits, geometry_told, end_step, has_rows, is_blank, open_seen, position_of, row_step, shot_seen, step_by, usual_size};
 
-use crate::line::BufferLine;
+use crate::flaw::{Flaw, line_column};
+use crate::line::{BufferLine, read_line};
 use crate::record::record_of;
 use crate::status::Status;
 use ds_codec::{Cell, Geometry, Mode, Size};
@@ -129,6 +131,21 @@ fn ended_by(
     }
 }
 
+/// Why a status line is refused of this size.
+fn size_flaw(geometry: Option<Geometry>, status: Status) -> Option<Flaw>
+    ensures { result ≡ size_flaw geometry status }
+{
+    match geometry {
+        Some(geometry) => {
+            match position_of(geometry.alternate_size(), status.row, status.col) {
+                Some(_) => None,
+                None => Some(Flaw::CursorOutside),
+            }
+        }
+        None => Some(Flaw::NoTerminal),
+    }
+}
+
 impl Open {
     /// Before the first row of a screen.
     pub fn new(alloc: Global) -> Open
@@ -192,5 +209,55 @@ impl Open {
             BufferLine::Status(status) => self.end(alloc, status),
             BufferLine::Refused => Ok(Step::Refused),
         }
+    }
+
+    fn row_flaw(&self, count: usize) -> Option<Flaw>
+        ensures { result ≡ row_flaw (open_seen self.now) count }
+    {
+        if fits(self.rows, self.cols, count) {
+            None
+        } else if self.rows < MOST_ROWS {
+            Some(Flaw::OtherCells(count, self.cols))
+        } else {
+            Some(Flaw::TooManyRows)
+        }
+    }
+
+    fn status_flaw(&self, status: Status) -> Option<Flaw>
+        ensures { result ≡ status_flaw (open_seen self.now) status }
+    {
+        if self.is_empty() {
+            None
+        } else if has_rows(self.rows, self.cols, status) {
+            size_flaw(geometry_told(status), status)
+        } else {
+            Some(Flaw::OtherSize(self.rows, self.cols))
+        }
+    }
+
+    fn line_flaw(&self, alloc: Global, line: &[u8]) -> Result<Option<Flaw>, AllocError>
+        ensures { IfOk result (λ flaw. flaw ≡ flaw_of (open_seen self.now) line.now) }
+    {
+        match read_line(alloc, line)? {
+            BufferLine::Silent => Ok(None),
+            BufferLine::Row(row) => Ok(self.row_flaw(row.len())),
+            BufferLine::Status(status) => Ok(self.status_flaw(status)),
+            BufferLine::Refused => Ok(line_column(alloc, line)?.map(Flaw::NoCell)),
+        }
+    }
+
+    /// Why a line is refused, where it is, and only there.
+    ///
+    /// # Errors
+    ///
+    /// Where a request for memory was refused.
+    #[tactic(auto, using(crate::proofs::Flawed::flaw_stops))]
+    pub fn flaw(&self, alloc: Global, line: &[u8]) -> Result<Option<Flaw>, AllocError>
+        ensures why { IfOk result (λ flaw. flaw ≡ flaw_of (open_seen self.now) line.now) }
+        ensures refused { IfOk result
+            (λ flaw. is_some flaw ≡ is_stop (step_by (open_seen self.now) (line_told line.now))) }
+    {
+        let flaw = self.line_flaw(alloc, line)?;
+        Ok(flaw)
     }
 }

@@ -3,7 +3,9 @@
 
 mod buffer;
 mod reading;
+mod reason;
 mod sizes;
 
 pub use buffer::{buffer_text, run_buffers};
+pub use reason::{BufferFlaw, BufferWhy, buffer_flaw};
 pub use sizes::SizesLine;

@@ -61,7 +61,7 @@ fn with_taken(sizes: SizesLine, mut reading: Reading, shot: &Shot) -> Result<Rea
 }
 
 /// What follows the next line.
-fn take_line(
+pub(crate) fn take_line(
     alloc: Global,
     sizes: SizesLine,
     mut reading: Reading,

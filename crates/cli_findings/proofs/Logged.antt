@@ -1,8 +1,9 @@
 -- A log holds no float, and nests no deeper than a parser of the kit reads.
-use Rattle.std.proofs.Common.{◌≡◌, ◌≤◌, ℕ, false, List, [], ◌∷◌, map, Option, Some, None, refl, arith}
+use Rattle.std.proofs.Common.{◌≡◌, ◌≤◌, ℕ, Bool, true, false, ◌||◌, List, [], ◌∷◌, ◌++◌, map, if◌then◌else◌, Option, Some, None, refl, arith}
 use Rattle.serde_json.specs.Data.{Data, depth, items_depth}
 use Rattle.serde_json.specs.Read.{max_depth}
-use Rattle.serde_json.specs.View.{items_of}
+use Rattle.serde_json.specs.declared.value.Value.{Value}
+use Rattle.serde_json.specs.View.{view, items_of}
 use Rattle.serde_json.specs.Written.{has_float, items_have_float}
 use Rattle.scr_layout.specs.Layout.{Declaration}
 use Rattle.scr_check.specs.declared.origins.Origin.{Origin}
@@ -16,7 +17,8 @@ use Rattle.cli_findings.specs.declared.rule.Rule.{Rule}
 use Rattle.cli_findings.specs.declared.rule.Rule.TheVariants.{InputRefused}
 use Rattle.cli_findings.specs.Region.{Standing, finding_region, order_region}
 use Rattle.cli_findings.specs.Rule.{rules_for, rule_of}
-use Rattle.cli_findings.specs.Sarif.{rule_data, rules_data_for, tool_data, columns_region, end_data, result_data, message_of, end_of, finding_result, findings_data, refusal_results, log_data}
+use Rattle.cli_findings.specs.Results.{named_result}
+use Rattle.cli_findings.specs.Sarif.{named_rule, rule_data, rules_data_for, tool_data, columns_region, end_data, result_data, message_of, end_of, finding_result, findings_data, refusal_results, log_data}
 
 -- ---- lists
 
@@ -28,15 +30,29 @@ pub all_nest : {X : Type 0} (f : X → Data) (n : ℕ) → ((x : X) → depth (f
 all_nest f n nests [] = omega arith
 all_nest f n nests (x ∷ xs) = omega (arith, nests x, all_nest f n nests xs)
 
+pub both_plain : (a b : List Data) → items_have_float (items_of a) ≡ false → items_have_float (items_of b) ≡ false → items_have_float (items_of (a ++ b)) ≡ false
+both_plain [] b first second = second
+both_plain (x ∷ a) b first second = grind (arith, both_plain a b)
+
+pub both_nest : (n : ℕ) (a b : List Data) → items_depth (items_of a) ≤ n → items_depth (items_of b) ≤ n → items_depth (items_of (a ++ b)) ≤ n
+both_nest n [] b first second = second
+both_nest n (x ∷ a) b first second = omega (arith, first, both_nest n a b (omega (arith, first)) second)
+
 -- ---- the program
 
+pub named_rule_plain : (id name brief meaning help : List ℕ) → has_float (named_rule id name brief meaning help) ≡ false
+unfolding named_rule
+named_rule_plain id name brief meaning help = refl
+
+pub named_rule_nests : (id name brief meaning help : List ℕ) → depth (named_rule id name brief meaning help) ≤ 2
+unfolding named_rule
+named_rule_nests id name brief meaning help = omega arith
+
 rule_plain : (rule : Rule) → has_float (rule_data rule) ≡ false
-unfolding rule_data
-rule_plain rule = refl
+rule_plain rule = named_rule_plain _ _ _ _ _
 
 rule_nests : (rule : Rule) → depth (rule_data rule) ≤ 2
-unfolding rule_data
-rule_nests rule = omega arith
+rule_nests rule = named_rule_nests _ _ _ _ _
 
 pub rules_plain : (pen : Pen) → items_have_float (items_of (rules_data_for pen)) ≡ false
 rules_plain pen = none_floats rule_data rule_plain (rules_for pen)
@@ -90,11 +106,11 @@ ended_nests : (rule : Rule) (path : List ℕ) (region : Region) (text : List ℕ
 ended_nests rule path region text standing None = result_nests rule path region text
 ended_nests rule path region text standing (Some origin) = related_nests rule path region text (order_region standing origin)
 
-finding_is_plain : (front path : List ℕ) (layout : Declaration) (standing : Standing) (traced : Traced) → has_float (finding_result front path layout standing traced) ≡ false
+pub finding_is_plain : (front path : List ℕ) (layout : Declaration) (standing : Standing) (traced : Traced) → has_float (finding_result front path layout standing traced) ≡ false
 finding_is_plain front path layout standing traced =
     ended_plain (rule_of traced.finding) path (finding_region standing traced) (message_of front layout traced) standing traced.end
 
-finding_is_flat : (front path : List ℕ) (layout : Declaration) (standing : Standing) (traced : Traced) → depth (finding_result front path layout standing traced) ≤ 6
+pub finding_is_flat : (front path : List ℕ) (layout : Declaration) (standing : Standing) (traced : Traced) → depth (finding_result front path layout standing traced) ≤ 6
 finding_is_flat front path layout standing traced =
     ended_nests (rule_of traced.finding) path (finding_region standing traced) (message_of front layout traced) standing traced.end
 
@@ -114,6 +130,44 @@ refusal_plain path line fault = rw (result_plain InputRefused path (record { lin
 
 pub refusal_nests : (path : List ℕ) (line : ℕ) (fault : Fault) → depth (refusal_results path line fault) ≤ 8
 refusal_nests path line fault = omega (arith, result_nests InputRefused path (record { line = line; columns = None }) (fault_text fault))
+
+pub named_plain : (id : List ℕ) (index : ℕ) (path : List ℕ) (region : Region) (text : List ℕ) → has_float (named_result id index path region text) ≡ false
+unfolding named_result
+named_plain id index path region text = rw (region_plain region.line region.columns) refl
+
+pub named_nests : (id : List ℕ) (index : ℕ) (path : List ℕ) (region : Region) (text : List ℕ) → depth (named_result id index path region text) ≤ 6
+unfolding named_result
+named_nests id index path region text = omega (arith, region_nests region.line region.columns)
+
+-- ---- results one after the other
+
+-- the first of some, and the others
+pub head_plain : (value : Data) (items : List Data) → items_have_float (items_of (value ∷ items)) ≡ false → (has_float value ≡ false) × (items_have_float (items_of items) ≡ false)
+head_plain value items plain =
+    elim (has_float value) as (λ b. (b || items_have_float (items_of items)) ≡ false → (b ≡ false) × (items_have_float (items_of items) ≡ false)) [
+      | true ↦ λ is. cc
+      | false ↦ λ is. (refl, is)
+    ] plain
+
+pub head_nests : (n : ℕ) (value : Data) (items : List Data) → items_depth (items_of (value ∷ items)) ≤ n → (depth value ≤ n) × (items_depth (items_of items) ≤ n)
+head_nests n value items flat = (omega (arith, flat), omega (arith, flat))
+
+-- one more, or the same where memory was refused
+pub plain_more : (b : Bool) (values : List Value) (value : Value) → items_have_float (items_of (map view values)) ≡ false → has_float (view value) ≡ false
+    → items_have_float (items_of (map view (if b then values ++ value ∷ [] else values))) ≡ false
+plain_more false values value plain one = plain
+plain_more true [] value plain one = rw one refl
+plain_more true (x ∷ values) value plain one =
+    let both : (has_float (view x) ≡ false) × (items_have_float (items_of (map view values)) ≡ false) = head_plain (view x) (map view values) plain in
+    rw (both.0) (plain_more true values value both.1 one)
+
+pub flat_more : (b : Bool) (values : List Value) (value : Value) → items_depth (items_of (map view values)) ≤ 6 → depth (view value) ≤ 6
+    → items_depth (items_of (map view (if b then values ++ value ∷ [] else values))) ≤ 6
+flat_more false values value flat one = flat
+flat_more true [] value flat one = omega (arith, one)
+flat_more true (x ∷ values) value flat one =
+    let both : (depth (view x) ≤ 6) × (items_depth (items_of (map view values)) ≤ 6) = head_nests 6 (view x) (map view values) flat in
+    omega (arith, both.0, flat_more true values value both.1 one)
 
 -- ---- the log
 

@@ -10,5 +10,6 @@ pub mod Uri
 pub mod Members
 pub mod Lines
 pub mod Sarif
+pub mod Results
 pub mod Log
 pub mod Report

@@ -30,11 +30,15 @@ message_data text = object (member (codes "text") (string text) no_members)
 abbrev pub level_data : Data
 level_data = object (member (codes "level") (string (codes "error")) no_members)
 
-unfoldable pub rule_data : Rule → Data
-rule_data rule =
-    object (member (codes "defaultConfiguration") level_data (member (codes "fullDescription") (message_data (meaning_of rule))
-    (member (codes "help") (message_data (rule_help rule)) (member (codes "id") (string (rule_id rule))
-    (member (codes "name") (string (rule_name rule)) (member (codes "shortDescription") (message_data (brief_of rule)) no_members))))))
+-- a rule of this name and these words
+unfoldable pub named_rule : List ℕ → List ℕ → List ℕ → List ℕ → List ℕ → Data
+named_rule id name brief meaning help =
+    object (member (codes "defaultConfiguration") level_data (member (codes "fullDescription") (message_data meaning)
+    (member (codes "help") (message_data help) (member (codes "id") (string id)
+    (member (codes "name") (string name) (member (codes "shortDescription") (message_data brief) no_members))))))
+
+abbrev pub rule_data : Rule → Data
+rule_data rule = named_rule (rule_id rule) (rule_name rule) (brief_of rule) (meaning_of rule) (rule_help rule)
 
 -- the rules of what is told of records
 abbrev pub rules_data : List Data

@@ -15,9 +15,11 @@ mod paths;
 mod record_line;
 mod region;
 mod report;
+mod results;
 mod rule;
 mod rule_facts;
 mod sarif;
+mod told_results;
 mod uri;
 
 pub use facts::{byte_of, column_at, place_of, record_told, row_at};
@@ -35,8 +37,7 @@ pub use paths::Paths;
 pub use record_line::{is_silent, line_of_record};
 pub use region::{Columns, Region, layout_line, line_of_fault};
 pub use report::{Report, report_texts, run_report};
+pub use results::Results;
 pub use rule_facts::{meaning_of_finding, rule_count, rule_id_of, rule_index_of};
-pub use sarif::{
-    findings_log, fronted_log, level_value, location_value, log_text, put_message, refusal_log,
-    rules_value,
-};
+pub use sarif::{findings_log, fronted_log, log_text, named_rule, refusal_log, rules_value};
+pub use told_results::{found_results, named_result, one_result, refused_results, results_line};

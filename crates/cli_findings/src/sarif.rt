@@ -9,7 +9,7 @@ ghost use Rattle.serde_json.specs.Written.{compact_text, has_float, items_have_f
 ghost use Rattle.cli_commands.specs.Fault.{fault_text};
 ghost use Rattle.cli_findings.specs.Region.{standing_in};
 ghost use Rattle.cli_findings.specs.Rule.{rule_help};
-ghost use Rattle.cli_findings.specs.Sarif.{message_data, level_data, rule_data, rules_data, rules_data_for, driver_data, tool_data, columns_region, region_data, artifact_data, physical_data, location_data, end_data, result_members, result_data, help_end, message_of, end_of, finding_result, findings_data, refusal_results, refusal_log_data, run_data, log_data, fronted_log_data, findings_log_data};
+ghost use Rattle.cli_findings.specs.Sarif.{message_data, level_data, named_rule, rule_data, rules_data, rules_data_for, driver_data, tool_data, columns_region, region_data, artifact_data, physical_data, location_data, end_data, result_members, result_data, help_end, message_of, end_of, finding_result, findings_data, refusal_results, refusal_log_data, run_data, log_data, fronted_log_data, findings_log_data};
 
 use crate::found::Pen;
 use crate::help::help_text;
@@ -36,11 +36,7 @@ fn message_value(alloc: Global, text: &str) -> Result<Value, AllocError>
 }
 
 /// A message at a key.
-///
-/// # Errors
-///
-/// Where a request for memory was refused.
-pub fn put_message(
+pub(crate) fn put_message(
     alloc: Global,
     members: &mut Members,
     key: &str,
@@ -62,22 +58,30 @@ fn rule_help(alloc: Global, rule: Rule) -> Result<String, AllocError>
 }
 
 /// The level of all results.
-///
-/// # Errors
-///
-/// Where a request for memory was refused.
-pub fn level_value(alloc: Global) -> Result<Value, AllocError>
+fn level_value(alloc: Global) -> Result<Value, AllocError>
     ensures { IfOk result (λ value. view value ≡ level_data) }
 {
     let error = String::from_str(alloc, "error")?;
     single(alloc, "level", Value::String(error))
 }
 
-#[tactic(auto, unfolding(crate::specs::Sarif::rule_data))]
-fn rule_value(alloc: Global, rule: Rule) -> Result<Value, AllocError>
-    ensures { IfOk result (λ value. view value ≡ rule_data rule) }
+/// A rule by its name and its words: what it is about, what it means, and how it is mended.
+///
+/// # Errors
+///
+/// Where a request for memory was refused.
+#[tactic(auto, unfolding(crate::specs::Sarif::named_rule))]
+pub fn named_rule(
+    alloc: Global,
+    id: &str,
+    name: &str,
+    brief: &str,
+    meaning: &str,
+    help: &str,
+) -> Result<Value, AllocError>
+    ensures { IfOk result (λ value. view value
+        ≡ named_rule id.now name.now brief.now meaning.now help.now) }
 {
-    let help = rule_help(alloc, rule)?;
     let mut members = Map::new(alloc);
     put(
         &mut members,
@@ -85,12 +89,26 @@ fn rule_value(alloc: Global, rule: Rule) -> Result<Value, AllocError>
         "defaultConfiguration",
         level_value(alloc)?,
     )?;
-    put_message(alloc, &mut members, "fullDescription", rule.meaning())?;
-    put_message(alloc, &mut members, "help", help.as_str())?;
-    put_str(alloc, &mut members, "id", rule.id())?;
-    put_str(alloc, &mut members, "name", rule.name())?;
-    put_message(alloc, &mut members, "shortDescription", rule.brief())?;
+    put_message(alloc, &mut members, "fullDescription", meaning)?;
+    put_message(alloc, &mut members, "help", help)?;
+    put_str(alloc, &mut members, "id", id)?;
+    put_str(alloc, &mut members, "name", name)?;
+    put_message(alloc, &mut members, "shortDescription", brief)?;
     Ok(Value::Object(members))
+}
+
+fn rule_value(alloc: Global, rule: Rule) -> Result<Value, AllocError>
+    ensures { IfOk result (λ value. view value ≡ rule_data rule) }
+{
+    let help = rule_help(alloc, rule)?;
+    named_rule(
+        alloc,
+        rule.id(),
+        rule.name(),
+        rule.brief(),
+        rule.meaning(),
+        help.as_str(),
+    )
 }
 
 fn rules_of(alloc: Global, rules: &[Rule]) -> Result<Vec<Value>, AllocError>
@@ -192,11 +210,7 @@ fn physical_value(alloc: Global, path: &str, region: Region) -> Result<Value, Al
 }
 
 /// A file and a place in it, as a location.
-///
-/// # Errors
-///
-/// Where a request for memory was refused.
-pub fn location_value(alloc: Global, path: &str, region: Region) -> Result<Value, AllocError>
+pub(crate) fn location_value(alloc: Global, path: &str, region: Region) -> Result<Value, AllocError>
     ensures { IfOk result (λ value. view value ≡ location_data path.now region) }
 {
     let physical = physical_value(alloc, path, region)?;
@@ -322,7 +336,7 @@ fn end_of(
     }
 }
 
-fn finding_result(
+pub(crate) fn finding_result(
     alloc: Global,
     front: &str,
     path: &str,

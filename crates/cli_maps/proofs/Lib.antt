@@ -1,5 +1,5 @@
 mod Plain
-mod Logged
+pub mod Logged
 mod Folds
 mod Read
 mod AskedLaws

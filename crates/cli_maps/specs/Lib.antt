@@ -8,6 +8,7 @@ pub mod Rules
 pub mod Json
 pub mod Sarif
 pub mod Told
+pub mod Results
 pub mod Printed
 pub mod Screen
 pub mod Layouts

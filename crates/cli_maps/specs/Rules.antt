@@ -1,10 +1,10 @@
 -- The rules by which services know what is told of maps: those of records, and these behind them.
 use Rattle.std.specs.Prelude.{ℕ, ◌+◌, List, [], ◌∷◌, ◌++◌, codes, length, map}
-use Rattle.serde_json.specs.Data.{Data, string, object, member, no_members}
+use Rattle.serde_json.specs.Data.{Data}
 use Rattle.bms_map.specs.declared.overlap.Overlap.{Overlap}
 use Rattle.bms_map.specs.declared.overlap.Overlap.TheVariants.{Overlaps, PastEnd}
 use Rattle.cli_findings.specs.Rule.{all_rules, rule_of, rule_id, rule_index, rule_name}
-use Rattle.cli_findings.specs.Sarif.{level_data, message_data, rules_data}
+use Rattle.cli_findings.specs.Sarif.{named_rule, rules_data}
 use Rattle.cli_maps.specs.declared.judged.MapFinding.{MapFinding}
 use Rattle.cli_maps.specs.declared.judged.MapFinding.TheVariants.{Overlapping, Found}
 use Rattle.cli_maps.specs.declared.rules.MapRule.{MapRule}
@@ -50,11 +50,8 @@ map_mend_of Refused = codes "Correct the statement that is told."
 abbrev pub map_rule_help : MapRule → List ℕ
 map_rule_help rule = map_meaning_of rule ++ (codes " " ++ map_mend_of rule)
 
-unfoldable pub map_rule_data : MapRule → Data
-map_rule_data rule =
-    object (member (codes "defaultConfiguration") level_data (member (codes "fullDescription") (message_data (map_meaning_of rule))
-    (member (codes "help") (message_data (map_rule_help rule)) (member (codes "id") (string (map_rule_id rule))
-    (member (codes "name") (string (map_rule_name rule)) (member (codes "shortDescription") (message_data (map_brief_of rule)) no_members))))))
+abbrev pub map_rule_data : MapRule → Data
+map_rule_data rule = named_rule (map_rule_id rule) (map_rule_name rule) (map_brief_of rule) (map_meaning_of rule) (map_rule_help rule)
 
 -- ---- of a finding
 

@@ -15,6 +15,8 @@ ghost use Rattle.cli_maps.specs.Told.{all_told, json_told, log_told};
 ghost use Rattle.bms_source.specs.Rows.{lines_in};
 ghost use Rattle.std.specs.String.{string_bytes};
 ghost use Rattle.cli_commands.specs.Fault.{fault_text};
+ghost use Rattle.cli_maps.specs.Refused.{refusal_words};
+ghost use Rattle.cli_maps.specs.Source.{refusal_region};
 ghost use Rattle.cli_maps.specs.Printed.{check_limited, check_source, check_told, checked, or_faulted, or_refused_in, refused_in, printed_check_map, refused_json, refused_log};
 
 use crate::asked::{Asked, Report};
@@ -115,6 +117,15 @@ fn refused_log(
     })
 }
 
+/// The log of a source that is refused.
+fn refused_source(alloc: Global, path: &str, refusal: &Refusal) -> Result<Answer, AllocError>
+    ensures { IfOk result (λ answer. answer_seen answer ≡ refused_log path.now
+        (refusal_region refusal.now.place) (refusal_words refusal.now)) }
+{
+    let words = refusal_words(alloc, refusal)?;
+    refused_log(alloc, path, refusal_region(refusal.place), words)
+}
+
 /// What is printed for a source that is refused, in a form.
 fn refused_in(alloc: Global, report: Report<'_>, refusal: &Refusal) -> Result<Answer, AllocError>
     ensures { IfOk result (λ answer. answer_seen answer
@@ -124,7 +135,7 @@ fn refused_in(alloc: Global, report: Report<'_>, refusal: &Refusal) -> Result<An
     match report {
         Report::Text => refused(alloc, refusal),
         Report::Json(path) => refused_json(alloc, path, region, refusal_words(alloc, refusal)?),
-        Report::Sarif(path) => refused_log(alloc, path, region, refusal_words(alloc, refusal)?),
+        Report::Sarif(path) => refused_source(alloc, path, refusal),
     }
 }
 

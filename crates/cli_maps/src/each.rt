@@ -137,7 +137,7 @@ pub(crate) fn all_told(
 }
 
 /// The results of a log of all maps, or the first fault.
-fn all_results(
+pub(crate) fn all_results(
     alloc: Global,
     path: &str,
     lines: &[&[u8]],

@@ -8,10 +8,9 @@ ghost use Rattle.cli_maps.specs.Rules.{all_data, id_of, index_among, index_of, m
 use crate::judged::MapFinding;
 use bms_map::Overlap;
 use cli_findings::{
-    level_value, name_of as name_of_finding, put_message, put_str, rule_count, rule_id_of,
-    rule_index_of, rules_value,
+    name_of as name_of_finding, named_rule, rule_count, rule_id_of, rule_index_of, rules_value,
 };
-use serde_json::{Map as Object, Value, put};
+use serde_json::Value;
 use std::alloc::{AllocError, Global};
 
 /// A kind of result that only maps have.
@@ -122,24 +121,18 @@ fn rule_help(alloc: Global, rule: MapRule) -> Result<String, AllocError>
     format!(in alloc; "{meaning} {mend}")
 }
 
-#[tactic(auto, unfolding(crate::specs::Rules::map_rule_data))]
 fn rule_value(alloc: Global, rule: MapRule) -> Result<Value, AllocError>
     ensures { IfOk result (λ value. view value ≡ map_rule_data rule) }
 {
     let help = rule_help(alloc, rule)?;
-    let mut members = Object::new(alloc);
-    put(
-        &mut members,
+    named_rule(
         alloc,
-        "defaultConfiguration",
-        level_value(alloc)?,
-    )?;
-    put_message(alloc, &mut members, "fullDescription", rule.meaning())?;
-    put_message(alloc, &mut members, "help", help.as_str())?;
-    put_str(alloc, &mut members, "id", rule.id())?;
-    put_str(alloc, &mut members, "name", rule.name())?;
-    put_message(alloc, &mut members, "shortDescription", rule.brief())?;
-    Ok(Value::Object(members))
+        rule.id(),
+        rule.name(),
+        rule.brief(),
+        rule.meaning(),
+        help.as_str(),
+    )
 }
 
 fn push_rules(
@@ -156,8 +149,12 @@ fn push_rules(
     Ok(values)
 }
 
-/// The rules of a log of maps.
-pub(crate) fn all_values(alloc: Global) -> Result<Vec<Value>, AllocError>
+/// The rules of a log of maps: those of records, and those of maps behind them, in the order of `ruleIndex`.
+///
+/// # Errors
+///
+/// Where a request for memory was refused.
+pub fn all_values(alloc: Global) -> Result<Vec<Value>, AllocError>
     ensures { IfOk result (λ values. all_of view values.items ≡ all_data) }
 {
     push_rules(alloc, rules_value(alloc)?, &map_rules())

@@ -6,7 +6,7 @@ ghost use Rattle.serde_json.specs.Data.{items_depth};
 ghost use Rattle.serde_json.specs.View.{view, items_of};
 ghost use Rattle.serde_json.specs.Written.{items_have_float};
 ghost use Rattle.cli_findings.specs.Sarif.{help_end};
-ghost use Rattle.cli_maps.specs.Sarif.{finding_result, log_line, message_of, refused_result, result_data, results_of};
+ghost use Rattle.cli_maps.specs.Sarif.{finding_result, log_line, message_of, refused_result, results_of};
 
 use crate::judged::{Judged, MapFinding};
 use crate::lines::{field_of, line_of, push_words};
@@ -14,33 +14,10 @@ use crate::mend::help_of;
 use crate::rules::{MapRule, all_values, id_of, index_of};
 use crate::source::macro_region;
 use bms_map::Map;
-use cli_findings::{Region, listed, location_value, log_text, put_message, put_str};
+use cli_findings::{Region, log_text, named_result};
 use scr_layout::Entry;
-use serde_json::{Map as Object, Value, put};
+use serde_json::Value;
 use std::alloc::{AllocError, Global};
-
-/// A result of a rule at a place, with a text.
-#[tactic(auto, unfolding(crate::specs::Sarif::result_data))]
-fn result_value(
-    alloc: Global,
-    id: &str,
-    index: usize,
-    path: &str,
-    region: Region,
-    text: &str,
-) -> Result<Value, AllocError>
-    ensures { IfOk result (λ value. view value
-        ≡ result_data id.now index path.now region text.now) }
-{
-    let mut members = Object::new(alloc);
-    put_str(alloc, &mut members, "level", "error")?;
-    let locations = listed(alloc, location_value(alloc, path, region)?)?;
-    put(&mut members, alloc, "locations", locations)?;
-    put_message(alloc, &mut members, "message", text)?;
-    put_str(alloc, &mut members, "ruleId", id)?;
-    put(&mut members, alloc, "ruleIndex", Value::from(index))?;
-    Ok(Value::Object(members))
-}
 
 fn push_help(out: &mut String, help: Option<String>) -> Result<(), AllocError>
     ensures { OnOk result (string_bytes out.new
@@ -84,7 +61,7 @@ fn finding_result(
     let text = message_of(alloc, map, entries, finding)?;
     let region = macro_region(lines, line_of(map, field_of(map, entries, finding)));
     let index = index_of(finding);
-    result_value(alloc, id_of(finding), index, path, region, text.as_str())
+    named_result(alloc, id_of(finding), index, path, region, text.as_str())
 }
 
 /// Adds the results of a map.
@@ -119,7 +96,7 @@ pub(crate) fn refused_results(
     let rule = MapRule::Refused;
     let index = rule.index_among();
     let mut results = Vec::new(alloc);
-    results.push(result_value(alloc, rule.id(), index, path, region, words)?)?;
+    results.push(named_result(alloc, rule.id(), index, path, region, words)?)?;
     Ok(results)
 }
 

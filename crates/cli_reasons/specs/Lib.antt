@@ -21,3 +21,4 @@ pub mod Shown
 pub mod Text
 pub mod TomlPlace
 pub mod Words
+pub mod BufferLine

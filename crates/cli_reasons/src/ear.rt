@@ -12,6 +12,7 @@ ghost use Rattle.cli_reasons.specs.Refusal.{holds_records};
 ghost use Rattle.cli_reasons.specs.Ear.{next_number, over_limit};
 ghost use Rattle.cli_reasons.specs.Refusing.{refused_number, StaysRefused};
 
+use crate::buffer_line::buffer_sentence;
 use crate::flaw::{Flaw, Limit, Why};
 use crate::judged::{
     Judged, is_session, judged_characters, judged_name, judged_order, judged_record, judged_stream,
@@ -25,6 +26,7 @@ use crate::refused_answer::answer_sentences;
 use crate::refused_record::refusal_sentence;
 use crate::telling::sentence;
 use bstr::ByteSlice;
+use cli_buffers::SizesLine;
 use cli_characters::convert_back_characters_text;
 use cli_commands::{
     Answer, CommandError, convert_back_text, convert_text, layout_in, show_text, without_end,
@@ -74,6 +76,8 @@ pub enum Lines {
     Characters,
     /// The text of a layout, which is kept whole.
     Layout,
+    /// A terminal's buffer, which is kept whole.
+    Buffer(SizesLine),
     /// A trace, of whose lines no more than the front is kept.
     Trace,
     /// Bytes of one side of a session, in hexadecimal.
@@ -176,7 +180,7 @@ impl Ear {
     {
         self.bytes = self.bytes.saturating_add(bytes.len() as u64);
         self.keep_text(bytes);
-        if self.lines == Lines::Layout {
+        if self.is_whole() {
             return self.keep(bytes);
         }
         let mut rest = bytes;
@@ -185,6 +189,11 @@ impl Ear {
             rest = left;
         }
         self.keep(rest);
+    }
+
+    /// Whether the text is kept whole.
+    fn is_whole(&self) -> bool {
+        matches!(self.lines, Lines::Layout | Lines::Buffer(_))
     }
 
     /// Whether the lines tell records, of which one may be refused.
@@ -334,7 +343,7 @@ impl Ear {
             Lines::Names(names) => judged_name(self.alloc, names, line),
             Lines::Orders => judged_order(self.alloc, self.sizes, line),
             Lines::Characters => judged_characters(self.alloc, self.sizes, line),
-            Lines::Layout => Ok(Judged::Nothing),
+            Lines::Layout | Lines::Buffer(_) => Ok(Judged::Nothing),
             Lines::Trace => Ok(judged_trace(line)),
             Lines::Stream => Ok(judged_stream(line)),
         }
@@ -442,6 +451,17 @@ impl Ear {
         }
     }
 
+    /// The sentence of the first line of a buffer that is refused.
+    fn buffer_sentence(&self, name: &str, sizes: SizesLine) -> Option<String> {
+        if self.is_deaf {
+            return None;
+        }
+        match buffer_sentence(self.alloc, name, sizes, self.open.as_slice()) {
+            Ok(sentence) => sentence,
+            Err(_) => None,
+        }
+    }
+
     /// The input has ended: a line that has begun ends.
     fn end(&mut self)
         ensures { StaysRefused self.old self.new }
@@ -471,6 +491,9 @@ impl Ear {
         if MOST_BYTES < self.bytes && !self.is_endless() {
             let flaw = Flaw::at(1, Why::TooLong(Limit::Bytes));
             return sentence(self.alloc, name, 1, flaw, b"").ok();
+        }
+        if let Lines::Buffer(sizes) = self.lines {
+            return self.buffer_sentence(name, sizes);
         }
         self.end();
         match &self.found {

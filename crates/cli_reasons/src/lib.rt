@@ -1,6 +1,7 @@
 //! Why an input is refused: of a line the column and what stands there, in a sentence for standard error.
 #![tactic(auto)]
 
+mod buffer_line;
 mod character_line;
 mod digits;
 mod ear;
@@ -25,6 +26,7 @@ mod text;
 mod toml_place;
 mod words;
 
+pub use buffer_line::buffer_sentence;
 pub use ear::{Ear, Lines};
 pub use flaw::{Flaw, Limit, Why};
 pub use head::Place;

@@ -9,3 +9,4 @@ pub mod TalkJson
 pub mod TalkReport
 pub mod Blanked
 pub mod TalkLog
+pub mod TalkResults

@@ -17,14 +17,14 @@ use scr_layout::Layout;
 use std::alloc::{AllocError, Global};
 
 /// What stands before the words of a turn's findings.
-fn front_of(alloc: Global, turn: usize) -> Result<String, AllocError>
+pub(crate) fn front_of(alloc: Global, turn: usize) -> Result<String, AllocError>
     ensures { IfOk result (λ text. string_bytes text ≡ front_of turn) }
 {
     format!(in alloc; "turn {turn}: ")
 }
 
 /// Which records findings count: one that tells its record by itself counts those of its turn.
-fn kept_for(findings: &[Traced]) -> Kept
+pub(crate) fn kept_for(findings: &[Traced]) -> Kept
     ensures { result ≡ kept_for findings.now }
 {
     match findings {

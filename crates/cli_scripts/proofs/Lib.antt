@@ -2,3 +2,4 @@ mod DataLines
 mod Telling
 mod DeskSteps
 mod Presses
+mod WorkLaws

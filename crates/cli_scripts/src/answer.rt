@@ -256,8 +256,7 @@ impl Saying {
         layout: LayoutText<'_>,
     ) -> Result<Outcome, AllocError> {
         let mut text = Vec::new(alloc);
-        let geometry = desk.device().geometry();
-        let outcome = push_check(alloc, &mut text, desk.turns(), geometry, path, layout)?;
+        let outcome = push_checked(alloc, &mut text, desk, path, layout)?;
         self.add(&text)?;
         Ok(outcome)
     }
@@ -322,6 +321,28 @@ fn push_told(
         &name,
         query,
         arguments,
+    )
+}
+
+/// Adds what Check says of the screen and a layout, at the beginning of a text.
+fn push_checked(
+    alloc: Global,
+    text: &mut Vec<u8>,
+    desk: &Desk,
+    path: &[u8],
+    layout: LayoutText<'_>,
+) -> Result<Outcome, AllocError>
+    requires { text.old.items ≡ [] }
+    ensures { OnOk result (AreData text.new.items) }
+{
+    script_checks::lines_law();
+    push_check(
+        alloc,
+        text,
+        desk.turns(),
+        desk.device().geometry(),
+        path,
+        layout,
     )
 }
 

@@ -248,20 +248,17 @@ fn write_lines<O: TakesBytes>(output: &mut O, lines: &[u8]) -> bool
     output.pass_on().is_some()
 }
 
-/// Gives the answers that are whole to the tool.
-fn answer<O: TakesBytes>(machine: &mut Machine, output: &mut O) -> Result<(), Ended>
+/// Gives the answers that are whole to the tool: whether it took them.
+fn answer<O: TakesBytes>(machine: &mut Machine, output: &mut O) -> bool
     ensures told { Tells machine.old machine.new (O.contents output.old) (O.contents output.new) }
-    ensures whole { OnOk result (TellsAll machine.old machine.new (O.contents output.old)
+    ensures whole { OnTrue result (TellsAll machine.old machine.new (O.contents output.old)
         (O.contents output.new)) }
     ensures desk { machine.new.desk ≡ machine.old.desk }
     ensures busy { machine.new.is_busy ≡ machine.old.is_busy }
 {
-    if machine.lines().is_empty() {
-        return Ok(());
-    }
     let taken = write_lines(output, machine.lines());
     machine.hand_out_lines();
-    if taken { Ok(()) } else { Err(Ended::Failed) }
+    taken
 }
 
 /// Works the terminal by the lines of the script, up to its end.
@@ -287,8 +284,8 @@ fn work<R: GivesBytes, O: TakesBytes, W: World>(
             Ok(next) => wants = next,
             Err(why) => return why,
         }
-        if let Err(why) = answer(machine, output) {
-            return why;
+        if !answer(machine, output) {
+            return Ended::Failed;
         }
     }
     Ended::Failed

@@ -4,3 +4,5 @@ mod Loop
 mod Texts
 mod Plain
 mod Known
+mod Ruled
+mod PathLaws

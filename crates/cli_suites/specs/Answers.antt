@@ -144,20 +144,3 @@ path_or_none (Some path) = path
 
 abbrev pub alone : Asked → Printed
 alone job = printed (job.records ++ (codes ": no " ++ (path_or_none (slice_get job.layouts 0) ++ codes " beside it\n"))) BadInput
-
-abbrev pub answer_or_missing : Detail → Asked → Result Inputs (List ℕ) → Printed
-answer_or_missing detail job (Ok inputs) = answer_of detail job inputs
-answer_or_missing detail job (Err path) = missing path
-
-abbrev pub read_answer : Held → Detail → Asked → Printed
-read_answer files detail job = answer_or_missing detail job (job_read files job)
-
--- of a file that is alone nothing is read
-abbrev pub answer_by_kind : Kind → Held → Detail → Asked → Printed
-answer_by_kind kinds.Alone files detail job = alone job
-answer_by_kind kinds.Screen files detail job = read_answer files detail job
-answer_by_kind kinds.Dialogue files detail job = read_answer files detail job
-answer_by_kind kinds.Map files detail job = read_answer files detail job
-
-abbrev pub job_answer : Held → Detail → Asked → Printed
-job_answer files detail job = answer_by_kind job.kind files detail job

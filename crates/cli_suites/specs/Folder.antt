@@ -1,13 +1,11 @@
 -- The screens of a folder, by the paths of its files.
-use Rattle.std.specs.Prelude.{ℕ, ◌-◌, ◌==◌, ◌||◌, Bool, nat_eq, nat_lt, bytes_eq, codes, List, [], ◌∷◌, ◌++◌, length, take, Option, Some, None, chars, encode_utf8, if◌then◌else◌}
-use Rattle.std.specs.List.{flat_map, list_any, ends_with}
+use Rattle.std.specs.Prelude.{ℕ, ◌-◌, ◌==◌, ◌||◌, nat_eq, nat_lt, codes, List, [], ◌∷◌, ◌++◌, length, take, Option, Some, None, chars, encode_utf8, if◌then◌else◌}
+use Rattle.std.specs.List.{flat_map, ends_with}
 use Rattle.std.specs.Str.{is_utf8}
 use Rattle.cli_suites.specs.declared.job.Kind.{Kind}
 use Rattle.cli_suites.specs.declared.job.Kind.TheVariants.{Screen, Map, Alone}
 use Rattle.cli_suites.specs.Job.{Asked}
-
-abbrev pub has_path : List (List ℕ) → List ℕ → Bool
-has_path paths path = list_any (λ other. bytes_eq other path) paths
+use Rattle.cli_suites.specs.Paths.{has_path}
 
 -- what comes before the suffix, which is text as the path is
 abbrev pub stem_of : List ℕ → List ℕ → Option (List ℕ)

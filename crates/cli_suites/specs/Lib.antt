@@ -11,6 +11,10 @@ pub mod Text
 pub mod Escaped
 pub mod Json
 pub mod Junit
+pub mod Rule
+pub mod Found
+pub mod Told
 pub mod Report
+pub mod Paths
 pub mod Folder
 pub mod Suite

@@ -5,7 +5,7 @@ ghost use Rattle.cli_commands.specs.Fault.{Gives, fault_line};
 ghost use Rattle.cli_commands.specs.Held.{answer_seen, records_held};
 ghost use Rattle.cli_commands.specs.Printed.{Printed};
 ghost use Rattle.cli_commands.specs.declared.fault.Fault.{Fault as AFault};
-ghost use Rattle.cli_suites.specs.Answers.{Reads, alone, answer_in, answer_of, at_path, check_first, check_maps, explain_first, fault_answer, front_of, inputs_seen, job_answer, job_read, layouts_read, missing, path_of_fault, path_or_none, read_answer, read_one, told, told_answer, with_read};
+ghost use Rattle.cli_suites.specs.Answers.{Reads, alone, answer_in, answer_of, at_path, check_first, check_maps, explain_first, fault_answer, front_of, inputs_seen, job_read, layouts_read, missing, path_of_fault, path_or_none, read_one, told, told_answer, with_read};
 
 use crate::files::Files;
 use crate::job::{Job, Kind};
@@ -125,7 +125,7 @@ fn at_path(alloc: Global, path: &str, line: &str) -> Result<String, AllocError>
 }
 
 /// The path of the file that is at fault, where one is.
-fn path_of_fault(job: &Job, fault: Fault) -> Option<&str>
+pub(crate) fn path_of_fault(job: &Job, fault: Fault) -> Option<&str>
     ensures { option_map (λ path. path.now) result ≡ path_of_fault job.now fault }
 {
     match fault {
@@ -202,7 +202,7 @@ fn told(
 }
 
 /// What is told of the files of a job.
-fn answer_of(
+pub(crate) fn answer_of(
     alloc: Global,
     detail: Detail,
     job: &Job,
@@ -266,7 +266,7 @@ fn layouts_read<F: Files>(
 }
 
 /// The files of a job: its layouts, and then its records.
-fn job_read<F: Files>(alloc: Global, files: &F, job: &Job) -> Result<Inputs, ReadError>
+pub(crate) fn job_read<F: Files>(alloc: Global, files: &F, job: &Job) -> Result<Inputs, ReadError>
     ensures { IfSome (F.contents files.now)
         (λ held. Reads inputs_seen result (job_read held job.now)) }
 {
@@ -276,7 +276,7 @@ fn job_read<F: Files>(alloc: Global, files: &F, job: &Job) -> Result<Inputs, Rea
 }
 
 /// What is told of a file that can't be read.
-fn missing(alloc: Global, path: &str) -> Result<Answer, AllocError>
+pub(crate) fn missing(alloc: Global, path: &str) -> Result<Answer, AllocError>
     ensures { IfOk result (λ answer. answer_seen answer ≡ missing path.now) }
 {
     Ok(Answer {
@@ -286,7 +286,7 @@ fn missing(alloc: Global, path: &str) -> Result<Answer, AllocError>
 }
 
 /// The path of the first layout, or nothing.
-fn first_layout(job: &Job) -> &str
+pub(crate) fn first_layout(job: &Job) -> &str
     ensures { result.now ≡ path_or_none (slice_get job.now.layouts 0) }
 {
     match layout_at(job, 0) {
@@ -296,7 +296,7 @@ fn first_layout(job: &Job) -> &str
 }
 
 /// What is told of a file beside which another one is missing.
-fn alone(alloc: Global, job: &Job) -> Result<Answer, AllocError>
+pub(crate) fn alone(alloc: Global, job: &Job) -> Result<Answer, AllocError>
     ensures { IfOk result (λ answer. answer_seen answer ≡ alone job.now) }
 {
     let path = job.records.as_str();
@@ -305,37 +305,4 @@ fn alone(alloc: Global, job: &Job) -> Result<Answer, AllocError>
         text: format!(in alloc; "{path}: no {other} beside it\n")?,
         status: Status::BadInput,
     })
-}
-
-/// What is told of the files of a job, or of the first that can't be read.
-fn read_answer<F: Files>(
-    alloc: Global,
-    files: &F,
-    detail: Detail,
-    job: &Job,
-) -> Result<Answer, AllocError>
-    ensures { IfSome (F.contents files.now) (λ held. IfOk result
-        (λ answer. answer_seen answer ≡ read_answer held detail job.now)) }
-{
-    match job_read(alloc, files, job) {
-        Ok(inputs) => answer_of(alloc, detail, job, &inputs),
-        Err(ReadError::Missing(path)) => missing(alloc, path.as_str()),
-        Err(ReadError::OutOfMemory) => Err(AllocError),
-    }
-}
-
-/// What is told of a job: what its command prints of its files, or that one can't be read.
-pub(crate) fn job_answer<F: Files>(
-    alloc: Global,
-    files: &F,
-    detail: Detail,
-    job: &Job,
-) -> Result<Answer, AllocError>
-    ensures { IfSome (F.contents files.now) (λ held. IfOk result
-        (λ answer. answer_seen answer ≡ job_answer held detail job.now)) }
-{
-    match job.kind {
-        Kind::Alone => alone(alloc, job),
-        Kind::Screen | Kind::Dialogue | Kind::Map => read_answer(alloc, files, detail, job),
-    }
 }

@@ -2,6 +2,7 @@
 
 ghost use Rattle.std.specs.Prelude.{◌≡◌, ℕ, List, Option, option_map, IfOk, IfSome};
 
+use crate::job::Job;
 use std::alloc::{AllocError, Global};
 
 /// Files by their paths.
@@ -17,6 +18,21 @@ pub trait Files {
     fn read(&self, alloc: Global, path: &str) -> Result<Option<Vec<u8>>, AllocError>
         ensures { IfSome (contents self.now) (λ held. IfOk result (λ bytes.
             option_map (λ v. v.items) bytes ≡ held path.now)) };
+
+    /// The text before each path in a log, from where the program was started: the folder of a manifest, with its last slash.
+    ghost base: { Self → List ℕ };
+
+    /// The path of the manifest, or of the folder.
+    ghost origin: { Self → List ℕ };
+
+    fn folder(&self) -> &str
+        ensures { result.now ≡ base self.now };
+
+    fn start(&self) -> &str
+        ensures { result.now ≡ origin self.now };
+
+    /// Hears that one of the files of a job is refused: of the layouts in their order, or of the records.
+    fn refuse(&self, alloc: Global, job: &Job, layouts: &[Vec<u8>], records: &[u8]);
 
     /// Hears that the screen of a name is next, after so many, of so many.
     fn hear(&self, done: u64, all: usize, name: &str);

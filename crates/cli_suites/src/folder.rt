@@ -2,17 +2,12 @@
 
 ghost use Rattle.std.specs.Prelude.{◌≡◌, ◌++◌, [], ◌∷◌, IfOk, OnOk, chars, option_map, map, string_bytes};
 ghost use Rattle.std.specs.List.{flat_map};
-ghost use Rattle.cli_suites.specs.Folder.{has_path, jobs_in, jobs_of_paths, layout_jobs, map_job, map_jobs, other_jobs, pair, plain_char, plain_name, records_job, stem_of};
+ghost use Rattle.cli_suites.specs.Folder.{jobs_in, jobs_of_paths, layout_jobs, map_job, map_jobs, other_jobs, pair, plain_char, plain_name, records_job, stem_of};
 
 use crate::job::{Job, Kind};
 use crate::manifest::text_in;
+use crate::paths::Paths;
 use std::alloc::{AllocError, Global};
-
-fn has_path(paths: &[String], path: &str) -> bool
-    ensures { result ≡ has_path (map string_bytes paths.now) path.now }
-{
-    paths.iter().any(|other| other.as_str() == path)
-}
 
 /// A character of a name: what is no graphic is a question mark.
 fn push_plain(out: &mut String, character: char) -> Result<(), AllocError>
@@ -61,12 +56,12 @@ fn pair(alloc: Global, kind: Kind, name: &str, path: &str, other: String) -> Res
 }
 
 /// The screen of records, or a refusal where their layout isn't beside them.
-fn records_job(alloc: Global, paths: &[String], stem: &str, path: &str) -> Result<Job, AllocError>
+fn records_job(alloc: Global, paths: &Paths<'_>, stem: &str, path: &str) -> Result<Job, AllocError>
     ensures { IfOk result
-        (λ job. job ≡ records_job (map string_bytes paths.now) stem.now path.now) }
+        (λ job. job ≡ records_job paths.now stem.now path.now) }
 {
     let layout = format!(in alloc; "{stem}.toml")?;
-    if has_path(paths, layout.as_str()) {
+    if paths.has(layout.as_str()) {
         pair(alloc, Kind::Screen, stem, path, layout)
     } else {
         pair(alloc, Kind::Alone, path, path, layout)
@@ -77,15 +72,15 @@ fn records_job(alloc: Global, paths: &[String], stem: &str, path: &str) -> Resul
 fn push_layout(
     alloc: Global,
     jobs: &mut Vec<Job>,
-    paths: &[String],
+    paths: &Paths<'_>,
     stem: &str,
     path: &str,
 ) -> Result<(), AllocError>
     ensures { OnOk result (jobs.new.items ≡ jobs.old.items
-        ++ layout_jobs (map string_bytes paths.now) stem.now path.now) }
+        ++ layout_jobs paths.now stem.now path.now) }
 {
     let records = format!(in alloc; "{stem}.hex")?;
-    if !has_path(paths, records.as_str()) {
+    if !paths.has(records.as_str()) {
         jobs.push(pair(alloc, Kind::Alone, path, path, records)?)?;
     }
     Ok(())
@@ -117,11 +112,11 @@ fn push_map(alloc: Global, jobs: &mut Vec<Job>, path: &str) -> Result<(), AllocE
 fn push_other(
     alloc: Global,
     jobs: &mut Vec<Job>,
-    paths: &[String],
+    paths: &Paths<'_>,
     path: &str,
 ) -> Result<(), AllocError>
     ensures { OnOk result (jobs.new.items ≡ jobs.old.items
-        ++ other_jobs (map string_bytes paths.now) path.now) }
+        ++ other_jobs paths.now path.now) }
 {
     match stem_of(path, b".toml".as_slice()) {
         Some(stem) => push_layout(alloc, jobs, paths, stem, path),
@@ -133,11 +128,11 @@ fn push_other(
 fn push_jobs(
     alloc: Global,
     jobs: &mut Vec<Job>,
-    paths: &[String],
+    paths: &Paths<'_>,
     path: &str,
 ) -> Result<(), AllocError>
     ensures { OnOk result (jobs.new.items ≡ jobs.old.items
-        ++ jobs_in (map string_bytes paths.now) path.now) }
+        ++ jobs_in paths.now path.now) }
 {
     match stem_of(path, b".hex".as_slice()) {
         Some(stem) => Ok(jobs.push(records_job(alloc, paths, stem, path)?)?),
@@ -145,13 +140,22 @@ fn push_jobs(
     }
 }
 
-/// The screens and the sources of maps among files, in the order of their paths.
-pub(crate) fn jobs_of_paths(alloc: Global, paths: &[String]) -> Result<Vec<Job>, AllocError>
-    ensures { IfOk result (λ jobs. jobs.items ≡ jobs_of_paths (map string_bytes paths.now)) }
+/// What paths stand for, of which the files beside them are looked up among others.
+fn all_jobs(alloc: Global, paths: &Paths<'_>, list: &[String]) -> Result<Vec<Job>, AllocError>
+    ensures { IfOk result
+        (λ jobs. jobs.items ≡ flat_map (jobs_in paths.now) (map string_bytes list.now)) }
 {
     let mut jobs = Vec::new(alloc);
-    for path in paths {
+    for path in list {
         push_jobs(alloc, &mut jobs, paths, path.as_str())?;
     }
     Ok(jobs)
+}
+
+/// The screens and the sources of maps among files, in the order of their paths.
+pub(crate) fn jobs_of_paths(alloc: Global, list: &[String]) -> Result<Vec<Job>, AllocError>
+    ensures { IfOk result (λ jobs. jobs.items ≡ jobs_of_paths (map string_bytes list.now)) }
+{
+    let paths = Paths::new(alloc, list)?;
+    all_jobs(alloc, &paths, list)
 }

@@ -2,16 +2,19 @@
 
 ghost use Rattle.std.specs.Prelude.{◌≡◌, ◌++◌, IfOk, OnOk, string_bytes};
 ghost use Rattle.cli_commands.specs.Held.{answer_seen};
+ghost use Rattle.cli_findings.specs.Results.{results_seen};
 ghost use Rattle.cli_suites.specs.Count.{plus};
-ghost use Rattle.cli_suites.specs.Report.{add, case_text, counted_in, end_text, no_report, no_totals, printed_report, report_seen, status_of};
+ghost use Rattle.cli_suites.specs.Report.{add, case_text, counted_in, end_text, json_lines, junit_text, log_text, no_report, printed_report, report_seen, status_of, text_end};
 ghost use Rattle.cli_suites.specs.Settled.{settled_seen};
 
 use crate::count::{Totals, plus};
 use crate::json::{push_json_case, push_json_end};
 use crate::junit::{push_junit_begin, push_junit_case, push_junit_end};
+use crate::rule::suite_rules;
 use crate::settled::{Settled, Verdict};
 use crate::text::{push_accepted, push_text_case, push_text_end};
 use cli_commands::{Answer, Status};
+use cli_findings::{Results, results_line};
 use std::alloc::{AllocError, Global};
 
 /// The form of a report.
@@ -23,6 +26,8 @@ pub enum Form {
     Json,
     /// The XML of JUnit: a test case for each screen.
     Junit,
+    /// A log of SARIF 2.1.0 on one line: a result for each finding and each input that is refused.
+    Sarif,
 }
 
 /// The report so far.
@@ -32,6 +37,8 @@ pub(crate) struct Report {
     pub text: String,
     /// A line for each accepted finding that came.
     pub accepted: String,
+    /// In the log, the results of the screens.
+    pub results: Results,
     pub totals: Totals,
 }
 
@@ -42,6 +49,7 @@ pub(crate) fn no_report(alloc: Global) -> Report
     Report {
         text: String::new(alloc),
         accepted: String::new(alloc),
+        results: Results::new(alloc),
         totals: Totals {
             screens: 0,
             yes: 0,
@@ -94,22 +102,25 @@ fn push_case(
         Form::Text => push_text_case(out, name, settled),
         Form::Json => push_json_case(alloc, out, name, settled),
         Form::Junit => push_junit_case(out, name, settled),
+        Form::Sarif => Ok(()),
     }
 }
 
-/// Adds a screen to a report.
+/// Adds a screen to a report, with its results in the log.
 pub(crate) fn add(
     alloc: Global,
     form: Form,
     report: &mut Report,
     name: &str,
     settled: &Settled,
+    results: Results,
 ) -> Result<(), AllocError>
     ensures { OnOk result (report_seen report.new ≡ add form (report_seen report.old) name.now
-        (settled_seen settled.now)) }
+        (settled_seen settled.now) (results_seen results)) }
 {
     push_case(alloc, form, &mut report.text, name, settled)?;
     push_accepted(&mut report.accepted, name, settled.came.as_slice())?;
+    report.results.append(results)?;
     report.totals = counted_in(report.totals, settled);
     Ok(())
 }
@@ -127,41 +138,65 @@ fn status_of(totals: Totals) -> Status
     }
 }
 
-/// The whole text of a report.
-fn end_text(alloc: Global, form: Form, report: &Report) -> Result<String, AllocError>
-    ensures { IfOk result (λ text. string_bytes text ≡ end_text form (report_seen report.now)) }
+fn text_end(alloc: Global, report: &Report) -> Result<String, AllocError>
+    ensures { IfOk result (λ text. string_bytes text ≡ text_end (report_seen report.now)) }
+{
+    let mut text = String::from_str(alloc, report.text.as_str())?;
+    text.push_str(report.accepted.as_str())?;
+    push_text_end(&mut text, report.totals)?;
+    Ok(text)
+}
+
+fn json_lines(alloc: Global, report: &Report) -> Result<String, AllocError>
+    ensures { IfOk result (λ text. string_bytes text ≡ json_lines (report_seen report.now)) }
+{
+    let mut text = String::from_str(alloc, report.text.as_str())?;
+    push_json_end(alloc, &mut text, report.totals)?;
+    Ok(text)
+}
+
+fn junit_text(alloc: Global, report: &Report) -> Result<String, AllocError>
+    ensures { IfOk result (λ text. string_bytes text ≡ junit_text (report_seen report.now)) }
 {
     let mut text = String::new(alloc);
-    match form {
-        Form::Text => {
-            text.push_str(report.text.as_str())?;
-            text.push_str(report.accepted.as_str())?;
-            push_text_end(&mut text, report.totals)?;
-        }
-        Form::Json => {
-            text.push_str(report.text.as_str())?;
-            push_json_end(alloc, &mut text, report.totals)?;
-        }
-        Form::Junit => {
-            push_junit_begin(&mut text, report.totals)?;
-            text.push_str(report.text.as_str())?;
-            push_junit_end(&mut text)?;
-        }
-    }
+    push_junit_begin(&mut text, report.totals)?;
+    text.push_str(report.text.as_str())?;
+    push_junit_end(&mut text)?;
     Ok(text)
+}
+
+/// The log of these results.
+#[tactic(auto, using(crate::proofs::Ruled::rules_plain, crate::proofs::Ruled::rules_nest))]
+pub(crate) fn log_text(alloc: Global, results: Results) -> Result<String, AllocError>
+    ensures { IfOk result (λ text. string_bytes text ≡ log_text (results_seen results)) }
+{
+    results_line(alloc, suite_rules(alloc)?, results)
+}
+
+/// The whole text of a report.
+fn end_text(alloc: Global, form: Form, report: Report) -> Result<String, AllocError>
+    ensures { IfOk result (λ text. string_bytes text ≡ end_text form (report_seen report)) }
+{
+    match form {
+        Form::Text => text_end(alloc, &report),
+        Form::Json => json_lines(alloc, &report),
+        Form::Junit => junit_text(alloc, &report),
+        Form::Sarif => log_text(alloc, report.results),
+    }
 }
 
 /// What is printed of a report.
 pub(crate) fn printed_report(
     alloc: Global,
     form: Form,
-    report: &Report,
+    report: Report,
 ) -> Result<Answer, AllocError>
     ensures { IfOk result (λ answer. answer_seen answer
-        ≡ printed_report form (report_seen report.now)) }
+        ≡ printed_report form (report_seen report)) }
 {
+    let status = status_of(report.totals);
     Ok(Answer {
         text: end_text(alloc, form, report)?,
-        status: status_of(report.totals),
+        status,
     })
 }

@@ -37,7 +37,7 @@ pub(crate) struct Settled {
 }
 
 /// The lines of a text, all of which are text.
-fn text_lines(alloc: Global, text: &str) -> Result<Vec<String>, AllocError>
+pub(crate) fn text_lines(alloc: Global, text: &str) -> Result<Vec<String>, AllocError>
     ensures { IfOk result (λ lines. map string_bytes lines.items
         ≡ text_lines (lines_in text.now)) }
 {
@@ -177,7 +177,7 @@ fn push_stale(
 }
 
 /// What is accepted of a screen and isn't among its lines.
-fn stale_lines(
+pub(crate) fn stale_lines(
     alloc: Global,
     name: &str,
     accepted: &[Accepted],

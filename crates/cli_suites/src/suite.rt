@@ -4,9 +4,8 @@ ghost use Rattle.std.specs.Prelude.{◌≡◌, IfOk, IfSome, OnOk, map, option_m
 ghost use Rattle.cli_commands.specs.Held.{answer_seen};
 ghost use Rattle.cli_suites.specs.Manifest.{manifest_seen};
 ghost use Rattle.cli_suites.specs.Report.{no_report, report_seen};
-ghost use Rattle.cli_suites.specs.Suite.{add_job, after_job, all_jobs, detail_of, fault_words, has_asked, is_asked, is_long, printed_folder, printed_jobs, printed_suite, refused_suite, some_jobs, told_suite};
+ghost use Rattle.cli_suites.specs.Suite.{add_job, after_job, all_jobs, fault_words, has_asked, is_asked, is_long, printed_folder, printed_jobs, printed_suite, refused_log, refused_suite, refused_text, some_jobs, told_suite};
 
-use crate::answers::{Detail, job_answer};
 use crate::fault::{ManifestError, ManifestFault};
 use crate::files::Files;
 use crate::folder::jobs_of_paths;
@@ -14,20 +13,12 @@ use crate::job::{Accepted, Job};
 use crate::json::push_json_refusal;
 use crate::junit::push_junit_refusal;
 use crate::manifest::{Manifest, has_name, manifest_in};
-use crate::report::{Form, Report, add, no_report, printed_report};
+use crate::report::{Form, Report, add, log_text, no_report, printed_report};
 use crate::settled::settle;
+use crate::told::job_told;
 use cli_commands::{Answer, Status};
+use cli_findings::refused_results;
 use std::alloc::{AllocError, Global};
-
-/// Explained in the form that has room for it.
-fn detail_of(form: Form) -> Detail
-    ensures { result ≡ detail_of form }
-{
-    match form {
-        Form::Text | Form::Json => Detail::Omitted,
-        Form::Junit => Detail::Explained,
-    }
-}
 
 /// Whether a screen is asked for: its name is, or none.
 fn is_asked(only: Option<&str>, job: &Job) -> bool
@@ -49,12 +40,12 @@ fn add_job<F: Files>(
     job: &Job,
 ) -> Result<(), AllocError>
     ensures { IfSome (F.contents files.now) (λ held. OnOk result (report_seen report.new
-        ≡ add_job form held accepted.now (report_seen report.old) job.now)) }
+        ≡ add_job form (F.base files.now) held accepted.now (report_seen report.old) job.now)) }
 {
-    let answer = job_answer(alloc, files, detail_of(form), job)?;
+    let told = job_told(alloc, files, form, accepted, job)?;
     let name = job.name.as_str();
-    let settled = settle(alloc, name, accepted, &answer)?;
-    add(alloc, form, report, name, &settled)
+    let settled = settle(alloc, name, accepted, &told.answer)?;
+    add(alloc, form, report, name, &settled, told.results)
 }
 
 /// The same, where the screen is asked for.
@@ -68,8 +59,8 @@ fn after_job<F: Files>(
     job: &Job,
 ) -> Result<(), AllocError>
     ensures { IfSome (F.contents files.now) (λ held. OnOk result (report_seen report.new
-        ≡ after_job form held accepted.now (option_map (λ name. name.now) only.entry)
-        (report_seen report.old) job.now)) }
+        ≡ after_job form (F.base files.now) held accepted.now
+        (option_map (λ name. name.now) only.entry) (report_seen report.old) job.now)) }
 {
     if is_asked(only, job) {
         add_job(alloc, files, form, accepted, report, job)
@@ -88,8 +79,8 @@ fn all_jobs<F: Files>(
     jobs: &[Job],
 ) -> Result<Report, AllocError>
     ensures { IfSome (F.contents files.now) (λ held. IfOk result (λ report. report_seen report
-        ≡ all_jobs form held accepted.now (option_map (λ name. name.now) only.entry)
-        no_report jobs.now)) }
+        ≡ all_jobs form (F.base files.now) held accepted.now
+        (option_map (λ name. name.now) only.entry) no_report jobs.now)) }
 {
     let mut report = no_report(alloc);
     for job in jobs {
@@ -99,9 +90,16 @@ fn all_jobs<F: Files>(
     Ok(report)
 }
 
-/// What is printed of a suite that is refused.
-fn refused_suite(alloc: Global, form: Form, words: &str) -> Result<Answer, AllocError>
-    ensures { IfOk result (λ answer. answer_seen answer ≡ refused_suite form words.now) }
+/// The log of a suite that is refused, whose manifest or folder has this path.
+fn refused_log(alloc: Global, path: &str, words: &str) -> Result<String, AllocError>
+    ensures { IfOk result (λ text. string_bytes text ≡ refused_log path.now words.now) }
+{
+    log_text(alloc, refused_results(alloc, path, 1, words)?)
+}
+
+/// The text of a suite that is refused.
+fn refused_text(alloc: Global, form: Form, path: &str, words: &str) -> Result<String, AllocError>
+    ensures { IfOk result (λ text. string_bytes text ≡ refused_text form path.now words.now) }
 {
     let mut text = String::new(alloc);
     match form {
@@ -111,9 +109,17 @@ fn refused_suite(alloc: Global, form: Form, words: &str) -> Result<Answer, Alloc
         }
         Form::Json => push_json_refusal(alloc, &mut text, words)?,
         Form::Junit => push_junit_refusal(&mut text, words)?,
+        Form::Sarif => return refused_log(alloc, path, words),
     }
+    Ok(text)
+}
+
+/// What is printed of a suite that is refused.
+fn refused_suite(alloc: Global, form: Form, path: &str, words: &str) -> Result<Answer, AllocError>
+    ensures { IfOk result (λ answer. answer_seen answer ≡ refused_suite form path.now words.now) }
+{
     Ok(Answer {
-        text,
+        text: refused_text(alloc, form, path, words)?,
         status: Status::BadInput,
     })
 }
@@ -137,10 +143,11 @@ fn some_jobs<F: Files>(
     jobs: &[Job],
 ) -> Result<Answer, AllocError>
     ensures { IfSome (F.contents files.now) (λ held. IfOk result (λ answer. answer_seen answer
-        ≡ some_jobs form held accepted.now (option_map (λ name. name.now) only.entry) jobs.now)) }
+        ≡ some_jobs form (F.base files.now) held accepted.now
+        (option_map (λ name. name.now) only.entry) jobs.now)) }
 {
     let report = all_jobs(alloc, files, form, accepted, only, jobs)?;
-    printed_report(alloc, form, &report)
+    printed_report(alloc, form, report)
 }
 
 /// What `suite` prints of screens and of findings that are accepted: all screens, or the one of a name. Each is what `check`,
@@ -158,12 +165,13 @@ pub fn suite_jobs<F: Files>(
     accepted: &[Accepted],
 ) -> Result<Answer, AllocError>
     ensures { IfSome (F.contents files.now) (λ held. IfOk result (λ answer. answer_seen answer
-        ≡ printed_jobs form held (option_map (λ name. name.now) only.entry) jobs.now accepted.now)) }
+        ≡ printed_jobs form (F.base files.now) (F.origin files.now) held
+        (option_map (λ name. name.now) only.entry) jobs.now accepted.now)) }
 {
     if has_asked(only, jobs) {
         some_jobs(alloc, files, form, accepted, only, jobs)
     } else {
-        refused_suite(alloc, form, "no screen of this name")
+        refused_suite(alloc, form, files.start(), "no screen of this name")
     }
 }
 
@@ -182,19 +190,24 @@ fn told_suite<F: Files>(
     manifest: &Manifest,
 ) -> Result<Answer, AllocError>
     ensures { IfSome (F.contents files.now) (λ held. IfOk result (λ answer. answer_seen answer
-        ≡ told_suite form held (option_map (λ name. name.now) only.entry)
-        (manifest_seen manifest.now))) }
+        ≡ told_suite form (F.base files.now) (F.origin files.now) held
+        (option_map (λ name. name.now) only.entry) (manifest_seen manifest.now))) }
 {
     let jobs = manifest.jobs.as_slice();
     suite_jobs(alloc, files, form, only, jobs, manifest.accepted.as_slice())
 }
 
-fn refused_manifest(alloc: Global, form: Form, fault: ManifestFault) -> Result<Answer, AllocError>
+fn refused_manifest(
+    alloc: Global,
+    form: Form,
+    path: &str,
+    fault: ManifestFault,
+) -> Result<Answer, AllocError>
     ensures { IfOk result (λ answer. answer_seen answer
-        ≡ refused_suite form (fault_words fault)) }
+        ≡ refused_suite form path.now (fault_words fault)) }
 {
     let words = fault_words(alloc, fault)?;
-    refused_suite(alloc, form, words.as_str())
+    refused_suite(alloc, form, path, words.as_str())
 }
 
 /// Whether a text has more bytes than an input may have.
@@ -219,14 +232,17 @@ pub fn suite_text<F: Files>(
     manifest: &[u8],
 ) -> Result<Answer, AllocError>
     ensures { IfSome (F.contents files.now) (λ held. IfOk result (λ answer. answer_seen answer
-        ≡ printed_suite form held (option_map (λ name. name.now) only.entry) manifest.now)) }
+        ≡ printed_suite form (F.base files.now) (F.origin files.now) held
+        (option_map (λ name. name.now) only.entry) manifest.now)) }
 {
     if is_long(manifest) {
-        return refused_suite(alloc, form, "manifest too long");
+        return refused_suite(alloc, form, files.start(), "manifest too long");
     }
     match manifest_in(alloc, manifest) {
         Ok(manifest) => told_suite(alloc, files, form, only, &manifest),
-        Err(ManifestError::Refused(fault)) => refused_manifest(alloc, form, fault),
+        Err(ManifestError::Refused(fault)) => {
+            refused_manifest(alloc, form, files.start(), fault)
+        }
         Err(ManifestError::OutOfMemory) => Err(AllocError),
     }
 }
@@ -245,8 +261,8 @@ pub fn suite_folder<F: Files>(
     paths: &[String],
 ) -> Result<Answer, AllocError>
     ensures { IfSome (F.contents files.now) (λ held. IfOk result (λ answer. answer_seen answer
-        ≡ printed_folder form held (option_map (λ name. name.now) only.entry)
-        (map string_bytes paths.now))) }
+        ≡ printed_folder form (F.base files.now) (F.origin files.now) held
+        (option_map (λ name. name.now) only.entry) (map string_bytes paths.now))) }
 {
     let jobs = jobs_of_paths(alloc, paths)?;
     suite_jobs(alloc, files, form, only, jobs.as_slice(), &[])

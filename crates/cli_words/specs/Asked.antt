@@ -189,6 +189,7 @@ abbrev pub IsSuiteForm : List Row → SuiteForm → Type 0
 IsSuiteForm rows form = (first_of (codes "format") rows ≡ Some (codes "text") → form ≡ suite_forms.Text)
     × (first_of (codes "format") rows ≡ Some (codes "json") → form ≡ suite_forms.Json)
     × (first_of (codes "format") rows ≡ Some (codes "junit") → form ≡ suite_forms.Junit)
+    × (first_of (codes "format") rows ≡ Some (codes "sarif") → form ≡ suite_forms.Sarif)
 
 -- a manifest or a folder, and the one screen that is asked for
 abbrev pub IsSuite : List Row → Asked → Type 0

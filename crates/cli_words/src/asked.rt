@@ -505,6 +505,7 @@ fn suite_form_in(words: &ArgMatches<'_>) -> SuiteForm
     match text_in(words, "format") {
         "json" => SuiteForm::Json,
         "junit" => SuiteForm::Junit,
+        "sarif" => SuiteForm::Sarif,
         _ => SuiteForm::Text,
     }
 }

@@ -5,4 +5,4 @@ mod asked;
 mod script;
 
 pub use crate::asked::{Asked, KeyLines, ReportForm, When};
-pub use crate::script::{ScriptAsked, ScriptForm};
+pub use crate::script::ScriptAsked;

@@ -2,19 +2,11 @@
 
 ghost use Rattle.std.specs.Prelude.{◌≡◌};
 ghost use Rattle.clap.specs.Words.{found_of, rows_of};
-ghost use Rattle.cli_words.specs.Script.{IsCodePage, IsScript, IsScriptForm};
+ghost use Rattle.cli_words.specs.Script.{IsCodePage, IsScript};
 
 use crate::asked::{path_in, text_in};
 use clap::ArgMatches;
 use script_screens::CodePage;
-
-/// A form of what is found at the screens of a script.
-#[derive(Clone, Copy)]
-pub enum ScriptForm {
-    Text,
-    Json,
-    Junit,
-}
 
 /// What is asked of `script`.
 #[derive(Clone, Copy)]
@@ -23,11 +15,6 @@ pub struct ScriptAsked<'a> {
     pub host: Option<&'a str>,
     pub device: &'a str,
     pub code_page: CodePage,
-    /// The folder of the layouts by which each screen is judged.
-    pub layouts: Option<&'a str>,
-    /// The file of what is found.
-    pub report: Option<&'a str>,
-    pub form: ScriptForm,
 }
 
 fn code_page_in(words: &ArgMatches<'_>) -> CodePage
@@ -39,16 +26,6 @@ fn code_page_in(words: &ArgMatches<'_>) -> CodePage
     }
 }
 
-fn form_in(words: &ArgMatches<'_>) -> ScriptForm
-    ensures { IsScriptForm (rows_of (found_of words.now)) result }
-{
-    match text_in(words, "report-format") {
-        "json" => ScriptForm::Json,
-        "junit" => ScriptForm::Junit,
-        _ => ScriptForm::Text,
-    }
-}
-
 /// What the words of `script` ask for.
 pub(crate) fn script_of<'a>(words: &ArgMatches<'a>) -> ScriptAsked<'a>
     ensures { IsScript (rows_of (found_of words.now)) result }
@@ -57,8 +34,5 @@ pub(crate) fn script_of<'a>(words: &ArgMatches<'a>) -> ScriptAsked<'a>
         host: path_in(words, "HOST"),
         device: text_in(words, "device"),
         code_page: code_page_in(words),
-        layouts: path_in(words, "layouts"),
-        report: path_in(words, "report"),
-        form: form_in(words),
     }
 }

@@ -2,7 +2,7 @@
 
 use crate::notation::read_text;
 use cli_commands::Answer;
-use cli_suites::{Files, Form, manifest_in, suite_folder, suite_jobs, suite_text};
+use cli_suites::{Files, Form, Job, manifest_in, suite_folder, suite_jobs, suite_text};
 use std::alloc::{AllocError, Global};
 use test_words::Row;
 
@@ -13,9 +13,23 @@ struct InMemory<'a> {
 }
 
 impl Files for InMemory<'_> {
-    ghost use Rattle.std.specs.Prelude.{None};
+    ghost use Rattle.std.specs.Prelude.{None, codes};
 
     ghost contents = { λ files. None };
+
+    ghost base = { λ files. codes "made/" };
+
+    ghost origin = { λ files. codes "made/suite.toml" };
+
+    fn folder(&self) -> &str {
+        "made/"
+    }
+
+    fn start(&self) -> &str {
+        "made/suite.toml"
+    }
+
+    fn refuse(&self, _alloc: Global, _job: &Job, _layouts: &[Vec<u8>], _records: &[u8]) {}
 
     fn read(&self, alloc: Global, path: &str) -> Result<Option<Vec<u8>>, AllocError> {
         for file in self.text.split('|') {
@@ -36,6 +50,7 @@ fn form_of(name: &str) -> Form {
     match name {
         "json" => Form::Json,
         "junit" => Form::Junit,
+        "sarif" => Form::Sarif,
         _ => Form::Text,
     }
 }

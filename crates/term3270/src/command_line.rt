@@ -16,9 +16,7 @@ const WHEN: &[&str] = &["auto", "always", "never"];
 
 const FINDING_FORMS: &[&str] = &["text", "json", "sarif"];
 
-const SUITE_FORMS: &[&str] = &["text", "json", "junit"];
-
-const REPORT_FORMS: &[&str] = &["text", "json", "junit"];
+const SUITE_FORMS: &[&str] = &["text", "json", "junit", "sarif"];
 
 const CODE_PAGES: &[&str] = &["bracket", "037"];
 
@@ -491,21 +489,6 @@ const SESSIONS: &[Described<'_>] = &[
                 name: "code-page",
                 takes: Takes::OneOf("PAGE", CODE_PAGES, "bracket"),
                 help: "The host's characters",
-            },
-            Argument {
-                name: "layouts",
-                takes: Takes::Value("FOLDER"),
-                help: "Judge each screen that is answered by the layout of this folder that matches it",
-            },
-            Argument {
-                name: "report",
-                takes: Takes::ValueWith("FILE", "layouts", &[]),
-                help: "With --layouts: the file of what is found, in place of standard error",
-            },
-            Argument {
-                name: "report-format",
-                takes: Takes::OneOf("FORM", REPORT_FORMS, "text"),
-                help: "With --layouts: how it is written",
             },
         ],
     },

@@ -278,8 +278,9 @@ pub(crate) fn records(rt: &HostRuntime, asked: Asked) -> Status {
 
 /// `records` of a terminal's buffer.
 pub(crate) fn buffers(rt: &HostRuntime, sizes: SizesLine) -> Status {
-    let mut lines = named(rt, "standard input", rt.stdin());
-    run_buffers(rt.alloc(), sizes, &mut lines, &mut output(rt))
+    let mut lines = heard_input(rt, Lines::Buffer(sizes));
+    let status = run_buffers(rt.alloc(), sizes, &mut lines, &mut output(rt));
+    told(rt, status, &mut lines)
 }
 
 /// What the lines of traces are, or of streams.

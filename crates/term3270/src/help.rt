@@ -90,7 +90,7 @@ Output:
 
 Forms:
   json is an object a line for each screen and one of the totals; junit is the XML that GitLab, Jenkins and GitHub's
-  reporters read, a test case for each screen.
+  reporters read, a test case for each screen; sarif is one log of SARIF 2.1.0, a result for each finding at its line.
 
 Example:
   $ term3270 suite examples/suite.toml

@@ -22,6 +22,7 @@ fn asked_for(lines: Lines) -> &'static str {
         Lines::Orders | Lines::Characters => "commands and orders, one a line",
         Lines::Trace => "a trace of x3270, s3270 or c3270",
         Lines::Stream => "bytes of one side in hexadecimal",
+        Lines::Buffer(_) => "what s3270 answers to ReadBuffer(Ebcdic)",
         Lines::Turns | Lines::SizedTurns => {
             "records in hexadecimal, with a line 'turn' between two turns"
         }

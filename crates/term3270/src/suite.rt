@@ -5,7 +5,8 @@ use crate::file::FileAt;
 use crate::stream::Named;
 use crate::walk::paths_below;
 use cli_commands::{Answer, CommandError, Status, Watched, failure, finish, read_text};
-use cli_suites::{Files, Form, suite_folder, suite_text};
+use cli_reasons::{Ear, Lines};
+use cli_suites::{Files, Form, Job, Kind, suite_folder, suite_text};
 use std::alloc::{AllocError, Global};
 use std::fs::metadata;
 use std::io;
@@ -15,7 +16,9 @@ use std::io::IsTerminal;
 #[derive(Drop)]
 struct Disk<'a> {
     rt: &'a HostRuntime,
-    /// The folder, with its last slash, or nothing.
+    /// The path of the manifest, or of the folder.
+    start: &'a str,
+    /// The folder from which paths go, with its last slash, or nothing.
     base: &'a str,
     /// Whether it is shown how far the suite has come.
     is_shown: bool,
@@ -41,13 +44,27 @@ impl Files for Disk<'_> {
 
     ghost contents = { λ disk. None };
 
+    ghost base = { λ disk. disk.base.now };
+
+    ghost origin = { λ disk. disk.start.now };
+
+    fn folder(&self) -> &str {
+        self.base
+    }
+
+    fn start(&self) -> &str {
+        self.start
+    }
+
+    fn refuse(&self, alloc: Global, job: &Job, layouts: &[Vec<u8>], records: &[u8]) {
+        self.clear();
+        if let Ok(Some(sentence)) = self.sentence(alloc, job, layouts, records) {
+            let _ = eprint!(self.rt; "{sentence}");
+        }
+    }
+
     fn read(&self, alloc: Global, path: &str) -> Result<Option<Vec<u8>>, AllocError> {
-        let base = self.base;
-        let whole = if path.starts_with('/') {
-            String::from_str(alloc, path)?
-        } else {
-            format!(in alloc; "{base}{path}")?
-        };
+        let whole = self.whole(alloc, path)?;
         self.clear();
         match read_file(self.rt, whole.as_str()) {
             Ok(bytes) => Ok(Some(bytes)),
@@ -64,7 +81,57 @@ impl Files for Disk<'_> {
     }
 }
 
+/// What the lines of a job's records are.
+fn record_lines(kind: Kind) -> Option<Lines> {
+    match kind {
+        Kind::Screen => Some(Lines::SizedRecords),
+        Kind::Dialogue => Some(Lines::Turns),
+        Kind::Map | Kind::Alone => None,
+    }
+}
+
+/// Why a text of such lines is refused, in the input of a name, where it is.
+fn heard(alloc: Global, lines: Lines, name: &str, text: &[u8]) -> Option<String> {
+    let mut ear = Ear::new(alloc, lines);
+    ear.hear(text);
+    ear.sentence(name)
+}
+
 impl Disk<'_> {
+    /// The path of a file from where the program was started.
+    fn whole(&self, alloc: Global, path: &str) -> Result<String, AllocError> {
+        let base = self.base;
+        if path.starts_with('/') {
+            String::from_str(alloc, path)
+        } else {
+            format!(in alloc; "{base}{path}")
+        }
+    }
+
+    /// Why the first of the files of a job is refused that is: of the layouts in their order, or of the records.
+    fn sentence(
+        &self,
+        alloc: Global,
+        job: &Job,
+        layouts: &[Vec<u8>],
+        records: &[u8],
+    ) -> Result<Option<String>, AllocError> {
+        for (path, layout) in job.layouts.as_slice().iter().zip(layouts) {
+            let name = self.whole(alloc, path.as_str())?;
+            let told = heard(alloc, Lines::Layout, name.as_str(), layout.as_slice());
+            if told.is_some() {
+                return Ok(told);
+            }
+        }
+        match record_lines(job.kind) {
+            Some(lines) => {
+                let name = self.whole(alloc, job.records.as_str())?;
+                Ok(heard(alloc, lines, name.as_str(), records))
+            }
+            None => Ok(None),
+        }
+    }
+
     /// Takes back the line that shows how far the suite has come.
     fn clear(&self) {
         if self.is_shown {
@@ -100,6 +167,7 @@ fn folder_answer(
     };
     let disk = Disk {
         rt,
+        start: path,
         base: "",
         is_shown: rt.stderr().is_terminal(),
     };
@@ -118,6 +186,7 @@ fn manifest_answer(
     let manifest = read_file(rt, path)?;
     let disk = Disk {
         rt,
+        start: path,
         base: folder_of(path),
         is_shown: rt.stderr().is_terminal(),
     };

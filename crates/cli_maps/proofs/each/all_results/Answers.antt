@@ -7,7 +7,8 @@ use Rattle.serde_json.specs.Written.{items_have_float}
 use Rattle.cli_maps.specs.Sarif.{results_of}
 use Rattle.cli_maps.specs.Told.{all_results}
 use Rattle.cli_maps.proofs.Folds.{results_next, results_stop}
-use Rattle.cli_maps.proofs.Logged.{both_nest, both_plain, results_nest, results_plain}
+use Rattle.cli_findings.proofs.Logged.{both_nest, both_plain}
+use Rattle.cli_maps.proofs.Logged.{results_nest, results_plain}
 use Rattle.cli_maps.proofs.each.all_results.Goals as goal
 
 pub loop-map-preserved : goal.loop-map-preserved

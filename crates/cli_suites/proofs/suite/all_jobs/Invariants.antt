@@ -8,5 +8,5 @@ use Rattle.cli_suites.proofs.suite.all_jobs.Given as goal
 abbrev pub invariant-loop-job : goal.invariant-loop-job
 invariant-loop-job g l =
     IfSome (g.F.Files.contents l.files) (λ held.
-    all_jobs l.form held l.accepted (option_map (λ name. name.now) l.only) (report_seen l.report) (drop l.job-index l.jobs)
-    ≡ all_jobs l.form held l.accepted (option_map (λ name. name.now) l.only) no_report l.jobs)
+    all_jobs l.form (g.F.Files.base l.files) held l.accepted (option_map (λ name. name.now) l.only) (report_seen l.report) (drop l.job-index l.jobs)
+    ≡ all_jobs l.form (g.F.Files.base l.files) held l.accepted (option_map (λ name. name.now) l.only) no_report l.jobs)

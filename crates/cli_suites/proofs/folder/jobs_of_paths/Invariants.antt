@@ -1,7 +1,0 @@
-use Rattle.std.proofs.Common.{◌≡◌, ◌++◌, drop, map, string_bytes}
-use Rattle.std.specs.List.{flat_map}
-use Rattle.cli_suites.specs.Folder.{jobs_in, jobs_of_paths}
-use Rattle.cli_suites.proofs.folder.jobs_of_paths.Given as goal
-
-abbrev pub invariant-loop-path : goal.invariant-loop-path
-invariant-loop-path l = l.jobs.items ++ flat_map (jobs_in (map string_bytes l.paths)) (map string_bytes (drop l.path-index l.paths)) ≡ jobs_of_paths (map string_bytes l.paths)
