@@ -23,8 +23,11 @@ _term3270_values() { # OPTION
     show--color) _term3270_offer -W 'auto always never' ;;
     check--format | talk--format) _term3270_offer -W 'text json sarif' ;;
     suite--format) _term3270_offer -W 'text json junit sarif' ;;
+    script--report-format) _term3270_offer -W 'text json junit' ;;
+    script--code-page) _term3270_offer -W 'bracket 037' ;;
+    script--layouts | script--report) _term3270_files ;;
     records--from) _term3270_offer -W 'trace stream buffer' ;;
-    attach--device)
+    attach--device | script--device)
       for device in IBM-327{8,9}-{2,3,4,5}{,-E}; do devices="$devices $device"; done
       _term3270_offer -W "$devices"
       ;;
@@ -44,8 +47,8 @@ _term3270_place() { # N, or <
     suite0) _term3270_files '*.toml' ;;
     map0) _term3270_files '*.bms' ;;
     press0 | attach1) _term3270_files ;;
-    attach0) _term3270_offer -A hostname ;;
-    help0) _term3270_offer -W 'show check talk suite press convert draft bind records serve attach map' ;;
+    attach0 | script0) _term3270_offer -A hostname ;;
+    help0) _term3270_offer -W 'show check talk suite press convert draft bind records serve attach script map' ;;
     *) return 1 ;;
   esac
 }
@@ -64,6 +67,7 @@ _term3270_options() {
     records) options='--from --answers --turns --turn --size --all' ;;
     serve) options='--port --count --listen' ;;
     attach) options='--strokes --port --device --tolerant --expect --timeout' ;;
+    script) options='--device --code-page --layouts --report --report-format' ;;
     map) options='--map --layout --freekb --frset' ;;
     help) return ;;
   esac
@@ -83,14 +87,14 @@ _term3270() {
     '>' | '>>' | '2>') _term3270_files; return ;;
   esac
   if [ "$COMP_CWORD" -eq 1 ]; then
-    _term3270_offer -W 'show check talk suite press convert draft bind records serve attach map help --help --version'
+    _term3270_offer -W 'show check talk suite press convert draft bind records serve attach script map help --help --version'
     return
   fi
   case $before in --*) if _term3270_values "$before"; then return; fi ;; esac
   for ((index = 2; index < COMP_CWORD; index++)); do
     case ${COMP_WORDS[index]} in
       = | '<' | '>') index=$((index + 1)) ;;
-      --format | --color | --from | --device | --records | --layout | --only | --map | --map-name | --port | --count | --listen | --expect | --timeout)
+      --format | --color | --from | --device | --records | --layout | --only | --map | --map-name | --port | --count | --listen | --expect | --timeout | --code-page | --layouts | --report | --report-format)
         # A value comes after =, or as the next word.
         if [ "$command${COMP_WORDS[index]}" != map--layout ] && [ "${COMP_WORDS[index + 1]}" != = ]; then index=$((index + 1)); fi
         ;;
