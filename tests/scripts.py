@@ -566,7 +566,9 @@ def pages(program: Program) -> None:
         for form in ("html,file,", "html,"):
             path = os.path.join(folder, "page.html")
             want(driver.ask(f"PrintText({form}{path})")[2] == "ok", f"PrintText({form}..) is at fault")
-            want(read_file(path).splitlines() == told_by(program, ["show", "--format", "html"], SIGNON), "another page than that of show")
+            page = read_file(path)
+            want(set(told_by(program, ["show", "--format", "html"], SIGNON)) <= set(page.splitlines()), "a page without what show draws")
+            want("USERID" in page, "a page without the rows as texts")
         data, _status, last = driver.ask(f"PrintText(html,file,{folder}/none/page.html)")
         want(last == "error" and len(data) == 1 and "No such file or directory" in data[0], f"a file in no folder: {data} {last}")
     want(driver.end() == (b"", 0), "more at the end, or another status")
