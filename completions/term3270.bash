@@ -92,7 +92,7 @@ _term3270() {
   for ((index = 2; index < COMP_CWORD; index++)); do
     case ${COMP_WORDS[index]} in
       = | '<' | '>') index=$((index + 1)) ;;
-      --format | --color | --from | --device | --records | --layout | --only | --map | --map-name | --port | --count | --listen | --expect | --timeout | --code-page | --layouts | --report | --report-format)
+      --format | --color | --from | --device | --records | --layout | --only | --map | --map-name | --port | --count | --listen | --expect | --timeout | --code-page)
         # A value comes after =, or as the next word.
         if [ "$command${COMP_WORDS[index]}" != map--layout ] && [ "${COMP_WORDS[index + 1]}" != = ]; then index=$((index + 1)); fi
         ;;
