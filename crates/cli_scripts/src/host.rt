@@ -36,7 +36,8 @@ impl Host {
 
     /// A host of this name, in which a control is `?`.
     pub(crate) fn new(alloc: Global, name: &[u8], port: u16) -> Result<Host, AllocError>
-        ensures { IfOk result (λ host. host ≡ record { name = printed_text name.now; port = port }) }
+        ensures { IfOk result (λ host.
+            host ≡ record { name = printed_text name.now; port = port }) }
     {
         let mut printed = Vec::new(alloc);
         push_printed(&mut printed, name)?;

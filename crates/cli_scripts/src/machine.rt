@@ -1,6 +1,6 @@
 //! A terminal that lines of a script work.
 
-ghost use Rattle.std.specs.Prelude.{◌≡◌, ◌++◌, [], ◌∷◌, true, false, is_some, IfOk, OnOk};
+ghost use Rattle.std.specs.Prelude.{◌≡◌, ◌++◌, [], ◌∷◌, true, false, is_some, IfOk, IfSome, OnOk};
 ghost use Rattle.cli_scripts.specs.Answers.{AreAnswers, handed_lines, nothing_told};
 ghost use Rattle.cli_scripts.specs.Desks.{DidAll, Keeps, handed_due, new_desk};
 ghost use Rattle.tn_session.specs.TerminalTalk.{OfWaiting};
@@ -90,7 +90,9 @@ impl Machine {
     }
 
     /// The host that is wanted: its name or number, and its port.
-    pub fn wanted_host(&self) -> Option<(&[u8], u16)> {
+    pub fn wanted_host(&self) -> Option<(&[u8], u16)>
+        ensures { IfSome result (λ host. self.now.is_busy ≡ true) }
+    {
         match &self.job {
             Some(
                 Job {
@@ -103,7 +105,9 @@ impl Machine {
     }
 
     /// The file that is wanted.
-    pub fn wanted_file(&self) -> Option<&[u8]> {
+    pub fn wanted_file(&self) -> Option<&[u8]>
+        ensures { IfSome result (λ path. self.now.is_busy ≡ true) }
+    {
         match &self.job {
             Some(
                 Job {

@@ -218,8 +218,10 @@ fn turn<R: GivesBytes, W: World>(
 fn send<W: World>(machine: &mut Machine, world: &mut W)
     ensures { (given : List ℕ) × (machine.new.desk.gone ≡ machine.old.desk.gone ++ given)
         × (W.sent world.new ≡ W.sent world.old ++ given)
-        × (machine.new.desk.heard ≡ machine.old.desk.heard) × (W.received world.new ≡ W.received world.old)
-        × (machine.new.telling ≡ machine.old.telling) × (machine.new.is_busy ≡ machine.old.is_busy) }
+        × (machine.new.desk.heard ≡ machine.old.desk.heard)
+        × (W.received world.new ≡ W.received world.old)
+        × (machine.new.telling ≡ machine.old.telling)
+        × (machine.new.is_busy ≡ machine.old.is_busy) }
 {
     if !machine.due().is_empty() {
         world.write(machine.due());
@@ -235,7 +237,8 @@ fn send<W: World>(machine: &mut Machine, world: &mut W)
 
 /// Writes lines and passes them on: whether every byte was taken.
 fn write_lines<O: TakesBytes>(output: &mut O, lines: &[u8]) -> bool
-    ensures all { OnTrue result (Appends (O.contents output.old) (O.contents output.new) lines.now) }
+    ensures all { OnTrue result (Appends (O.contents output.old) (O.contents output.new)
+        lines.now) }
     ensures front { AppendsFront (O.contents output.old) (O.contents output.new) lines.now }
 {
     let mut rest = lines;
