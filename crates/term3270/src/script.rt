@@ -1,6 +1,6 @@
 //! The command `script`: over standard streams, a line over TCP, and files.
 
-ghost use Rattle.std.specs.Prelude.{◌≡◌, ◌++◌};
+ghost use Rattle.std.specs.Prelude.{◌≡◌, ◌++◌, false};
 ghost use Rattle.cli_scripts.specs.Worlds.{Gives};
 
 use crate::manners::{bare_host, tell_unknown_device};
@@ -339,7 +339,9 @@ fn connect_first(
     world: &mut Surroundings<'_>,
     machine: &mut Machine,
     address: Address<'_>,
-) -> Result<(), AllocError> {
+) -> Result<(), AllocError>
+    ensures { machine.new.is_busy ≡ machine.old.is_busy }
+{
     let port = address.port.unwrap_or(TELNET);
     match world.call(address.host, port) {
         Ok(()) => machine.attach(rt.alloc(), address.host, port),
@@ -367,7 +369,9 @@ fn refuse_address(rt: &HostRuntime, text: &str) -> Status {
 }
 
 /// Works a terminal by the lines of standard input.
-fn run_on(rt: &HostRuntime, world: &mut Surroundings<'_>, machine: &mut Machine) -> Status {
+fn run_on(rt: &HostRuntime, world: &mut Surroundings<'_>, machine: &mut Machine) -> Status
+    requires { machine.old.is_busy ≡ false }
+{
     let mut input = Watched::new(rt.stdin());
     let mut output = Watched::new(rt.stdout());
     run_script(rt.alloc(), machine, &mut input, &mut output, world)
