@@ -566,15 +566,16 @@ def connected(program: Program, text: str, more: list[str] | None = None) -> tup
 
 
 def pages(program: Program) -> None:
-    """PrintText writes the page of `show`, under either of its forms, and says why a file can't be written."""
+    """PrintText writes a page of the screen's rows, under either of its forms, and says why a file can't be written."""
     _host, driver = connected(program, SIGNON)
     with tempfile.TemporaryDirectory() as folder:
         for form in ("html,file,", "html,"):
             path = os.path.join(folder, "page.html")
             want(driver.ask(f"PrintText({form}{path})")[2] == "ok", f"PrintText({form}..) is at fault")
             page = read_file(path)
-            want(set(told_by(program, ["show", "--format", "html"], SIGNON)) <= set(page.splitlines()), "a page without what show draws")
-            want("USERID" in page, "a page without the rows as texts")
+            rows, _status, _last = driver.ask("Ascii()")
+            want(len(rows) == 24 and set(rows) <= set(page.splitlines()), "a page without the rows that Ascii says")
+            want("USERID" in page, "a page without a label")
         data, _status, last = driver.ask(f"PrintText(html,file,{folder}/none/page.html)")
         want(last == "error" and len(data) == 1 and "No such file or directory" in data[0], f"a file in no folder: {data} {last}")
     want(driver.end() == (b"", 0), "more at the end, or another status")
