@@ -7,6 +7,8 @@ import pathlib
 import sys
 import xml.etree.ElementTree as ElementTree
 
+import golden
+
 CASES = pathlib.Path(__file__).parent / "cases"
 # What each element may hold, and the attributes that it must and may have.
 HOLDS = {"testsuites": {"testsuite"}, "testsuite": {"testcase"}, "testcase": {"failure", "error", "system-out"}, "failure": set(), "error": set(), "system-out": set()}
@@ -51,19 +53,12 @@ def faults_of_report(text):
         yield from faults_of_suite(suite)
 
 
-def main():
-    passed = failed = 0
-    for path in sorted(CASES.glob("suite/junit*/stdout")):
-        try:
-            faults = list(faults_of_report(path.read_bytes()))
-        except ElementTree.ParseError as error:
-            faults = [str(error)]
-        passed, failed = passed + (not faults), failed + bool(faults)
-        for fault in faults:
-            print(f"{path.parent.name}: {fault}")
-    print(f"{passed} passed, {failed} failed")
-    return failed != 0 or passed == 0
+def faults_of_file(path):
+    try:
+        return list(faults_of_report(path.read_bytes()))
+    except ElementTree.ParseError as error:
+        return [str(error)]
 
 
 if __name__ == "__main__":
-    sys.exit(main())
+    sys.exit(golden.tell((path.parent.name, faults_of_file(path)) for path in sorted(CASES.glob("suite/junit*/stdout"))))

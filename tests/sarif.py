@@ -7,6 +7,8 @@ import pathlib
 import subprocess
 import sys
 
+import golden
+
 CASES = pathlib.Path(__file__).parent / "cases"
 RULES = [*(f"F{n}" for n in range(1, 15)), "refused"]
 MAP_RULES = [*RULES, "M1", "M2", "map-refused"]
@@ -72,19 +74,15 @@ def faults_of_log(log, rules, version):
         yield from faults_of_result(result, driver["rules"])
 
 
+def faults_of_file(path, rules, version):
+    text = path.read_text()
+    return [*faults_of_log(json.loads(text), rules, version), *(["not one line"] if text.count("\n") != 1 else [])]
+
+
 def main(program):
     version = subprocess.run([program, "--version"], capture_output=True, text=True).stdout.split()[-1] if program else None
-    passed = failed = 0
-    for path, rules in ((path, rules) for glob, rules in LOGS.items() for path in sorted(CASES.glob(glob))):
-        text = path.read_text()
-        faults = list(faults_of_log(json.loads(text), rules, version))
-        if text.count("\n") != 1:
-            faults.append("not one line")
-        passed, failed = passed + (not faults), failed + bool(faults)
-        for fault in faults:
-            print(f"{path.parent.name}: {fault}")
-    print(f"{passed} passed, {failed} failed")
-    return failed != 0 or passed == 0
+    logs = ((path, rules) for glob, rules in LOGS.items() for path in sorted(CASES.glob(glob)))
+    return golden.tell((path.parent.name, faults_of_file(path, rules, version)) for path, rules in logs)
 
 
 if __name__ == "__main__":
