@@ -29,8 +29,8 @@ for page in crates/*/README.md; do
 done
 if command -v rt > /dev/null; then
   rt version > "$work/version"
-  sed -n 's/.*(version `\(.*\)`).*/\1/p' docs/PROVED.md > "$work/told_version"
-  same "docs/PROVED.md has another version of the toolchain than rt version prints" "$work/version" "$work/told_version"
+  grep -oE '`rattle-kit-[^`]*`' docs/PROVED.md | tr -d '`' | grep -xF "$(cat "$work/version")" > "$work/told_version"
+  same "docs/PROVED.md lacks the version of the toolchain that rt version prints" "$work/version" "$work/told_version"
 fi
 if command -v python3 > /dev/null; then
   PYTHONDONTWRITEBYTECODE=1 python3 tests/documents.py "$program" > "$work/told"
