@@ -8,6 +8,7 @@ mod fields;
 mod follower;
 mod law;
 mod line;
+mod live;
 mod piece;
 mod reading;
 mod record;
@@ -18,6 +19,7 @@ mod told;
 mod turn;
 
 pub use asked::{Asked, Source};
+pub use live::Live;
 pub use law::{pieces_law, sizes_law, text_law};
 pub use run::run_records;
 pub use told::{Told, records_text};

@@ -39,7 +39,7 @@ fn push_run_fault(out: &mut String, number: u64, fault: RunFault) -> Result<Next
 }
 
 /// Takes a piece of what a side sent.
-fn take_piece_line(
+pub(crate) fn take_piece_line(
     asked: Asked,
     follower: &mut Follower,
     number: u64,

@@ -1,0 +1,9 @@
+//! The command `tap`: between a terminal and a host, whose bytes it hands on as they came and whose session it tells as it goes.
+#![tactic(auto)]
+
+mod listener;
+mod tap;
+mod text;
+
+pub use listener::Listener;
+pub use tap::Tap;
