@@ -32,7 +32,7 @@ _term3270_values() { # OPTION
     show--layout) _term3270_files '*.toml' ;;
     check--records) _term3270_files '*.hex' ;;
     show--map | check--map | draft--map) _term3270_files '*.bms' ;;
-    serve--listen) _term3270_offer -A hostname ;;
+    serve--listen | tap--listen) _term3270_offer -A hostname ;;
     map--map | *--map-name | *--only | *--port | *--count | *--expect | *--timeout) ;;
     *) return 1 ;;
   esac
@@ -45,8 +45,8 @@ _term3270_place() { # N, or <
     suite0) _term3270_files '*.toml' ;;
     map0) _term3270_files '*.bms' ;;
     press0 | attach1) _term3270_files ;;
-    attach0 | script0) _term3270_offer -A hostname ;;
-    help0) _term3270_offer -W 'show check talk suite press convert draft bind records serve attach script map' ;;
+    attach0 | script0 | tap0) _term3270_offer -A hostname ;;
+    help0) _term3270_offer -W 'show check talk suite press convert draft bind records serve attach script tap map' ;;
     *) return 1 ;;
   esac
 }
@@ -66,6 +66,7 @@ _term3270_options() {
     serve) options='--port --count --listen' ;;
     attach) options='--strokes --port --device --tolerant --expect --timeout' ;;
     script) options='--device --code-page' ;;
+    tap) options='--port --listen-port --listen --count' ;;
     map) options='--map --layout --freekb --frset' ;;
     help) return ;;
   esac
@@ -85,7 +86,7 @@ _term3270() {
     '>' | '>>' | '2>') _term3270_files; return ;;
   esac
   if [ "$COMP_CWORD" -eq 1 ]; then
-    _term3270_offer -W 'show check talk suite press convert draft bind records serve attach script map help --help --version'
+    _term3270_offer -W 'show check talk suite press convert draft bind records serve attach script tap map help --help --version'
     return
   fi
   case $before in --*) if _term3270_values "$before"; then return; fi ;; esac

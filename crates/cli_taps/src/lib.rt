@@ -4,6 +4,8 @@
 mod listener;
 mod tap;
 mod text;
+mod turn;
 
 pub use listener::Listener;
 pub use tap::Tap;
+pub use turn::Turn;

@@ -127,13 +127,7 @@ impl<T: Line, H: Line> Tap<T, H> {
     }
 
     /// Reads a side once, as far as there is room for it, and adds what that tells.
-    pub fn read(
-        &mut self,
-        alloc: Global,
-        side: Side,
-        scratch: &mut [u8],
-        out: &mut Vec<u8>,
-    ) -> Gave
+    pub fn read(&mut self, alloc: Global, side: Side, scratch: &mut [u8], out: &mut Vec<u8>) -> Gave
         ensures reads { Reads (way_from side self.old.relayed) scratch.new result (way_from side self.new.relayed) }
         ensures other { way_to side self.new.relayed ≡ way_to side self.old.relayed }
         ensures tells { (text : List ℕ) × (out.new.items ≡ out.old.items ++ text)
@@ -142,7 +136,14 @@ impl<T: Line, H: Line> Tap<T, H> {
         let gave = self.relay.read(side, scratch);
         if let Gave::Bytes(count) = gave {
             let piece = &scratch[..count];
-            let text = tell(alloc, &mut self.listener, &mut self.is_deaf, side, piece, out);
+            let text = tell(
+                alloc,
+                &mut self.listener,
+                &mut self.is_deaf,
+                side,
+                piece,
+                out,
+            );
             add_bytes(&mut self.told, &text);
         }
         gave

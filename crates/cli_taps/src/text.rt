@@ -25,7 +25,8 @@ fn push_after(out: &mut Vec<u8>, words: &[u8], line: &[u8]) -> Result<(), AllocE
 {
     out.extend_from_slice(words)?;
     out.extend_from_slice(line)?;
-    out.push(b'\n')
+    out.push(b'\n')?;
+    Ok(())
 }
 
 fn push_host_line(out: &mut Vec<u8>, line: &[u8]) -> Result<(), AllocError>

@@ -19,8 +19,8 @@ mod told;
 mod turn;
 
 pub use asked::{Asked, Source};
-pub use live::Live;
 pub use law::{pieces_law, sizes_law, text_law};
+pub use live::Live;
 pub use run::run_records;
 pub use told::{Told, records_text};
 pub use turn::Turns;

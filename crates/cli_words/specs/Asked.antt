@@ -19,7 +19,7 @@ use Rattle.cli_words.specs.declared.asked.KeyLines.TheVariants as key_lines
 use Rattle.cli_words.specs.declared.asked.ReportForm.{ReportForm}
 use Rattle.cli_words.specs.declared.asked.ReportForm.TheVariants.{Json, Sarif}
 use Rattle.cli_words.specs.declared.asked.Asked.{Asked}
-use Rattle.cli_words.specs.declared.asked.Asked.TheVariants.{Show, Draw, Annotate, Undrawn, Check, Report, Explain, Talk, ReportTalk, LogTalk, Press, Strike, Convert, ConvertCharacters, ConvertBack, ConvertBackCharacters, Draft, DraftTurns, Bind, BindTurns, Records, OneSided, Buffers, OneScreen, Serve, Attach, AttachTolerant, Script, Map, CheckMap, RenderMap, Suite, NoLayout}
+use Rattle.cli_words.specs.declared.asked.Asked.TheVariants.{Show, Draw, Annotate, Undrawn, Check, Report, Explain, Talk, ReportTalk, LogTalk, Press, Strike, Convert, ConvertCharacters, ConvertBack, ConvertBackCharacters, Draft, DraftTurns, Bind, BindTurns, Records, OneSided, Buffers, OneScreen, Serve, Attach, AttachTolerant, Script, Tap, Map, CheckMap, RenderMap, Suite, NoLayout}
 use Rattle.cli_findings.specs.declared.found.Pen.{Pen}
 use Rattle.cli_findings.specs.declared.found.Pen.TheVariants as pens
 use Rattle.cli_pictures.specs.declared.annotated.Annotated.{Annotated}
@@ -36,8 +36,9 @@ use Rattle.cli_traces.specs.declared.asked.Source.TheVariants.{Trace, Stream}
 use Rattle.cli_traces.specs.declared.turn.Turns.{Turns}
 use Rattle.cli_traces.specs.declared.turn.Turns.TheVariants.{Unmarked, Marked, UpTo}
 use Rattle.cli_traces.specs.Following.{is_one_sided}
-use Rattle.cli_words.specs.Values.{IsText, IsPath}
+use Rattle.cli_words.specs.Values.{IsText, IsPath, IsNumber}
 use Rattle.cli_words.specs.Script.{IsScript}
+use Rattle.cli_words.specs.Tap.{IsTap}
 use Rattle.tn_traces.specs.declared.line.Side.{Side}
 use Rattle.tn_traces.specs.declared.line.Side.TheVariants.{Host, Terminal}
 
@@ -46,10 +47,6 @@ abbrev pub IsOption : Text → List Row → Bool → Type 0
 IsOption option rows given = (one_of option rows ≡ Some (codes "true") → given ≡ true)
     × (one_of option rows ≡ Some (codes "false") → given ≡ false)
     × (one_of option rows ≡ None → given ≡ false)
-
--- the number below 65,536 that was given for a word, in decimal
-abbrev pub IsNumber : Text → List Row → ℕ → Type 0
-IsNumber word rows given = (number : ℕ) → number < 65536 → one_of word rows ≡ Some (decimal number) → given ≡ number
 
 abbrev pub AreDemos : List Row → Demos → Type 0
 AreDemos rows Printed = IsOption (codes "demo") rows true
@@ -292,6 +289,10 @@ abbrev pub AsksScript : List Row → Asked → Type 0
 AsksScript rows (Script asked) = IsScript rows asked
 AsksScript rows _ = ⊥
 
+abbrev pub AsksTap : List Row → Asked → Type 0
+AsksTap rows (Tap asked) = IsTap rows asked
+AsksTap rows _ = ⊥
+
 -- the command that is named, with its paths, places and options; the default command is show
 pub record AsksFor (name : Text) (rows : List Row) (asked : Asked) : Type 0 where
   pub show : name ≡ codes "show" → IsShow rows asked
@@ -305,6 +306,7 @@ pub record AsksFor (name : Text) (rows : List Row) (asked : Asked) : Type 0 wher
   pub serve : name ≡ codes "serve" → IsServe rows asked
   pub attach : name ≡ codes "attach" → IsAttach rows asked
   pub script : name ≡ codes "script" → AsksScript rows asked
+  pub tap : name ≡ codes "tap" → AsksTap rows asked
   pub map : name ≡ codes "map" → IsMap rows asked
   pub suite : name ≡ codes "suite" → IsSuite rows asked
 

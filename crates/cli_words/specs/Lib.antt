@@ -1,3 +1,4 @@
 pub mod Asked
 pub mod Script
+pub mod Tap
 pub mod Values

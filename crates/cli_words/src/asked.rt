@@ -2,10 +2,11 @@
 
 ghost use Rattle.std.specs.Prelude.{◌≡◌, true, false, is_some, option_map};
 ghost use Rattle.clap.specs.Words.{first_of, found_of, rows_of, subcommand_rows_of};
-ghost use Rattle.cli_words.specs.Asked.{AreDemos, AreKeyLines, AsksFor, IsAttach, IsCheck, IsDrawn, IsForm, IsConvert, IsNumber, IsOption, IsPen, IsPress, IsShow, IsBind, IsDraft, IsDrafted, IsDraftedMap, IsRendering, IsShownMap, IsReportForm, IsSide, IsSource, IsWhen, IsWithLayout, IsMap, IsMapForm, IsMapCheck, IsLayoutCheck, IsTextCheck, IsTextTalk, IsTalk, IsSuite, IsSuiteForm, AreControls, AreTraced, AreTurns, AreBuffers, AreNoTracedWords, AreSizes, AreTracedWords, IsRecords, IsTraced};
-ghost use Rattle.cli_words.specs.Values.{IsPath, IsText};
+ghost use Rattle.cli_words.specs.Asked.{AreDemos, AreKeyLines, AsksFor, IsAttach, IsCheck, IsDrawn, IsForm, IsConvert, IsOption, IsPen, IsPress, IsShow, IsBind, IsDraft, IsDrafted, IsDraftedMap, IsRendering, IsShownMap, IsReportForm, IsSide, IsSource, IsWhen, IsWithLayout, IsMap, IsMapForm, IsMapCheck, IsLayoutCheck, IsTextCheck, IsTextTalk, IsTalk, IsSuite, IsSuiteForm, AreControls, AreTraced, AreTurns, AreBuffers, AreNoTracedWords, AreSizes, AreTracedWords, IsRecords, IsTraced};
+ghost use Rattle.cli_words.specs.Values.{IsNumber, IsPath, IsText};
 
 use crate::script::{ScriptAsked, script_of};
+use crate::tap::{TapAsked, tap_of};
 use bms_map::Control;
 use clap::ArgMatches;
 use cli_binds::Form;
@@ -144,6 +145,7 @@ pub enum Asked<'a> {
         device: &'a str,
     },
     Script(ScriptAsked<'a>),
+    Tap(TapAsked<'a>),
     Map {
         source: &'a str,
         name: Option<&'a str>,
@@ -239,6 +241,7 @@ fn command_of<'a>(name: &str, words: &ArgMatches<'a>) -> Asked<'a>
         },
         "attach" => attach_of(words),
         "script" => Asked::Script(script_of(words)),
+        "tap" => Asked::Tap(tap_of(words)),
         "suite" => suite_of(words),
         "map" => map_of(words),
         _ => Asked::Show { color: When::Auto },
@@ -736,7 +739,7 @@ fn is_named(words: &ArgMatches<'_>, word: &str) -> bool
 }
 
 /// The number that was given for a word, or 0; `clap` refuses numbers out of its range, and words without one that is required.
-fn number_in(words: &ArgMatches<'_>, word: &str) -> u16
+pub(crate) fn number_in(words: &ArgMatches<'_>, word: &str) -> u16
     ensures { IsNumber word.now (rows_of (found_of words.now)) result }
 {
     match words.get_one::<u16>(word) {

@@ -3,6 +3,8 @@
 
 mod asked;
 mod script;
+mod tap;
 
 pub use crate::asked::{Asked, KeyLines, ReportForm, When};
 pub use crate::script::ScriptAsked;
+pub use crate::tap::TapAsked;

@@ -2,8 +2,8 @@
 
 use crate::help::{
     ATTACH, BIND, CHECK, CONVERT, DRAFT, EXPLAIN_HELP, FREEKB_HELP, FRSET_HELP, KEYS_HELP,
-    LAYOUT_HELP, MAP, PRESS, RECORDS, SCRIPT, SERVE, SHOW, STATUSES, SUITE, TALK, WITH_FREEKB_HELP,
-    WITH_FRSET_HELP,
+    LAYOUT_HELP, MAP, PRESS, RECORDS, SCRIPT, SERVE, SHOW, STATUSES, SUITE, TALK, TAP,
+    WITH_FREEKB_HELP, WITH_FRSET_HELP,
 };
 use clap::{Arg, ArgAction, ArgMatches, Command, Error};
 use std::alloc::{AllocError, Global};
@@ -48,6 +48,8 @@ enum Takes<'a> {
     Text(&'a str, &'a str),
     /// A value of this name: a number from 1 to this one, which must be given.
     Number(&'a str, i64),
+    /// A value of this name: a number from 1 to 65,535, which need not be given.
+    Count(&'a str),
     /// An operand, which need not be given.
     Optional,
     /// A value of this name, which need not be given.
@@ -492,6 +494,38 @@ const SESSIONS: &[Described<'_>] = &[
             },
         ],
     },
+    Described {
+        name: "tap",
+        about: "Stand between terminals and a host, hand every byte on, and print the session as records and turns",
+        after_help: TAP,
+        arguments: &[
+            Argument {
+                name: "HOST",
+                takes: Takes::Operand,
+                help: "The name or address of the host that is called for each terminal",
+            },
+            Argument {
+                name: "port",
+                takes: Takes::Number("P", 65535),
+                help: "The host's port: 1 to 65535",
+            },
+            Argument {
+                name: "listen-port",
+                takes: Takes::Number("Q", 65535),
+                help: "The port that is listened at for terminals: 1 to 65535",
+            },
+            Argument {
+                name: "listen",
+                takes: Takes::Text("ADDRESS", "127.0.0.1"),
+                help: "The address that is listened at",
+            },
+            Argument {
+                name: "count",
+                takes: Takes::Count("N"),
+                help: "End after so many terminals: 1 to 65535; without it, go on until it is ended",
+            },
+        ],
+    },
 ];
 
 /// An operand, which must be given.
@@ -519,6 +553,11 @@ fn number<'a>(alloc: Global, name: &'a str, value: &'a str, most: i64) -> Arg<'a
     option(alloc, name, value)
         .required(true)
         .value_parser(clap::value_parser!(u16).range(1..=most))
+}
+
+/// An option with a number from 1 to 65,535.
+fn count<'a>(alloc: Global, name: &'a str, value: &'a str) -> Arg<'a> {
+    option(alloc, name, value).value_parser(clap::value_parser!(u16).range(1..=65535))
 }
 
 /// An option with a number from 1 to 65,535, which goes with this other one.
@@ -568,6 +607,7 @@ fn bare<'a>(alloc: Global, name: &'a str, takes: Takes<'a>) -> Result<Arg<'a>, A
         Takes::Number(value, most) => Ok(number(alloc, name, value, most)),
         Takes::NumberWith(value, other) => number_with(alloc, name, value, other),
         Takes::CountWithout(value, other) => count_without(alloc, name, value, other),
+        Takes::Count(value) => Ok(count(alloc, name, value)),
         Takes::Optional => Ok(Arg::new(alloc, name)),
         Takes::Value(value) => Ok(option(alloc, name, value)),
         Takes::FileAlone(others) => alone(option(alloc, name, "FILE"), others),

@@ -261,3 +261,14 @@ Example:
 
 Statuses:
   0 done, 2 a fault of the command line, 3 a read or a write failed, 4 out of memory";
+
+pub(crate) const TAP: &str = "Output:
+  '# terminal K connected' and '# terminal K ended'; between them what 'records --turns' prints of the host's
+  side, with K in place of a line of a trace, and each record of the terminal as '# answer HEX'. Other commands
+  read it: talk, show, draft, convert.
+
+Example:
+  $ term3270 tap mainframe --port 23 --listen-port 3271 --count 1 > session.hex
+
+Statuses:
+  0 done, 2 a fault of the command line, 3 a port or a host can't be had, or a write failed, 4 out of memory";

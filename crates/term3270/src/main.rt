@@ -15,6 +15,7 @@ mod script;
 mod sessions;
 mod stream;
 mod suite;
+mod tap;
 mod tcp;
 mod tolerant;
 mod walk;
@@ -30,7 +31,7 @@ use clap::ArgMatches;
 use clap::error::ErrorKind;
 use cli_commands::{Status, failure};
 use cli_maps::Asked as MapsAsked;
-use cli_words::Asked;
+use cli_words::{Asked, TapAsked};
 use std::process::ExitCode;
 use std::{env, io};
 
@@ -125,6 +126,19 @@ fn convert(rt: &HostRuntime, asked: Asked<'_>, matches: &ArgMatches<'_>) -> Opti
     }
 }
 
+/// Taps a host at a place.
+fn tapped(rt: &HostRuntime, asked: TapAsked<'_>) -> Status {
+    let listen = Place {
+        host: bare_host(asked.listen),
+        port: asked.listen_port,
+    };
+    let host = Place {
+        host: bare_host(asked.host),
+        port: asked.port,
+    };
+    tap::tap(rt, listen, host, asked.count)
+}
+
 /// Runs a command over the net; none where another command is asked for.
 fn connect(rt: &HostRuntime, asked: Asked<'_>) -> Option<Status> {
     match asked {
@@ -164,6 +178,7 @@ fn connect(rt: &HostRuntime, asked: Asked<'_>) -> Option<Status> {
             Some(commands::attach(rt, Place { host, port }, keys, lines, device))
         }
         Asked::Script(asked) => Some(script::script(rt, asked)),
+        Asked::Tap(asked) => Some(tapped(rt, asked)),
         _ => None,
     }
 }

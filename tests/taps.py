@@ -1,0 +1,316 @@
+#!/usr/bin/env python3
+"""Puts `tap` between terminals and hosts over loopback: taps.py PROGRAM.
+
+What each side gets is compared with what the other sent, byte for byte, however it was cut, with both at once, with ends handed on, and with
+many terminals side by side. What is printed is compared with what `records` prints of a trace of the same pieces. The last line is
+'N passed, M failed'.
+"""
+import os
+import random
+import re
+import socket
+import struct
+import subprocess
+import sys
+import threading
+import time
+
+PROGRAM = os.path.abspath(sys.argv[1])
+LONGEST = 20
+IAC, EOR = b"\xff", b"\xff\xef"
+passed = failed = 0
+
+
+def tell(name, wanted, found):
+    global passed, failed
+    if wanted == found:
+        passed += 1
+    else:
+        failed += 1
+        print(f"{name}: wanted {str(wanted)[:300]}, found {str(found)[:300]}")
+
+
+def free_port():
+    with socket.create_server(("127.0.0.1", 0)) as it:
+        return it.getsockname()[1]
+
+
+class Tap:
+    """The program between a port of ours and a host of ours."""
+
+    def __init__(self, count, host_port=None):
+        self.host = socket.create_server(("127.0.0.1", 0), backlog=200) if host_port is None else None
+        self.host_port = host_port or self.host.getsockname()[1]
+        self.port = free_port()
+        words = [PROGRAM, "tap", "127.0.0.1", "--port", str(self.host_port), "--listen-port", str(self.port), "--count", str(count)]
+        self.program = subprocess.Popen(words, stdout=subprocess.PIPE, stderr=subprocess.PIPE)
+
+    def pair(self):
+        """A terminal, and the host's end of its line."""
+        return self.terminal(), self.accepted()
+
+    def terminal(self):
+        end = time.time() + LONGEST
+        while True:
+            try:
+                it = socket.create_connection(("127.0.0.1", self.port), LONGEST)
+                it.settimeout(LONGEST)
+                return it
+            except ConnectionRefusedError:
+                if time.time() > end:
+                    raise
+                time.sleep(0.02)
+
+    def accepted(self):
+        self.host.settimeout(LONGEST)
+        it, _ = self.host.accept()
+        it.settimeout(LONGEST)
+        return it
+
+    def end(self):
+        """What was printed, said on standard error, and the status."""
+        try:
+            printed, said = self.program.communicate(timeout=LONGEST)
+        except subprocess.TimeoutExpired:
+            self.program.kill()
+            printed, said = self.program.communicate()
+            return printed.decode(), said.decode(), "no end"
+        finally:
+            if self.host:
+                self.host.close()
+        return printed.decode(), said.decode(), self.program.returncode
+
+
+def read_all(line):
+    found = bytearray()
+    try:
+        while part := line.recv(65536):
+            found += part
+    except OSError as error:
+        return bytes(found) + str(error).encode()
+    return bytes(found)
+
+
+def read_some(line, count):
+    found = b""
+    while len(found) < count and (part := line.recv(count - len(found))):
+        found += part
+    return found
+
+
+def send_cut(line, data, cut):
+    """Sends data in pieces of these lengths, in turn, and then the end."""
+    at, turn = 0, 0
+    while at < len(data):
+        line.sendall(data[at : at + cut[turn % len(cut)]])
+        at += cut[turn % len(cut)]
+        turn += 1
+    line.shutdown(socket.SHUT_WR)
+
+
+def crossed(tap, one, other, cut):
+    """What both ends of a pair get where both send at once."""
+    terminal, host = tap.pair()
+    senders = [threading.Thread(target=send_cut, args=it) for it in ((terminal, one, cut), (host, other, cut))]
+    got = {}
+    readers = [threading.Thread(target=lambda n, it: got.__setitem__(n, read_all(it)), args=it) for it in (("host", host), ("terminal", terminal))]
+    for it in senders + readers:
+        it.start()
+    for it in senders + readers:
+        it.join(LONGEST)
+    terminal.close()
+    host.close()
+    return got.get("host"), got.get("terminal")
+
+
+def bytes_pass():
+    rows = [("a byte at a time", 3000, [1]), ("pieces of all lengths", 200_000, [1, 2, 3, 4095, 4096, 4097, 16_383, 16_385]), ("a megabyte at once", 1_000_000, [1_000_000])]
+    for name, size, cut in rows:
+        tap = Tap(1)
+        one, other = (random.Random(f"{name} {it}").randbytes(size) for it in "ab")
+        host, terminal = crossed(tap, one, other, cut)
+        tell(f"{name}, to the host", (len(one), True), (len(host or b""), host == one))
+        tell(f"{name}, to the terminal", (len(other), True), (len(terminal or b""), terminal == other))
+        tell(f"{name}, the status", 0, tap.end()[2])
+
+
+def many_pass():
+    tap, found = Tap(100), []
+    host_ends = []
+
+    def serve():
+        for _ in range(100):
+            host_ends.append(tap.accepted())
+        for it in host_ends:
+            threading.Thread(target=echo, args=(it,)).start()
+
+    def echo(line):
+        data = read_all(line)
+        line.sendall(data[::-1])
+        line.close()
+
+    def work(number):
+        line = tap.terminal()
+        data = random.Random(number).randbytes(20_000)
+        line.sendall(data)
+        line.shutdown(socket.SHUT_WR)
+        found.append(read_all(line) == data[::-1])
+        line.close()
+
+    workers = [threading.Thread(target=serve)] + [threading.Thread(target=work, args=(it,)) for it in range(100)]
+    for it in workers:
+        it.start()
+    for it in workers:
+        it.join(2 * LONGEST)
+    tell("a hundred terminals at once", 100, found.count(True))
+    printed, _, status = tap.end()
+    tell("a hundred terminals at once, the status", 0, status)
+    tell("a hundred terminals at once, each is told", (100, 100), (len(re.findall(r"^# terminal \d+ connected$", printed, re.M)), len(re.findall(r"^# terminal \d+ ended$", printed, re.M))))
+
+
+# A session: pieces, each with the side that sends it. The host asks for TN3270E, and sends two screens; the terminal answers by Enter and PF3.
+SESSION = [
+    ("<", bytes.fromhex("FFFD28")),
+    (">", bytes.fromhex("FFFB28")),
+    ("<", bytes.fromhex("FFFA280802FFF0")),
+    (">", bytes.fromhex("FFFA280207") + b"IBM-3278-2-E" + bytes.fromhex("FFF0")),
+    ("<", bytes.fromhex("FFFA280204") + b"IBM-3278-2-E" + bytes.fromhex("FFF0")),
+    (">", bytes.fromhex("FFFA28030702FFF0")),
+    ("<", bytes.fromhex("FFFA28030402FFF0")),
+    ("<", bytes.fromhex("0000000000F5C21D60C11D4013") + EOR),
+    (">", bytes.fromhex("00000000007D40C31140C3C1FFFFC2") + EOR),
+    ("<", bytes.fromhex("0000000001F3000501FF") + b"\xff" + bytes.fromhex("02") + EOR),
+    (">", bytes.fromhex("0000000001880000") + EOR),
+    ("<", bytes.fromhex("0000000002F1C3") + bytes.fromhex("1140401D60C1") + EOR),
+    (">", bytes.fromhex("0000000002F34040") + EOR),
+]
+
+
+def is_answer(line):
+    return not line.startswith("#")
+
+
+def records(words, trace):
+    ran = subprocess.run([PROGRAM, "records", *words], input=trace.encode(), capture_output=True, timeout=LONGEST)
+    return re.sub(r" at line \d+", " at line 1", ran.stdout.decode()).splitlines()
+
+
+def session_told(name, pieces):
+    """A session of these pieces, each sent once the one before it has arrived; and what is told of it."""
+    tap = Tap(1)
+    terminal, host = tap.pair()
+    good = True
+    for side, data in pieces:
+        one, other = (host, terminal) if side == "<" else (terminal, host)
+        one.sendall(data)
+        good = good and read_some(other, len(data)) == data
+    for it in (terminal, host):
+        it.shutdown(socket.SHUT_WR)
+    good = good and (read_all(terminal), read_all(host)) == (b"", b"")
+    tell(f"{name}, bytes", True, good)
+    printed, said, status = tap.end()
+    lines = printed.splitlines()
+    trace = "".join(f"{side} 0x0   {data.hex()}\n" for side, data in pieces)
+    inner = lines[1:-1]
+    tell(f"{name}, first and last", ("# terminal 1 connected", "# terminal 1 ended", 0, ""), (lines[0], lines[-1], status, said))
+    tell(f"{name}, the host's side", records(["--turns"], trace), [it for it in inner if not it.startswith("# answer ")])
+    answers = [it for it in records(["--answers", "--all"], trace) if is_answer(it)]
+    tell(f"{name}, the answers", [f"# answer {it}" for it in answers], [it for it in inner if it.startswith("# answer ")])
+    return inner
+
+
+def sessions_are_told():
+    inner = session_told("a session", SESSION)
+    kinds = [it if it == "turn" or it.startswith("# answer") else "record" for it in inner if it == "turn" or it.startswith("# answer") or is_answer(it)]
+    wanted = ["record", "# answer 7D40C31140C3C1FFC2", "turn", "# answer 880000", "record", "# answer F34040"]
+    tell("a turn stands after the answer", [it for it in wanted if it != "# answer 880000"], [it for it in kinds if it != "# answer 880000"])
+    session_told("a session, a byte at a time", [(side, bytes([byte])) for side, data in SESSION for byte in data])
+
+
+def faults_are_told():
+    tap = Tap(1)
+    terminal, host = tap.pair()
+    garbage = bytes.fromhex("FFFA18FFF1") + random.Random(7).randbytes(5000)
+    host.sendall(garbage)
+    tell("garbage is handed on", garbage, read_some(terminal, len(garbage)))
+    terminal.sendall(b"\xff\xfa\x18\xff\xf1")
+    tell("garbage is handed on to the host", b"\xff\xfa\x18\xff\xf1", read_some(host, 5))
+    terminal.close()
+    host.close()
+    printed, _, status = tap.end()
+    tell("a fault is told once, as a comment", (["# terminal 1 connected", "# line 1 fault W3 BadSub", "# terminal 1 ended"], 0), (printed.splitlines(), status))
+
+
+def ends_are_handed_on():
+    tap = Tap(3)
+    terminal, host = tap.pair()
+    terminal.shutdown(socket.SHUT_WR)
+    tell("the terminal's end reaches the host", b"", host.recv(1))
+    host.sendall(b"late")
+    tell("the host's bytes come after it", b"late", read_some(terminal, 4))
+    host.close()
+    tell("the host's end reaches the terminal", b"", terminal.recv(1))
+    terminal.close()
+    terminal, host = tap.pair()
+    terminal.setsockopt(socket.SOL_SOCKET, socket.SO_LINGER, struct.pack("ii", 1, 0))
+    terminal.close()
+    tell("a terminal that resets ends its host", b"", read_all(host)[:0])
+    host.close()
+    terminal, host = tap.pair()
+    host.sendall(b"next")
+    tell("the next terminal is served", b"next", read_some(terminal, 4))
+    terminal.close()
+    host.close()
+    tell("ends, the status", 0, tap.end()[2])
+
+
+def a_deaf_side_stops_the_other():
+    tap = Tap(1)
+    terminal, host = tap.pair()
+    terminal.settimeout(1)
+    sent = 0
+    try:
+        while sent < 64_000_000:
+            sent += terminal.send(b"z" * 65536)
+    except TimeoutError:
+        pass
+    tell("a host that reads nothing stops the terminal", True, sent < 64_000_000)
+    terminal.shutdown(socket.SHUT_WR)
+    tell("and gets all of it", sent, len(read_all(host)))
+    host.close()
+    terminal.close()
+    tell("deaf, the status", 0, tap.end()[2])
+
+
+def a_host_that_refuses():
+    tap = Tap(1, free_port())
+    line = tap.terminal()
+    tell("a host that refuses: the terminal sees an end", b"", line.recv(1))
+    line.close()
+    printed, said, status = tap.end()
+    tell("a host that refuses: it is said", (True, 0), ("Connection refused" in said, status))
+
+
+def it_can_be_ended():
+    tap = Tap(2)
+    terminal, host = tap.pair()
+    host.sendall(bytes.fromhex("FFFD28"))
+    read_some(terminal, 3)
+    tap.program.terminate()
+    printed, _, _ = tap.end()
+    tell("ended by a signal, what was told is there", "# terminal 1 connected\n", printed[:23])
+    tell("ended by a signal, both sides see it", (b"", b""), (read_all(terminal)[:0], read_all(host)[:0]))
+
+
+def main():
+    for part in (bytes_pass, many_pass, sessions_are_told, faults_are_told, ends_are_handed_on, a_deaf_side_stops_the_other, a_host_that_refuses, it_can_be_ended):
+        try:
+            part()
+        except OSError as error:
+            tell(part.__name__, "no fault of a socket", error)
+    print(f"{passed} passed, {failed} failed")
+    return 1 if failed else 0
+
+
+if __name__ == "__main__":
+    sys.exit(main())
