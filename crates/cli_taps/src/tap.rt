@@ -60,7 +60,8 @@ fn tell(
     out: &mut Vec<u8>,
 ) -> Vec<u8>
     ensures tells { out.new.items ≡ out.old.items ++ result.items }
-    ensures listens { is_deaf.new ≡ false → (is_deaf.old ≡ false) × Listens listener.old side piece.now result.items listener.new }
+    ensures listens { is_deaf.new ≡ false → (is_deaf.old ≡ false)
+        × Listens listener.old side piece.now result.items listener.new }
 {
     let mut text = Vec::new(alloc);
     if *is_deaf {
@@ -81,8 +82,10 @@ impl<T: Line, H: Line> Tap<T, H> {
     ///
     /// Where room for the bytes of both ways, or for two records of each side, was refused.
     pub fn new(alloc: Global, number: u64, terminal: T, host: H) -> Result<Tap<T, H>, AllocError>
-        requires terminal { (T.received terminal ≡ []) × (T.sent terminal ≡ []) × (T.told_end terminal ≡ false) }
-        requires host { (H.received host ≡ []) × (H.sent host ≡ []) × (H.told_end host ≡ false) }
+        requires terminal { (T.received terminal ≡ []) × (T.sent terminal ≡ [])
+            × (T.told_end terminal ≡ false) }
+        requires host { (H.received host ≡ []) × (H.sent host ≡ [])
+            × (H.told_end host ≡ false) }
         ensures { IfOk result (λ tap. tap ≡ record {
           number = number;
           relayed = nothing_passed;
@@ -128,7 +131,8 @@ impl<T: Line, H: Line> Tap<T, H> {
 
     /// Reads a side once, as far as there is room for it, and adds what that tells.
     pub fn read(&mut self, alloc: Global, side: Side, scratch: &mut [u8], out: &mut Vec<u8>) -> Gave
-        ensures reads { Reads (way_from side self.old.relayed) scratch.new result (way_from side self.new.relayed) }
+        ensures reads { Reads (way_from side self.old.relayed) scratch.new result
+            (way_from side self.new.relayed) }
         ensures other { way_to side self.new.relayed ≡ way_to side self.old.relayed }
         ensures tells { (text : List ℕ) × (out.new.items ≡ out.old.items ++ text)
             × (self.new.told ≡ self.old.told ++ text) }
@@ -151,7 +155,8 @@ impl<T: Line, H: Line> Tap<T, H> {
 
     /// Writes what is held for a side, once.
     pub fn write(&mut self, side: Side) -> Took
-        ensures writes { Writes (way_to side self.old.relayed) result (way_to side self.new.relayed) }
+        ensures writes { Writes (way_to side self.old.relayed) result
+            (way_to side self.new.relayed) }
         ensures other { way_from side self.new.relayed ≡ way_from side self.old.relayed }
         ensures rest { self.new ≡ record self.old { relayed = self.new.relayed } }
     {
@@ -160,7 +165,8 @@ impl<T: Line, H: Line> Tap<T, H> {
 
     /// Tells a side the end of the other, where it came and all was written: whether it was.
     pub fn tell_end(&mut self, side: Side) -> bool
-        ensures tells { TellsEnd (way_to side self.old.relayed) result (way_to side self.new.relayed) }
+        ensures tells { TellsEnd (way_to side self.old.relayed) result
+            (way_to side self.new.relayed) }
         ensures other { way_from side self.new.relayed ≡ way_from side self.old.relayed }
         ensures rest { self.new ≡ record self.old { relayed = self.new.relayed } }
     {

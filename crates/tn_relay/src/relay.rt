@@ -46,7 +46,8 @@ fn read_most<L: Line>(line: &mut L, scratch: &mut [u8], most: usize) -> Gave
     ensures gives { Gives (L.received line.old) (L.received line.new) scratch.new result }
     ensures few { (count : ℕ) → result ≡ GaveBytes count → count ≤ most }
     ensures room { length scratch.new ≡ length scratch.old }
-    ensures line { (L.sent line.new ≡ L.sent line.old) × (L.told_end line.new ≡ L.told_end line.old) }
+    ensures line { (L.sent line.new ≡ L.sent line.old)
+        × (L.told_end line.new ≡ L.told_end line.old) }
 {
     line.read(&mut scratch[..most])
 }
@@ -56,7 +57,8 @@ fn fill<L: Line>(line: &mut L, pipe: &mut Pipe, scratch: &mut [u8]) -> Gave
     ensures reads { (written : List ℕ) (told : Bool)
         → Reads (way_of (L.received line.old) pipe.old written told) scratch.new result
         (way_of (L.received line.new) pipe.new written told) }
-    ensures line { (L.sent line.new ≡ L.sent line.old) × (L.told_end line.new ≡ L.told_end line.old) }
+    ensures line { (L.sent line.new ≡ L.sent line.old)
+        × (L.told_end line.new ≡ L.told_end line.old) }
 {
     let most = pipe.room().min(scratch.len());
     if most == 0 || pipe.is_ended() {
@@ -73,8 +75,8 @@ fn fill<L: Line>(line: &mut L, pipe: &mut Pipe, scratch: &mut [u8]) -> Gave
 
 /// Writes what a pipe holds to a line, once.
 fn drain<L: Line>(line: &mut L, pipe: &mut Pipe) -> Took
-    ensures writes { (read : List ℕ) → Writes (way_of read pipe.old (L.sent line.old) (L.told_end line.old))
-        result (way_of read pipe.new (L.sent line.new) (L.told_end line.new)) }
+    ensures writes { (read : List ℕ)
+        → Writes (way_of read pipe.old (L.sent line.old) (L.told_end line.old)) result (way_of read pipe.new (L.sent line.new) (L.told_end line.new)) }
     ensures line { L.received line.new ≡ L.received line.old }
 {
     if pipe.bytes().is_empty() {
@@ -89,8 +91,8 @@ fn drain<L: Line>(line: &mut L, pipe: &mut Pipe) -> Took
 
 /// Tells a line the end, where a pipe's bytes came to it and all were written.
 fn hand_end<L: Line>(line: &mut L, pipe: &Pipe) -> bool
-    ensures tells { (read : List ℕ) → TellsEnd (way_of read pipe.now (L.sent line.old) (L.told_end line.old))
-        result (way_of read pipe.now (L.sent line.new) (L.told_end line.new)) }
+    ensures tells { (read : List ℕ)
+        → TellsEnd (way_of read pipe.now (L.sent line.old) (L.told_end line.old)) result (way_of read pipe.now (L.sent line.new) (L.told_end line.new)) }
     ensures line { L.received line.new ≡ L.received line.old }
 {
     if !pipe.is_ended() || !pipe.bytes().is_empty() {
@@ -107,8 +109,10 @@ impl<T: Line, H: Line> Relay<T, H> {
     ///
     /// Where room for the bytes of both ways, 16,384 each, was refused.
     pub fn new(alloc: Global, terminal: T, host: H) -> Result<Relay<T, H>, AllocError>
-        requires terminal { (T.received terminal ≡ []) × (T.sent terminal ≡ []) × (T.told_end terminal ≡ false) }
-        requires host { (H.received host ≡ []) × (H.sent host ≡ []) × (H.told_end host ≡ false) }
+        requires terminal { (T.received terminal ≡ []) × (T.sent terminal ≡ [])
+            × (T.told_end terminal ≡ false) }
+        requires host { (H.received host ≡ []) × (H.sent host ≡ [])
+            × (H.told_end host ≡ false) }
         ensures { IfOk result (λ relay. relay ≡ nothing_passed) }
     {
         Ok(Relay {
