@@ -1,13 +1,12 @@
 -- A piece more that is read and told.
 use Rattle.std.proofs.Common.{ℕ, List, [], ◌∷◌, ◌++◌, refl, sym, ◌≡◌, ◌∙◌, ap, subst, take, append_assoc}
-use Rattle.std.specs.List.{flat_map}
 use Rattle.std.proofs.lemmas.List.{append-nil}
 use Rattle.std.proofs.lemmas.List.Concat.{flat_map-append}
 use Rattle.tn_traces.specs.declared.line.Side.{Side}
 use Rattle.tn_traces.specs.declared.line.Side.TheVariants.{Host, Terminal}
 use Rattle.tn_relay.specs.declared.line.Gave.TheVariants.{Bytes as GaveBytes}
 use Rattle.tn_relay.specs.Relayed.{Relayed, Reads, way_from, way_to}
-use Rattle.cli_taps.specs.Listening.{Listening, Listens, ListenTo, Piece, bytes_from, stream_of, listening_first}
+use Rattle.cli_taps.specs.Listening.{Listening, Listens, ListenTo, Piece, bytes_from, stream_of}
 use Rattle.cli_taps.specs.Taps.{IsTold}
 
 pub listen_more : (first : Listening) (pieces : List Piece) (text : List ℕ) (mid : Listening) (piece : Piece) (more : List ℕ) (last : Listening)

@@ -26,16 +26,16 @@ pub record Listening : Type 0 where
 abbrev pub listening_first : ℕ → Listening
 listening_first number = record { records = followed_first records_asked number; answers = followed_first answers_asked number }
 
--- after a fault that the host's lines told nothing is answered
+-- what is answered by a piece; after a fault that the host's lines told nothing is
 abbrev pub Answers : Bool → Followed → Side → List ℕ → List ℕ → Followed → Type 0
-Answers true old side piece text new = (text ≡ []) × (new ≡ old)
-Answers false old side piece text new = Follows old side piece text new
+Answers true old side piece lines new = (lines ≡ []) × (new ≡ old)
+Answers false old side piece lines new = (text : List ℕ) × Follows old side piece text new × (lines ≡ answer_lines text)
 
 -- a piece of what a side sent adds this text: the host's lines, and then the terminal's answers
 abbrev pub Listens : Listening → Side → List ℕ → List ℕ → Listening → Type 0
 Listens old side piece text new =
-    (told : List ℕ) × (answered : List ℕ) × Follows old.records side piece told new.records
-    × Answers new.records.is_over old.answers side piece answered new.answers × (text ≡ host_lines told ++ answer_lines answered)
+    (told : List ℕ) × (lines : List ℕ) × Follows old.records side piece told new.records
+    × Answers new.records.is_over old.answers side piece lines new.answers × (text ≡ host_lines told ++ lines)
 
 -- ---- pieces in turn
 
@@ -44,14 +44,15 @@ pub record Piece : Type 0 where
   pub side : Side
   pub bytes : List ℕ
 
-abbrev pub bytes_from : Side → Piece → List ℕ
-bytes_from side piece = bytes_if side piece.side piece.bytes
-
 abbrev pub bytes_if : Side → Side → List ℕ → List ℕ
 bytes_if Host Host bytes = bytes
 bytes_if Host Terminal bytes = []
 bytes_if Terminal Host bytes = []
 bytes_if Terminal Terminal bytes = bytes
+
+-- what a piece is of a side's bytes
+abbrev pub bytes_from : Side → Piece → List ℕ
+bytes_from side piece = bytes_if side piece.side piece.bytes
 
 -- all that a side sent
 abbrev pub stream_of : Side → List Piece → List ℕ

@@ -1,7 +1,7 @@
 -- A tap: what it hands on, and what it tells of it.
-use Rattle.std.specs.Prelude.{ℕ, ◌≡◌, Bool, true, false, List, ◌++◌}
+use Rattle.std.specs.Prelude.{ℕ, ◌≡◌, Bool, false, List}
 use Rattle.tn_traces.specs.declared.line.Side.TheVariants.{Host, Terminal}
-use Rattle.tn_relay.specs.Relayed.{Relayed, AreFaithful, nothing_passed}
+use Rattle.tn_relay.specs.Relayed.{Relayed}
 use Rattle.cli_taps.specs.Listening.{Listening, ListenTo, Piece, listening_first, stream_of}
 
 -- the number of its session; what passed; how both sides are followed; all that was told; and whether memory was refused, after which

@@ -1,8 +1,7 @@
 use Rattle.std.proofs.Common.{◌≡◌, ◌++◌}
 use Rattle.std.specs.List.{flat_map}
-use Rattle.cli_commands.specs.Lines.{lines_in}
 use Rattle.cli_taps.specs.Text.{answer_line, answer_lines}
 use Rattle.cli_taps.proofs.text.push_answer_lines.Given as goal
 
 abbrev pub invariant-loop-line : goal.invariant-loop-line
-invariant-loop-line l = l.out.now.items ++ flat_map answer_line l.line-iterator ≡ l.fn.out.now.items ++ answer_lines l.fn.text
+invariant-loop-line l = l.out.items ++ flat_map answer_line l.line-iterator ≡ l.fn.out.items ++ answer_lines l.fn.text

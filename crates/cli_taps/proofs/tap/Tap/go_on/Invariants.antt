@@ -1,0 +1,5 @@
+use Rattle.std.proofs.Common.{◌≡◌, ◌++◌, List, ℕ}
+use Rattle.cli_taps.proofs.tap.Tap.go_on.Given as goal
+
+abbrev pub invariant-rounds : goal.invariant-rounds
+invariant-rounds g l = (text : List ℕ) × (l.out.items ≡ l.fn.out.items ++ text) × (l.self.told ≡ l.fn.self.told ++ text)
