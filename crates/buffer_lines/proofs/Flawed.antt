@@ -1,17 +1,17 @@
 -- A line has a flaw where it is refused, and nowhere else.
-use Rattle.std.proofs.Common.{◌≡◌, ◌∙◌, ℕ, Bool, true, false, nat_lt, cond, is_some, is_none, List, [], ◌∷◌, ◌++◌, length, Option, Some, None, option_map, refl, sym, ap}
+use Rattle.std.proofs.Common.{◌≡◌, ◌∙◌, ℕ, Bool, true, false, nat_lt, cond, is_some, is_none, List, [], ◌∷◌, ◌++◌, length, Option, Some, None, option_map, refl, sym}
 use Rattle.ds_codec.specs.declared.cell.Cell.{Cell}
 use Rattle.ds_codec.specs.Geometry.{Sizes}
 use Rattle.buffer_lines.specs.declared.cell.Word.{Word}
 use Rattle.buffer_lines.specs.declared.cell.Word.TheVariants as words
 use Rattle.buffer_lines.specs.declared.flaw.Flaw.{Flaw}
-use Rattle.buffer_lines.specs.declared.flaw.Flaw.TheVariants.{NoCell, OtherCells, TooManyRows, OtherSize, CursorOutside}
+use Rattle.buffer_lines.specs.declared.flaw.Flaw.TheVariants.{NoCell, OtherSize, CursorOutside}
 use Rattle.buffer_lines.specs.declared.status.Status.{Status}
 use Rattle.buffer_lines.specs.Cell.{word_told}
-use Rattle.buffer_lines.specs.Flaw.{column_from, flaw_by, flaw_of, is_refused, is_stop, line_column, next_column, row_flaw, size_flaw, status_flaw}
-use Rattle.buffer_lines.specs.Line.{Line, silent, row, status, refused, by_prefix, data_of, is_silent, line_told, row_of, row_line, status_or, words_line}
+use Rattle.buffer_lines.specs.Flaw.{column_from, flaw_by, flaw_of, is_refused, is_stop, line_column, next_column, size_flaw}
+use Rattle.buffer_lines.specs.Line.{Line, silent, row, status, refused, by_prefix, data_of, is_silent, line_told, row_of, row_line, status_or}
 use Rattle.buffer_lines.specs.Row.{row_from, row_told, then_cells, with_word}
-use Rattle.buffer_lines.specs.Screen.{Opened, goes, stops, end_course, end_step, ended_on, fits, geometry_told, has_rows, is_blank, position_of, row_step, step_by, taken_at}
+use Rattle.buffer_lines.specs.Screen.{Opened, goes, stops, end_course, ended_on, fits, geometry_told, has_rows, is_blank, position_of, step_by, taken_at}
 use Rattle.buffer_lines.specs.Status.{status_told}
 use Rattle.buffer_lines.specs.Words.{words_of}
 

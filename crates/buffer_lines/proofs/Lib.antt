@@ -3,3 +3,9 @@ mod Rows
 mod Screens
 mod Left
 mod Flawed
+mod Items
+mod ItemsRead
+mod Filled
+mod Leaves
+mod HeldRows
+mod LeftRows

@@ -6,3 +6,4 @@ pub mod Line
 pub mod Record
 pub mod Screen
 pub mod Flaw
+pub mod Left

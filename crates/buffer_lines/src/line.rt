@@ -1,6 +1,7 @@
 //! What one line tells.
 
 ghost use Rattle.std.specs.Prelude.{◌≡◌, ◌∷◌, [], map, IfOk, option_map};
+ghost use Rattle.buffer_lines.specs.Left.{IsHeldLine};
 ghost use Rattle.buffer_lines.specs.Line.{data_of, is_silent, line_seen, line_told, row_line, words_line};
 
 use crate::row::row_told;
@@ -82,6 +83,15 @@ fn words_line(alloc: Global, words: &[Vec<u8>]) -> Result<BufferLine, AllocError
 ///
 /// Where a request for memory was refused.
 pub fn read_line(alloc: Global, line: &[u8]) -> Result<BufferLine, AllocError>
+    ensures exact { IfOk result (λ told. line_seen told ≡ line_told line.now) }
+    ensures held { IfOk result (λ told. IsHeldLine (line_seen told)) }
+{
+    let told = told_by(alloc, line)?;
+    Ok(told)
+}
+
+/// What a line tells, by its prefix or its words.
+fn told_by(alloc: Global, line: &[u8]) -> Result<BufferLine, AllocError>
     ensures { IfOk result (λ told. line_seen told ≡ line_told line.now) }
 {
     if is_silent(line) {

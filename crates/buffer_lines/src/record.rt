@@ -4,9 +4,10 @@ ghost use Rattle.std.specs.Prelude.{◌≡◌, ◌++◌, ◌∷◌, [], ◌*◌,
 ghost use Rattle.std.specs.List.{flat_map};
 ghost use Rattle.ds_codec.specs.Address.{written_address};
 ghost use Rattle.ds_codec.specs.Geometry.{cells_of};
+ghost use Rattle.buffer_lines.specs.Left.{AreHeld, IsHeld, LeaveWhole};
 ghost use Rattle.buffer_lines.specs.Record.{cell_bytes, cursor_bytes, erase_code, is_usual, record_of};
 
-use ds_codec::{Cell, Geometry, OrderCode, Size, encode_address, push_character, to_six_bit_code};
+use ds_codec::{Cell, Geometry, OrderCode, Size, encode_address, to_six_bit_code};
 use std::alloc::{AllocError, Global};
 
 /// The keyboard is restored; no MDT is reset, as there is none on a screen that was erased.
@@ -26,19 +27,28 @@ fn erase_code(size: Size) -> u8
 }
 
 fn push_cell(out: &mut Vec<u8>, cell: Cell) -> Result<(), AllocError>
-    ensures { OnOk result (out.new.items ≡ out.old.items ++ cell_bytes cell) }
+    ensures written { OnOk result (out.new.items ≡ out.old.items ++ cell_bytes cell) }
+    ensures held { OnOk result (IsHeld cell) }
 {
     match cell {
         Cell::Field(attribute) => out.extend_from_slice(&[
             OrderCode::Sf.byte(),
             to_six_bit_code(attribute.bits()),
         ]),
-        Cell::Char(character) => push_character(out, character),
+        Cell::Char(character) => {
+            if character.alt() {
+                out.push(OrderCode::Ge.byte())?;
+            }
+            out.push(character.code())?;
+            Ok(())
+        }
     }
 }
 
 fn push_cells(out: &mut Vec<u8>, cells: &[Cell]) -> Result<(), AllocError>
-    ensures { OnOk result (out.new.items ≡ out.old.items ++ flat_map cell_bytes cells.now) }
+    ensures written { OnOk result
+        (out.new.items ≡ out.old.items ++ flat_map cell_bytes cells.now) }
+    ensures held { OnOk result (AreHeld cells.now) }
 {
     for cell in cells {
         push_cell(out, *cell)?;
@@ -71,7 +81,11 @@ pub fn record_of(
     cursor: u32,
 ) -> Result<Vec<u8>, AllocError>
     requires { cursor < geometry.now.alternate.rows * geometry.now.alternate.cols }
-    ensures { IfOk result (λ bytes. bytes.items ≡ record_of geometry.now cells.now cursor) }
+    ensures exact { IfOk result
+        (λ bytes. bytes.items ≡ record_of geometry.now cells.now cursor) }
+    // On a terminal whose default size is 24x80, whatever it showed, it leaves exactly these cells.
+    ensures leaves { IfOk result
+        (λ bytes. LeaveWhole geometry.now cells.now cursor bytes.items) }
 {
     let mut out = Vec::new(alloc);
     out.push(erase_code(geometry.alternate_size()))?;

@@ -3,6 +3,7 @@
 ghost use Rattle.std.specs.Prelude.{◌≡◌, ◌++◌, ◌+◌, ◌*◌, ◌<◌, IfOk, IfSome, OnOk, is_some, length, option_map};
 ghost use Rattle.ds_codec.specs.Geometry.{geometry_of};
 ghost use Rattle.buffer_lines.specs.Flaw.{flaw_of, is_stop, row_flaw, size_flaw, status_flaw};
+ghost use Rattle.buffer_lines.specs.Left.{AreLaid, IsHeldLine, LeavesRows};
 ghost use Rattle.buffer_lines.specs.Line.{line_seen, line_told};
 ghost use Rattle.buffer_lines.specs.Screen.{at_first, course_of, ended_at, ended_by, fits, geometry_told, end_step, has_rows, is_blank, open_seen, position_of, row_step, shot_seen, step_by, usual_size};
 
@@ -149,7 +150,8 @@ fn size_flaw(geometry: Option<Geometry>, status: Status) -> Option<Flaw>
 impl Open {
     /// Before the first row of a screen.
     pub fn new(alloc: Global) -> Open
-        ensures { open_seen result ≡ at_first }
+        ensures exact { open_seen result ≡ at_first }
+        ensures laid { AreLaid (open_seen result) }
     {
         Open {
             cells: Vec::new(alloc),
@@ -200,6 +202,19 @@ impl Open {
     ///
     /// Where a request for memory was refused.
     pub fn take(&mut self, alloc: Global, line: BufferLine) -> Result<Step, AllocError>
+        ensures exact { IfOk result (λ step. course_of step (open_seen self.new)
+            ≡ step_by (open_seen self.old) (line_seen line)) }
+        // The record of a screen that ends leaves exactly its cells, and its cursor, on a terminal of the size that is told.
+        ensures leaves { AreLaid (open_seen self.old) → IsHeldLine (line_seen line)
+            → IfOk result (λ step. LeavesRows (open_seen self.old) (line_seen line)
+            (course_of step (open_seen self.new))) }
+    {
+        let step = self.step(alloc, line)?;
+        Ok(step)
+    }
+
+    /// What a line does, row by row.
+    fn step(&mut self, alloc: Global, line: BufferLine) -> Result<Step, AllocError>
         ensures { IfOk result (λ step. course_of step (open_seen self.new)
             ≡ step_by (open_seen self.old) (line_seen line)) }
     {
