@@ -3,3 +3,4 @@ mod Telling
 mod DeskSteps
 mod Presses
 mod WorkLaws
+mod JudgedLaws

@@ -16,7 +16,8 @@ pub record Scripted : Type 0 where
 
 -- bytes of the host are heard, and nothing else is
 abbrev pub HearsCame : Came → Worked → Worked → Type 0
-HearsCame (came.Bytes bytes) old new = (new.heard ≡ old.heard ++ bytes.now) × (new.gone ≡ old.gone)
+HearsCame (came.Bytes bytes) old new =
+    (new.heard ≡ old.heard ++ bytes.now) × (new.gone ≡ old.gone) × (new.judged ≡ old.judged) × (new.collects ≡ old.collects)
 HearsCame _ old new = Keeps old new
 
 -- where no line is under way nothing is heard
