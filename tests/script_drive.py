@@ -15,11 +15,12 @@ class Program:
 
     words: list[str]
     is_ours: bool
+    folder: str | None = None
 
     def start(self, more: list[str] | None = None) -> subprocess.Popen[bytes]:
         environment = dict(os.environ, HOME="/nonexistent", LC_ALL="C.UTF-8")
         return subprocess.Popen(self.words + (more or []), stdin=subprocess.PIPE, stdout=subprocess.PIPE, stderr=subprocess.PIPE,
-                                bufsize=0, env=environment)
+                                bufsize=0, env=environment, cwd=self.folder)
 
 
 class Fault(Exception):

@@ -6,7 +6,7 @@ the host on the command line, `%raw`, all lines at once, and `%crlf`; the last `
 what is answered, with the port and the time masked, and NAME.sent what is sent to the host, without headers. Those of scripts/ours
 are what is answered otherwise, each with its reason in DIFFERENCES below: s3270 has to fail them. Then come a client in the manner of
 py3270, long scripts and lines, hosts that close after each of their bytes, scripts side by side, an output that is closed, files that
-are written, and screens that are judged. The last line is 'N passed, M failed'.
+are written, screens that are judged, by `Check` and at each key (script_judges.py), and hostile lines (script_hostile.py). The last line is 'N passed, M failed'.
 """
 import os
 import re
@@ -20,7 +20,9 @@ from functools import partial
 from typing import Callable, Iterator
 
 from script_drive import Driver, Fault, Program, want
+from script_hostile import hostile_lines
 from script_hosts import ITEMS, MENU, SIGNON, WRONG, Host, serve
+from script_judges import FLAWED, MENU_LAYOUT, SIGNON_LAYOUT, WIDE_LAYOUT, full_report, judged_forms, judged_text, judged_yes, refused_layouts, told_by
 from script_words import ROWS, wrapped_as
 
 CASES = os.path.join(os.path.dirname(os.path.abspath(__file__)), "scripts")
@@ -416,28 +418,6 @@ def closed_output(program: Program) -> None:
 # ---- files, and screens that are judged
 
 
-FLAWED = SIGNON.replace("11C44B1DF0", "")
-SIGNON_LAYOUT = """[[field]]
-name = "userid"
-row = 4
-col = 20
-length = 8
-
-[[field]]
-name = "password"
-row = 5
-col = 20
-length = 8
-"""
-MENU_LAYOUT = """[[field]]
-name = "option"
-row = 3
-col = 11
-length = 2
-"""
-WIDE_LAYOUT = 'alternate = "27x132"\n' + SIGNON_LAYOUT
-
-
 def write_file(folder: str, name: str, text: str) -> str:
     path = os.path.join(folder, name)
     with open(path, "w", encoding="utf8") as file:
@@ -448,12 +428,6 @@ def write_file(folder: str, name: str, text: str) -> str:
 def read_file(path: str) -> str:
     with open(path, encoding="utf8") as file:
         return file.read()
-
-
-def told_by(program: Program, command: list[str], text: str) -> list[str]:
-    """The lines that another command of the program prints of a text."""
-    done = subprocess.run([program.words[0], *command], input=text.encode(), capture_output=True, check=False)
-    return done.stdout.decode().splitlines()
 
 
 def connected(program: Program, text: str, more: list[str] | None = None) -> tuple[Host, Driver]:
@@ -542,6 +516,12 @@ OTHERS: list[tuple[str, Callable[[Program], None], bool]] = [
     ("pages", pages, True),
     ("checks", checks, True),
     ("check-of-nothing", check_of_nothing, True),
+    ("hostile-lines", hostile_lines, True),
+    ("judged-text", judged_text, True),
+    ("judged-yes", judged_yes, True),
+    ("judged-forms", judged_forms, True),
+    ("refused-layouts", refused_layouts, True),
+    ("full-report", full_report, True),
 ]
 
 

@@ -4,3 +4,4 @@ mod DeskSteps
 mod Presses
 mod WorkLaws
 mod JudgedLaws
+mod ActLaws

@@ -1,6 +1,6 @@
 //! The terminal that a script works, and what is known of its line.
 
-ghost use Rattle.std.specs.Prelude.{◌≡◌, ◌++◌, [], ◌∷◌, length, map, option_map, replicate, Some, None, is_some, true, false, IfOk, OnOk};
+ghost use Rattle.std.specs.Prelude.{◌≡◌, ◌++◌, [], ◌∷◌, length, map, nat_lt, not, ◌&&◌, option_map, replicate, Some, None, is_some, true, false, IfOk, OnOk};
 ghost use Rattle.std.specs.List.{flat_map};
 ghost use Rattle.script_screens.specs.Laws.{LinkIsWhole};
 ghost use Rattle.script_screens.specs.Status.{link_seen};
@@ -21,7 +21,7 @@ use script_screens::{Connection, Protocol};
 use std::alloc::{AllocError, Global};
 use std::marker::Model;
 use tn_session::{
-    Device, History, KeptRecord, Pressed, RunFault, ScreenModel, SessionFault, TerminalSession,
+    Arrived, Device, History, KeptRecord, Pressed, RunFault, ScreenModel, SessionFault, TerminalSession,
 };
 
 /// How often the host is read in one session, at most.
@@ -90,6 +90,13 @@ fn add_screens(history: &mut History<SentScreen>, screens: &[SentScreen])
     'screens: for screen in screens {
         *history = history.and(screen);
     }
+}
+
+/// Whether a record of 3270 data was taken, and not refused.
+fn is_shown(arrived: Arrived) -> bool
+    ensures { result ≡ nat_lt 0 arrived.taken }
+{
+    0 < arrived.taken
 }
 
 fn is_inhibited(pressed: Pressed) -> bool {
@@ -218,15 +225,16 @@ impl Desk {
         }
     }
 
-    /// Whether a record came since this was last asked.
+    /// Whether a record came since this was last asked. Then the screen wasn't read since.
     fn has_arrived(&mut self) -> bool
+        ensures read { self.new.was_read ≡ (self.old.was_read && not result) }
         ensures deeds { self.new.deeds ≡ self.old.deeds }
         ensures heard { self.new.heard ≡ self.old.heard }
         ensures gone { self.new.gone ≡ self.old.gone }
         ensures screens { KeepsScreens self.old self.new }
         ensures host { self.new.host ≡ self.old.host }
     {
-        let came = self.session.arrived().taken > 0;
+        let came = is_shown(self.session.arrived());
         if came {
             self.was_read = false;
         }

@@ -5,7 +5,7 @@ ghost use Rattle.cli_scripts.specs.Answers.{AreAnswers, handed_lines, nothing_to
 ghost use Rattle.cli_scripts.specs.Desks.{DidAll, Keeps, handed_due, handed_screens, desk_of, new_desk};
 ghost use Rattle.tn_session.specs.TerminalTalk.{OfWaiting};
 ghost use Rattle.cli_scripts.specs.declared.came.Wants.TheVariants.{Line};
-ghost use Rattle.cli_scripts.specs.Machines.{HearsNext, AnswersSo, goes_on};
+ghost use Rattle.cli_scripts.specs.Machines.{HearsNext, AnswersSo, DrainsFirst, IsDrained, goes_on};
 
 use crate::answer::Answers;
 use crate::came::{Came, Need, Wants};
@@ -211,6 +211,9 @@ impl Machine {
         ensures gone { self.new.telling.gone ≡ self.old.telling.gone }
         ensures answered { IfOk result (λ wants.
             AnswersSo (goes_on self.old.is_busy came.entry) self.old wants self.new) }
+        // At a terminal that is connected a line begins with what has arrived of the host.
+        ensures drains { self.old.is_busy ≡ false → IfOk result (λ wants.
+            DrainsFirst came.entry self.old.desk wants self.new.desk) }
     {
         match self.job.take() {
             None => self.take_line(alloc, came),
@@ -228,6 +231,8 @@ impl Machine {
         ensures gone { self.new.telling.gone ≡ self.old.telling.gone }
         ensures answered { IfOk result (λ wants.
             AnswersSo (goes_on false came.entry) self.old wants self.new) }
+        ensures drains { IfOk result (λ wants.
+            DrainsFirst came.entry self.old.desk wants self.new.desk) }
     {
         match came {
             Came::Line(line) => self.begin(alloc, line),
@@ -245,10 +250,16 @@ impl Machine {
         ensures desk { Keeps self.old.desk self.new.desk }
         ensures gone { self.new.telling.gone ≡ self.old.telling.gone }
         ensures answered { IfOk result (λ wants. AnswersSo true self.old wants self.new) }
+        ensures drains { is_some self.old.desk.host ≡ true → IfOk result (λ wants.
+            IsDrained self.old.desk wants self.new.desk) }
     {
         if self.worker.desk.is_connected() {
-            let step = Step::Waits(Doing::Arriving, Need::Arrived);
-            self.go_on(alloc, step, line)
+            let rest = line.to_vec(alloc)?;
+            self.job = Some(Job {
+                rest,
+                doing: Doing::Arriving,
+            });
+            Ok(Wants::Need(Need::Arrived))
         } else {
             self.perform(alloc, line)
         }
