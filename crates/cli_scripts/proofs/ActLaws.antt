@@ -101,5 +101,5 @@ pub more_pressed : (old mid new : Worked) → PressesOnly old mid → PressesOnl
 more_pressed old mid new (early, is) (late, so) = (
   early ++ late,
   so ∙ ap (λ z. z ++ map Pressed late) is ∙ append_assoc old.deeds (map Pressed early) (map Pressed late)
-  ∙ ap (λ z. old.deeds ++ z) (sym (map_both early late)),
+      ∙ ap (λ z. old.deeds ++ z) (sym (map_both early late)),
 )

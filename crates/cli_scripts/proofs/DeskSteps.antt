@@ -28,20 +28,20 @@ one_more_deed device [] deed heard bytes given more all here first mid new (none
   (refl, refl, refl, refl),
 )
 one_more_deed device (early ∷ deeds) deed heard bytes given more all here first mid new
-    (front, rest, cut, due, later, parted, on, then, split, between, did, others) does = (
-  front,
-  rest ++ bytes,
-  ap (λ z. z ++ bytes) cut ∙ append_assoc front rest bytes,
-  due,
-  later ++ more,
-  ap (λ z. z ++ more) parted ∙ append_assoc due later more,
-  on,
-  then ++ here,
-  ap (λ z. z ++ here) split ∙ append_assoc on then here,
-  between,
-  did,
-  one_more_deed device deeds deed rest bytes later more then here between mid new others does,
-)
+    (front, rest, cut, due, later, parted, on, afterwards, split, between, did, others) does = (
+      front,
+      rest ++ bytes,
+      ap (λ z. z ++ bytes) cut ∙ append_assoc front rest bytes,
+      due,
+      later ++ more,
+      ap (λ z. z ++ more) parted ∙ append_assoc due later more,
+      on,
+      afterwards ++ here,
+      ap (λ z. z ++ here) split ∙ append_assoc on afterwards here,
+      between,
+      did,
+      one_more_deed device deeds deed rest bytes later more afterwards here between mid new others does,
+    )
 
 pub collected_more : (collects : Bool) (early late : List SentOn) → collected collects (early ++ late) ≡ collected collects early ++ collected collects late
 collected_more true early late = refl
@@ -60,10 +60,10 @@ pub step : (device : Device) (deeds longer : List Deed) (deed : Deed) (heard all
 step device deeds longer deed heard all bytes gone due new_due more collects screens grown here mid new is hears grows shows (sent, did, kept) does = (
   sent ++ here,
   subst (λ (ds : List Deed). Did device ds all (gone ++ new_due) (sent ++ here) (new_talk device) new) (sym is)
-  (subst (λ (hs : List ℕ). Did device (deeds ++ deed ∷ []) hs (gone ++ new_due) (sent ++ here) (new_talk device) new) (sym hears)
-  (subst (λ (gs : List ℕ). Did device (deeds ++ deed ∷ []) (heard ++ bytes) gs (sent ++ here) (new_talk device) new)
-  (append_assoc gone due more ∙ sym (ap (λ z. gone ++ z) grows))
-  (one_more_deed device deeds deed heard bytes (gone ++ due) more sent here (new_talk device) mid new did does))),
+      (subst (λ (hs : List ℕ). Did device (deeds ++ deed ∷ []) hs (gone ++ new_due) (sent ++ here) (new_talk device) new) (sym hears)
+      (subst (λ (gs : List ℕ). Did device (deeds ++ deed ∷ []) (heard ++ bytes) gs (sent ++ here) (new_talk device) new)
+      (append_assoc gone due more ∙ sym (ap (λ z. gone ++ z) grows))
+      (one_more_deed device deeds deed heard bytes (gone ++ due) more sent here (new_talk device) mid new did does))),
   shows ∙ ap (λ z. z ++ collected collects here) kept ∙ sym (collected_more collects sent here),
 )
 

@@ -34,8 +34,8 @@ judges_more old before mid new judging now later was told written mid_written en
       collects = stays ∙ same ∙ so.collects;
       after = after ∙ ap (λ z. judged_all z mid.unjudged) so.after ∙ sym (judged_more judging so.screens mid.unjudged);
       reported = OnTrue_from told (Appends written end (reports_of judging (so.screens ++ mid.unjudged))) (λ yes.
-        subst (Appends written end) (sym (reported_more judging so.screens mid.unjudged))
-        (appends_more written mid_written end (reports_of judging so.screens) (reports_of (judged_all judging so.screens) mid.unjudged)
-        (OnTrue_at (only yes) so.reported)
-        (subst (λ (z : Judging). Appends mid_written end (reports_of z mid.unjudged)) so.after (OnTrue_at yes more))));
+          subst (Appends written end) (sym (reported_more judging so.screens mid.unjudged))
+          (appends_more written mid_written end (reports_of judging so.screens) (reports_of (judged_all judging so.screens) mid.unjudged)
+          (OnTrue_at (only yes) so.reported)
+          (subst (λ (z : Judging). Appends mid_written end (reports_of z mid.unjudged)) so.after (OnTrue_at yes more))));
     }

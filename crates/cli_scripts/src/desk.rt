@@ -21,7 +21,8 @@ use script_screens::{Connection, Protocol};
 use std::alloc::{AllocError, Global};
 use std::marker::Model;
 use tn_session::{
-    Arrived, Device, History, KeptRecord, Pressed, RunFault, ScreenModel, SessionFault, TerminalSession,
+    Arrived, Device, History, KeptRecord, Pressed, RunFault, ScreenModel, SessionFault,
+    TerminalSession,
 };
 
 /// How often the host is read in one session, at most.

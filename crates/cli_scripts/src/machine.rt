@@ -85,11 +85,7 @@ impl Machine {
 
     /// A terminal of this device, not connected, whose screens are to be judged: of each on which Enter, a PF or a PA key sends a copy is
     /// kept, as it was before the key.
-    pub fn judged(
-        alloc: Global,
-        device: Device,
-        code_page: CodePage,
-    ) -> Result<Machine, AllocError>
+    pub fn judged(alloc: Global, device: Device, code_page: CodePage) -> Result<Machine, AllocError>
         ensures { IfOk result (λ machine. machine ≡ record {
           desk = desk_of device true;
           telling = nothing_told;

@@ -394,12 +394,7 @@ fn judged_status(ended: Ended, is_told: bool, has_findings: bool) -> Status
 }
 
 /// Ends the report of a script that is over, but where memory was refused to it: its status.
-fn conclude<P: TakesBytes>(
-    alloc: Global,
-    judge: &Judge,
-    report: &mut P,
-    finish: Finish,
-) -> Status
+fn conclude<P: TakesBytes>(alloc: Global, judge: &Judge, report: &mut P, finish: Finish) -> Status
     ensures over { IsOver result → Concludes judge.now result finish (P.contents report.old)
         (P.contents report.new) }
 {
@@ -456,15 +451,7 @@ pub fn run_script<R: GivesBytes, O: TakesBytes, P: TakesBytes, W: World>(
         attest(machine);
         return Status::NoMemory;
     };
-    let finish = work(
-        alloc,
-        machine,
-        &mut lines,
-        output,
-        world,
-        judge,
-        report,
-    );
+    let finish = work(alloc, machine, &mut lines, output, world, judge, report);
     attest(machine);
     conclude(alloc, judge, report, finish)
 }

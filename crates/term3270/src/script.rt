@@ -392,11 +392,7 @@ fn run_on<P: Write + Drop>(
 }
 
 /// The judge of the screens: by the layouts of a folder, where one is named.
-fn judge_of(
-    rt: &HostRuntime,
-    asked: ScriptAsked<'_>,
-    device: Device,
-) -> Result<Judge, Status> {
+fn judge_of(rt: &HostRuntime, asked: ScriptAsked<'_>, device: Device) -> Result<Judge, Status> {
     let layouts = match asked.layouts {
         Some(folder) => layouts_of(rt, folder, device)?,
         None => Layouts::new(rt.alloc(), device.geometry()),
@@ -405,11 +401,7 @@ fn judge_of(
 }
 
 /// The terminal, whose screens are judged where there are layouts.
-fn machine_of(
-    alloc: Global,
-    asked: ScriptAsked<'_>,
-    device: Device,
-) -> Result<Machine, AllocError>
+fn machine_of(alloc: Global, asked: ScriptAsked<'_>, device: Device) -> Result<Machine, AllocError>
     ensures { IfOk result (λ machine. machine.is_busy ≡ false) }
 {
     if asked.layouts.is_some() {

@@ -111,10 +111,7 @@ pub(crate) fn layouts_of(
 }
 
 /// A file that a report is written to, anew.
-pub(crate) fn report_at<'a>(
-    rt: &'a HostRuntime,
-    path: &'a str,
-) -> Result<Named<'a, File>, Status> {
+pub(crate) fn report_at<'a>(rt: &'a HostRuntime, path: &'a str) -> Result<Named<'a, File>, Status> {
     match fs::create(rt, path) {
         Ok(stream) => Ok(Named {
             rt,

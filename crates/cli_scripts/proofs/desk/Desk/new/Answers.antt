@@ -18,7 +18,7 @@ nothing : (device : Device) (deeds : List Deed) (heard gone due : List ℕ) (tal
 nothing device deeds heard gone due talk collects judged unjudged none unheard ungone undue is unseen unkept = (
   [],
   subst (λ (ds : List Deed). Did device ds heard (gone ++ due) [] (new_talk device) talk) (sym none)
-  (unheard, ap (λ z. z ++ due) ungone ∙ undue, refl, is),
+      (unheard, ap (λ z. z ++ due) ungone ∙ undue, refl, is),
   none_collected collects judged unjudged unseen unkept,
 )
 
