@@ -1,5 +1,5 @@
 -- What actions do at a terminal whose session waits.
-use Rattle.std.proofs.Common.{◌≡◌, Bool, true, false, cond, not, ◌&&◌, List, [], ◌∷◌, ◌++◌, map, Option, Some, None, refl, sym, ap, ◌∙◌, append_assoc, subst, tt, absurd}
+use Rattle.std.proofs.Common.{◌≡◌, Bool, true, false, cond, not, ◌&&◌, List, [], ◌∷◌, ◌++◌, map, Option, Some, None, refl, sym, ap, ◌∙◌, append_assoc, subst}
 use Rattle.std.specs.Prelude.{is_some, if◌then◌else◌}
 use Rattle.std.proofs.lemmas.List.{append-nil}
 use Rattle.ds_keys.specs.declared.key.Key.{Key}

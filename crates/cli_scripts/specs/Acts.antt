@@ -1,18 +1,16 @@
 -- What each action of a script does at the terminal: which keys it presses, and that others press none.
-use Rattle.std.specs.Prelude.{◌≡◌, ℕ, nat_le, ◌==◌, Bool, true, false, not, ◌&&◌, map, List, [], ◌∷◌, ◌++◌, Option, Some, None, Result, Ok, Err, if◌then◌else◌}
+use Rattle.std.specs.Prelude.{◌≡◌, ℕ, nat_le, ◌==◌, Bool, true, false, not, ◌&&◌, map, List, [], ◌∷◌, ◌++◌, Option, Some, None, Result, Ok, if◌then◌else◌}
 use Rattle.ds_codec.specs.Aid.{function_aid, access_aid}
 use Rattle.ds_keys.specs.declared.key.Key.{Key}
 use Rattle.ds_keys.specs.declared.key.Key.TheVariants as pressed
 use Rattle.ds_keys.specs.declared.key.Key.TheVariants.{Attention}
-use Rattle.script_keys.specs.Actions.{Action, keys, connect, disconnect, quit, other}
+use Rattle.script_keys.specs.Actions.{Action, keys, other}
 use Rattle.script_keys.specs.declared.keys.Keys.{Keys}
 use Rattle.script_keys.specs.declared.keys.Keys.TheVariants.{Plain}
 use Rattle.script_keys.specs.declared.name.Name.TheVariants as names
 use Rattle.script_keys.specs.Faults.{Fault}
-use Rattle.script_keys.specs.Fill.{typed_runs}
 use Rattle.script_keys.specs.Runs.{keys_of}
 use Rattle.script_keys.specs.Steps.{runs_of}
-use Rattle.script_screens.specs.declared.code_page.CodePage.{CodePage}
 use Rattle.script_screens.specs.declared.pieces.StringKey.{StringKey}
 use Rattle.script_screens.specs.declared.pieces.StringKey.TheVariants as keyed
 use Rattle.tn_session.specs.declared.terminal_state.TerminalState.{TerminalState}

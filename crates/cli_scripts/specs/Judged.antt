@@ -5,7 +5,7 @@ use Rattle.std.specs.Io.KnownBytes.{Appends}
 use Rattle.script_checks.specs.Forms.{due_at_the_end}
 use Rattle.script_checks.specs.Report.{Judging, judging_after, report_due}
 use Rattle.cli_commands.specs.declared.status.Status.{Status}
-use Rattle.cli_commands.specs.declared.status.Status.TheVariants.{Done, Findings, BadInput, Failed, NoMemory}
+use Rattle.cli_commands.specs.declared.status.Status.TheVariants.{Done, Findings, Failed, NoMemory}
 use Rattle.cli_scripts.specs.declared.run.Ended.{Ended}
 use Rattle.cli_scripts.specs.declared.run.Finish.{Finish}
 use Rattle.cli_scripts.specs.declared.run.Ended.TheVariants.{Over}

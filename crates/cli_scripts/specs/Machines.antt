@@ -1,5 +1,5 @@
 -- A terminal that lines of a script work: what it takes, and how each line is answered.
-use Rattle.std.specs.Prelude.{◌≡◌, Bool, true, false, is_some, List, [], ◌∷◌, ◌++◌}
+use Rattle.std.specs.Prelude.{◌≡◌, Bool, true, false, is_some, [], ◌∷◌, ◌++◌}
 use Rattle.script_screens.specs.declared.lines.Outcome.{Outcome}
 use Rattle.cli_scripts.specs.declared.came.Came.{Came}
 use Rattle.cli_scripts.specs.declared.came.Came.TheVariants as came

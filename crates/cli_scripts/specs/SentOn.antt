@@ -1,5 +1,5 @@
 -- Screens on which keys send.
-use Rattle.std.specs.Prelude.{ℕ, ◌==◌, Bool, true, false, not, ◌&&◌, is_some, List, [], ◌∷◌, Option, if◌then◌else◌}
+use Rattle.std.specs.Prelude.{◌==◌, Bool, true, false, not, ◌&&◌, is_some, List, [], ◌∷◌, Option, if◌then◌else◌}
 use Rattle.ds_keys.specs.declared.key.Key.{Key}
 use Rattle.ds_keys.specs.declared.key.Key.TheVariants.{Attention}
 use Rattle.ds_screen.specs.declared.lock.Lock.{Lock}

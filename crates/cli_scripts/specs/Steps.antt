@@ -1,5 +1,5 @@
 -- How far an action has come.
-use Rattle.std.specs.Prelude.{◌≡◌, ℕ, Bool, true, List}
+use Rattle.std.specs.Prelude.{◌≡◌, ℕ, true, List}
 use Rattle.cli_scripts.specs.declared.came.Need.TheVariants.{Bytes}
 use Rattle.cli_scripts.specs.declared.doing.Doing.TheVariants.{Typing}
 use Rattle.cli_scripts.specs.declared.doing.Step.{Step}

@@ -8,10 +8,10 @@ pub invariant_of-self : goal.invariant_of-self
 invariant_of-self c =
     subst (λ (talk : Talk TerminalState). DidSo c.self.inside.device c.self.inside.deeds.items c.self.inside.heard.items
     (c.self.inside.gone.items ++ c.self.inside.due.items) talk c.self.inside.collects (c.self.inside.judged.items ++ c.self.inside.unjudged.items))
-    (sym c.arrived-came.ensures.talk) c.self.invariant
+    (sym c.arrived.ensures.talk) c.self.invariant
 
 pub invariant_of-self-else-came : goal.invariant_of-self-else-came
 invariant_of-self-else-came c =
     subst (λ (talk : Talk TerminalState). DidSo c.self.inside.device c.self.inside.deeds.items c.self.inside.heard.items
     (c.self.inside.gone.items ++ c.self.inside.due.items) talk c.self.inside.collects (c.self.inside.judged.items ++ c.self.inside.unjudged.items))
-    (sym c.arrived-came.ensures.talk) c.self.invariant
+    (sym c.arrived.ensures.talk) c.self.invariant

@@ -4,7 +4,7 @@ use Rattle.tn_session.specs.declared.terminal_state.TerminalState.{TerminalState
 use Rattle.tn_session.specs.Talk.{Talk}
 use Rattle.cli_scripts.specs.declared.deed.Deed.{Deed}
 use Rattle.cli_scripts.specs.Deeds.{Did, DidSo, new_talk}
-use Rattle.cli_scripts.specs.Desks.{Worked, desk_of}
+use Rattle.cli_scripts.specs.Desks.{desk_of}
 use Rattle.cli_scripts.specs.SentOn.{SentOn, collected}
 use Rattle.cli_scripts.proofs.desk.Desk.new.Goals as goal
 
