@@ -24,6 +24,9 @@ _term3270_values() { # OPTION
     check--format | talk--format) _term3270_offer -W 'text json sarif' ;;
     suite--format) _term3270_offer -W 'text json junit sarif' ;;
     script--code-page) _term3270_offer -W 'bracket 037' ;;
+    script--report-format) _term3270_offer -W 'text json junit' ;;
+    script--layouts) _term3270_files '' ;;
+    script--report) _term3270_files ;;
     records--from) _term3270_offer -W 'trace stream buffer' ;;
     attach--device | script--device)
       for device in IBM-327{8,9}-{2,3,4,5}{,-E}; do devices="$devices $device"; done
@@ -65,7 +68,7 @@ _term3270_options() {
     records) options='--from --answers --turns --turn --size --all' ;;
     serve) options='--port --count --listen' ;;
     attach) options='--strokes --port --device --tolerant --expect --timeout' ;;
-    script) options='--device --code-page' ;;
+    script) options='--device --code-page --layouts --report --report-format' ;;
     tap) options='--port --listen-port --listen --count' ;;
     map) options='--map --layout --freekb --frset' ;;
     help) return ;;

@@ -6,11 +6,10 @@ the host on the command line, `%raw`, all lines at once, and `%crlf`; the last `
 what is answered, with the port and the time masked, and NAME.sent what is sent to the host, without headers. Those of scripts/ours
 are what is answered otherwise, each with its reason in DIFFERENCES below: s3270 has to fail them. Then come a client in the manner of
 py3270, long scripts and lines, hosts that close after each of their bytes, scripts side by side, an output that is closed, files that
-are written, and screens that are judged. The last line is 'N passed, M failed'.
+are written, screens that are judged, by `Check` and at each key (script_judges.py), and hostile lines (script_hostile.py). The last line is 'N passed, M failed'.
 """
 import os
 import re
-import select
 import subprocess
 import sys
 import tempfile
@@ -20,12 +19,14 @@ from dataclasses import dataclass
 from functools import partial
 from typing import Callable, Iterator
 
+from script_drive import Driver, Fault, Program, want
+from script_hostile import hostile_lines
 from script_hosts import ITEMS, MENU, SIGNON, WRONG, Host, serve
+from script_judges import FLAWED, MENU_LAYOUT, SIGNON_LAYOUT, WIDE_LAYOUT, full_report, judged_forms, judged_text, judged_yes, refused_layouts, told_by
 from script_words import ROWS, wrapped_as
 
 CASES = os.path.join(os.path.dirname(os.path.abspath(__file__)), "scripts")
 REFERENCE = ["s3270", "-model", "3278-2", "-utf8", "-codepage", "cp037"]
-ENDS = re.compile(rb"(^|\n)(ok|error)\n$")
 STATUS = re.compile(r"^([ULE] [FU] [PU] \S+ \S \d+ \d+ \d+ \d+ \d+ \S+) (\d+\.\d+|-)$")
 
 # The cases of scripts/ours: what is answered otherwise than s3270 4.1 answers, and why.
@@ -45,106 +46,6 @@ DIFFERENCES = {
     "unknown-actions": "what runs commands, moves files or isn't of the profile is unknown",
     "whole-names": "names and words are whole; there their begins do",
 }
-
-
-@dataclass
-class Program:
-    """The command that is tested."""
-
-    words: list[str]
-    is_ours: bool
-
-    def start(self, more: list[str] | None = None) -> subprocess.Popen[bytes]:
-        environment = dict(os.environ, HOME="/nonexistent", LC_ALL="C.UTF-8")
-        return subprocess.Popen(self.words + (more or []), stdin=subprocess.PIPE, stdout=subprocess.PIPE, stderr=subprocess.PIPE,
-                                bufsize=0, env=environment)
-
-
-class Fault(Exception):
-    """What a test found wrong."""
-
-
-def want(is_so: bool, words: str) -> None:
-    if not is_so:
-        raise Fault(words)
-
-
-# ---- driving
-
-
-class Driver:
-    """A process that is driven by lines, one answer at a time."""
-
-    def __init__(self, program: Program, more: list[str] | None = None) -> None:
-        self.process = program.start(more)
-
-    def write(self, data: bytes) -> bool:
-        assert self.process.stdin is not None
-        try:
-            self.process.stdin.write(data)
-        except BrokenPipeError:
-            return False
-        return True
-
-    def read(self, seconds: float) -> bytes | None:
-        """What comes, nothing at the end, or None where the time is over."""
-        assert self.process.stdout is not None
-        if not select.select([self.process.stdout], [], [], max(0.0, seconds))[0]:
-            return None
-        return os.read(self.process.stdout.fileno(), 65536)
-
-    def answer(self, seconds: float = 8.0) -> bytes:
-        """An answer up to its last line, or what came and a line of `<` that says why there is no more."""
-        stop = time.time() + seconds
-        came = b""
-        while not ENDS.search(came):
-            more = self.read(stop - time.time())
-            if more is None:
-                return came + b"<no answer>\n"
-            if not more:
-                return came + b"<end of output>\n"
-            came += more
-        return came
-
-    def ask(self, line: str) -> tuple[list[str], list[str], str]:
-        """The data of a line's answer, the words of its status, and its last line."""
-        self.write(line.encode() + b"\n")
-        lines = self.answer().decode().split("\n")
-        want(len(lines) >= 3 and lines[-1] == "", f"{line}: no answer but {lines}")
-        data = [one[6:] for one in lines[:-3]]
-        want(all(one.startswith("data: ") for one in lines[:-3]), f"{line}: other lines than data: {lines}")
-        return data, lines[-3].split(" "), lines[-2]
-
-    def close_input(self) -> None:
-        assert self.process.stdin is not None
-        try:
-            self.process.stdin.close()
-        except OSError:
-            pass
-
-    def rest(self, seconds: float) -> bytes:
-        stop = time.time() + seconds
-        came = b""
-        while True:
-            more = self.read(stop - time.time())
-            if not more:
-                return came
-            came += more
-
-    def end(self, seconds: float = 5.0) -> tuple[bytes, int | None]:
-        """Closes its input: what it still says, and its status, none where it doesn't end."""
-        self.close_input()
-        came = self.rest(seconds)
-        try:
-            status: int | None = self.process.wait(seconds)
-        except subprocess.TimeoutExpired:
-            self.process.kill()
-            self.process.wait()
-            status = None
-        for pipe in (self.process.stdout, self.process.stderr):
-            if pipe is not None:
-                pipe.close()
-        return came, status
 
 
 # ---- the recorded cases
@@ -517,28 +418,6 @@ def closed_output(program: Program) -> None:
 # ---- files, and screens that are judged
 
 
-FLAWED = SIGNON.replace("11C44B1DF0", "")
-SIGNON_LAYOUT = """[[field]]
-name = "userid"
-row = 4
-col = 20
-length = 8
-
-[[field]]
-name = "password"
-row = 5
-col = 20
-length = 8
-"""
-MENU_LAYOUT = """[[field]]
-name = "option"
-row = 3
-col = 11
-length = 2
-"""
-WIDE_LAYOUT = 'alternate = "27x132"\n' + SIGNON_LAYOUT
-
-
 def write_file(folder: str, name: str, text: str) -> str:
     path = os.path.join(folder, name)
     with open(path, "w", encoding="utf8") as file:
@@ -549,12 +428,6 @@ def write_file(folder: str, name: str, text: str) -> str:
 def read_file(path: str) -> str:
     with open(path, encoding="utf8") as file:
         return file.read()
-
-
-def told_by(program: Program, command: list[str], text: str) -> list[str]:
-    """The lines that another command of the program prints of a text."""
-    done = subprocess.run([program.words[0], *command], input=text.encode(), capture_output=True, check=False)
-    return done.stdout.decode().splitlines()
 
 
 def connected(program: Program, text: str, more: list[str] | None = None) -> tuple[Host, Driver]:
@@ -643,6 +516,12 @@ OTHERS: list[tuple[str, Callable[[Program], None], bool]] = [
     ("pages", pages, True),
     ("checks", checks, True),
     ("check-of-nothing", check_of_nothing, True),
+    ("hostile-lines", hostile_lines, True),
+    ("judged-text", judged_text, True),
+    ("judged-yes", judged_yes, True),
+    ("judged-forms", judged_forms, True),
+    ("refused-layouts", refused_layouts, True),
+    ("full-report", full_report, True),
 ]
 
 

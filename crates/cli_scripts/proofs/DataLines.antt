@@ -1,10 +1,9 @@
 -- Data lines, none of which has a line's end within it.
-use Rattle.std.proofs.Common.{◌≡◌, ◌≤◌, ◌<◌, ℕ, Bool, true, false, cond, List, [], ◌∷◌, ◌++◌, map, codes, refl, sym, ap, ◌∙◌, arith, append_assoc}
+use Rattle.std.proofs.Common.{◌≡◌, ℕ, Bool, true, false, cond, List, [], ◌∷◌, ◌++◌, codes, refl, sym, ap, ◌∙◌, arith}
 use Rattle.std.proofs.lemmas.List.{append-nil}
 use Rattle.std.specs.declared.alloc.AllocError.{AllocError}
-use Rattle.std.specs.Prelude.{IfOk, OnOk, Result, Ok, Err, ◌&&◌, not, ◌==◌, nat_lt}
+use Rattle.std.specs.Prelude.{IfOk, OnOk, Result, Ok, Err, not, ◌==◌, nat_lt}
 use Rattle.std.specs.Fmt.{decimal}
-use Rattle.std.specs.List.{list_all, flat_map}
 use Rattle.std.proofs.lemmas.Bool.{ne_eqb, ltb-false}
 use Rattle.std.proofs.lemmas.Grind.{flat_map-append}
 use Rattle.std.proofs.lemmas.List.Folds.{list_all-append}
@@ -25,7 +24,7 @@ use Rattle.script_screens.specs.Lines.{data_line, data_lines, Said, Says, failed
 use Rattle.script_screens.specs.Pieces.{fault_words}
 use Rattle.script_screens.specs.Snap.{snap_fault_words}
 use Rattle.script_screens.proofs.Whole.{and_true, join, decimal_whole}
-use Rattle.cli_scripts.specs.Answers.{printed_byte, printed_text, syntax_words, syntax_text, AreData}
+use Rattle.cli_scripts.specs.Answers.{printed_text, syntax_words, syntax_text, AreData}
 
 -- ---- texts
 

@@ -3,3 +3,5 @@ mod Telling
 mod DeskSteps
 mod Presses
 mod WorkLaws
+mod JudgedLaws
+mod ActLaws

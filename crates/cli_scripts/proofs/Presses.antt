@@ -1,10 +1,6 @@
 -- Keys that are pressed, one after the other.
-use Rattle.std.proofs.Common.{◌≡◌, ◌+◌, ℕ, zero, suc, List, [], ◌∷◌, ◌++◌, map, replicate, refl, sym, ap, ◌∙◌, append_assoc, arith}
-use Rattle.std.specs.List.{flat_map}
-use Rattle.std.proofs.lemmas.List.{append-nil}
+use Rattle.std.proofs.Common.{◌≡◌, ◌+◌, ℕ, zero, suc, List, [], ◌∷◌, ◌++◌, map, replicate, refl, ap, ◌∙◌, append_assoc, arith}
 use Rattle.ds_keys.specs.declared.key.Key.{Key}
-use Rattle.script_keys.specs.declared.run.Run.{Run}
-use Rattle.script_keys.specs.Runs.{keys_of_run, keys_of}
 use Rattle.cli_scripts.specs.declared.deed.Deed.{Deed}
 use Rattle.cli_scripts.specs.declared.deed.Deed.TheVariants.{Pressed}
 

@@ -1,10 +1,13 @@
 -- What is written of the answers that are handed out.
-use Rattle.std.proofs.Common.{◌≡◌, ℕ, List, [], ◌++◌, Option, refl, sym, ap, ◌∙◌, append_assoc}
+use Rattle.std.proofs.Common.{◌≡◌, ℕ, true, List, [], ◌++◌, Option, sym, ap, ◌∙◌, append_assoc}
 use Rattle.std.proofs.lemmas.List.{append-nil}
-use Rattle.std.specs.Io.KnownBytes.{Appends}
 use Rattle.cli_commands.proofs.Prefixes.{appends_more}
-use Rattle.cli_scripts.specs.Machines.{Scripted}
-use Rattle.cli_scripts.specs.Worlds.{Tells, TellsAll}
+use Rattle.cli_scripts.specs.declared.came.Wants.{Wants}
+use Rattle.cli_scripts.specs.declared.came.Wants.TheVariants.{Line, Need}
+use Rattle.cli_scripts.specs.declared.came.Wants.TheVariants as wanted
+use Rattle.cli_scripts.specs.Desks.{Worked}
+use Rattle.cli_scripts.specs.Machines.{Scripted, AnswersSo}
+use Rattle.cli_scripts.specs.Worlds.{Exchanged, Tells, TellsAll, Took, is_need}
 
 -- all of them is a front of them; nothing was handed out since
 pub told_front : (old mid new : Scripted) (written now : Option (List ℕ)) → TellsAll old mid written now → new.telling.gone ≡ mid.telling.gone
@@ -19,3 +22,35 @@ told_more old before mid new written now end (text, is, all) same (more, so, (fr
   so ∙ ap (λ z. z ++ more) (same ∙ is) ∙ append_assoc old.telling.gone text more,
   (text ++ front, rest, ap (λ z. text ++ z) cut ∙ sym (append_assoc text front rest), appends_more written now end text front all some),
 )
+
+-- all of them, and then all of more
+pub told_all : (old before mid new : Scripted) (written now end : Option (List ℕ)) → TellsAll old before written now
+    → mid.telling.gone ≡ before.telling.gone → TellsAll mid new now end → TellsAll old new written end
+told_all old before mid new written now end (text, is, all) same (more, so, some) = (
+  text ++ more,
+  so ∙ ap (λ z. z ++ more) (same ∙ is) ∙ append_assoc old.telling.gone text more,
+  appends_more written now end text more all some,
+)
+
+-- what was exchanged, and then what a turn heard and what was sent after it
+pub exchanged_more : (old before mid handed new end : Worked)
+    (sent sent_mid sent_now sent_end received received_mid received_now received_end given : List ℕ)
+    → Exchanged old before sent sent_mid received received_mid → Took before mid sent_mid sent_now received_mid received_now
+    → handed.gone ≡ mid.gone → handed.heard ≡ mid.heard → new.gone ≡ handed.gone ++ given → sent_end ≡ sent_now ++ given
+    → new.heard ≡ handed.heard → received_end ≡ received_now → end ≡ new → Exchanged old end sent sent_end received received_end
+exchanged_more old before mid handed new end sent sent_mid sent_now sent_end received received_mid received_now received_end given
+    i t same_gone same_heard grows sends hears comes is =
+    record {
+      given = i.given ++ given;
+      heard = i.heard ++ t.heard;
+      gone = ap (λ (w : Worked). w.gone) is ∙ grows ∙ ap (λ z. z ++ given) (same_gone ∙ t.gone ∙ i.gone) ∙ append_assoc old.gone i.given given;
+      went = sends ∙ ap (λ z. z ++ given) (t.went ∙ i.went) ∙ append_assoc sent i.given given;
+      took = ap (λ (w : Worked). w.heard) is ∙ hears ∙ same_heard ∙ t.took ∙ ap (λ z. z ++ t.heard) i.took ∙ append_assoc old.heard i.heard t.heard;
+      came = comes ∙ t.came ∙ ap (λ z. z ++ t.heard) i.came ∙ append_assoc received i.heard t.heard;
+    }
+
+-- a line is under way where something is needed for it
+pub busy_after : (wants : Wants) (old new : Scripted) → AnswersSo true old wants new → new.is_busy ≡ is_need wants
+busy_after Line old new answers = answers.1
+busy_after wanted.Nothing old new answers = answers.1
+busy_after (Need need) old new answers = answers.1

@@ -1,5 +1,5 @@
 -- The terminal that a script works, and what is known of its line.
-use Rattle.std.specs.Prelude.{◌≡◌, ℕ, Bool, true, false, List, [], ◌∷◌, ◌++◌, Option, Some, None}
+use Rattle.std.specs.Prelude.{◌≡◌, ℕ, Bool, true, false, List, [], ◌++◌, Option, Some, None}
 use Rattle.ds_screen.specs.declared.lock.Lock.{Lock}
 use Rattle.ds_screen.specs.declared.lock.Lock.TheVariants.{Free, Waiting, Error}
 use Rattle.script_screens.specs.declared.connection.Protocol.{Protocol}
@@ -8,7 +8,8 @@ use Rattle.tn_cores.specs.declared.device.Device.{Device}
 use Rattle.tn_session.specs.declared.terminal_state.TerminalState.{TerminalState}
 use Rattle.tn_session.specs.Talk.{Talk}
 use Rattle.cli_scripts.specs.declared.deed.Deed.{Deed}
-use Rattle.cli_scripts.specs.Deeds.{Did, new_talk}
+use Rattle.cli_scripts.specs.Deeds.{DidSo, new_talk}
+use Rattle.cli_scripts.specs.SentOn.{SentOn}
 
 pub record NamedHost : Type 0 where
   pub name : List ℕ
@@ -18,8 +19,9 @@ abbrev pub link_of_host : Option NamedHost → Protocol → Option Link
 link_of_host None protocol = None
 link_of_host (Some host) protocol = Some (record { host = host.name; port = host.port; protocol = protocol; lu_name = [] })
 
--- the session, the host while it is connected, all that was done at it and was heard of hosts, and the bytes that were due: those that were
--- handed out, and those that weren't
+-- The session, the host while it is connected, all that was done at it and was heard of hosts, and the bytes that were due: those that were
+-- handed out, and those that weren't. Where screens on which keys send are collected to be judged, so are those: the ones that were handed
+-- out, and the ones that weren't.
 pub record Worked : Type 0 where
   pub device : Device
   pub talk : Talk TerminalState
@@ -29,10 +31,13 @@ pub record Worked : Type 0 where
   pub heard : List ℕ
   pub gone : List ℕ
   pub due : List ℕ
+  pub collects : Bool
+  pub judged : List SentOn
+  pub unjudged : List SentOn
 
 -- a terminal that isn't connected
-abbrev pub new_desk : Device → Worked
-new_desk device = record {
+abbrev pub desk_of : Device → Bool → Worked
+desk_of device collects = record {
   device = device;
   talk = new_talk device;
   host = None;
@@ -41,15 +46,26 @@ new_desk device = record {
   heard = [];
   gone = [];
   due = [];
+  collects = collects;
+  judged = [];
+  unjudged = [];
 }
 
--- what was heard and was done led from the terminal's first session to this one, and gave all bytes that were due, and no others
+abbrev pub new_desk : Device → Worked
+new_desk device = desk_of device false
+
+-- What was heard and was done led from the terminal's first session to this one, and gave all bytes that were due, and no others. The screens
+-- that are collected are those on which the keys among it sent, each as it was before its key.
 abbrev pub DidAll : Worked → Type 0
-DidAll w = Did w.device w.deeds w.heard (w.gone ++ w.due) (new_talk w.device) w.talk
+DidAll w = DidSo w.device w.deeds w.heard (w.gone ++ w.due) w.talk w.collects (w.judged ++ w.unjudged)
 
 -- all that was due was handed out
 abbrev pub handed_due : Worked → Worked
 handed_due w = record w { gone = w.gone ++ w.due; due = [] }
+
+-- all screens were handed out
+abbrev pub handed_screens : Worked → Worked
+handed_screens w = record w { judged = w.judged ++ w.unjudged; unjudged = [] }
 
 abbrev pub is_waiting : Lock → Bool
 is_waiting Waiting = true
@@ -61,6 +77,10 @@ is_error Error = true
 is_error Free = false
 is_error Waiting = false
 
+-- no screen was handed out, and they are collected or not, as before
+abbrev pub KeepsScreens : Worked → Worked → Type 0
+KeepsScreens old new = (new.judged ≡ old.judged) × (new.collects ≡ old.collects)
+
 -- nothing was heard, and nothing handed out
 abbrev pub Keeps : Worked → Worked → Type 0
-Keeps old new = (new.heard ≡ old.heard) × (new.gone ≡ old.gone)
+Keeps old new = (new.heard ≡ old.heard) × (new.gone ≡ old.gone) × (new.judged ≡ old.judged) × (new.collects ≡ old.collects)

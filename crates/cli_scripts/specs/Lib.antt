@@ -1,5 +1,10 @@
+pub mod Acts
 pub mod Answers
 pub mod Deeds
 pub mod Desks
+pub mod Judged
 pub mod Machines
+pub mod SentOn
+pub mod Steps
+pub mod Waits
 pub mod Worlds

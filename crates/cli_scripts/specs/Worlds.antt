@@ -2,14 +2,9 @@
 use Rattle.std.specs.Prelude.{◌≡◌, ◌≤◌, ℕ, Bool, true, false, List, ◌++◌, length, take, Option}
 use Rattle.std.specs.Io.KnownBytes.{Appends}
 use Rattle.cli_commands.specs.Streams.{AppendsFront}
-use Rattle.cli_commands.specs.declared.status.Status.{Status}
-use Rattle.cli_commands.specs.declared.status.Status.TheVariants.{Done, Findings, BadInput, Failed, NoMemory}
 use Rattle.cli_scripts.specs.declared.came.Wants.{Wants}
 use Rattle.cli_scripts.specs.declared.came.Wants.TheVariants.{Line, Need}
 use Rattle.cli_scripts.specs.declared.came.Wants.TheVariants as wanted
-use Rattle.cli_scripts.specs.declared.run.Ended.{Ended}
-use Rattle.cli_scripts.specs.declared.run.Ended.TheVariants.{Over}
-use Rattle.cli_scripts.specs.declared.run.Ended.TheVariants as ended
 use Rattle.cli_scripts.specs.declared.world.Heard.{Heard}
 use Rattle.cli_scripts.specs.declared.world.Heard.TheVariants.{Bytes, Nothing, Closed}
 use Rattle.cli_scripts.specs.Desks.{Worked}
@@ -41,6 +36,8 @@ pub record Took (old new : Worked) (sent sent_new received received_new : List �
   pub went : sent_new ≡ sent
   pub took : new.heard ≡ old.heard ++ heard
   pub came : received_new ≡ received ++ heard
+  pub judged : new.judged ≡ old.judged
+  pub collects : new.collects ≡ old.collects
 
 -- the answers that were handed out were written, or a front of them where a write failed
 abbrev pub Tells : Scripted → Scripted → Option (List ℕ) → Option (List ℕ) → Type 0
@@ -51,11 +48,6 @@ Tells old new written written_new =
 abbrev pub TellsAll : Scripted → Scripted → Option (List ℕ) → Option (List ℕ) → Type 0
 TellsAll old new written written_new =
     (text : List ℕ) × (new.telling.gone ≡ old.telling.gone ++ text) × Appends written written_new text
-
-abbrev pub ended_status : Ended → Status
-ended_status Over = Done
-ended_status ended.Failed = Failed
-ended_status ended.NoMemory = NoMemory
 
 -- whether something is needed for the line that is under way
 abbrev pub is_need : Wants → Bool

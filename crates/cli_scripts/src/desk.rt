@@ -1,6 +1,6 @@
 //! The terminal that a script works, and what is known of its line.
 
-ghost use Rattle.std.specs.Prelude.{◌≡◌, ◌++◌, [], ◌∷◌, length, map, option_map, replicate, Some, None, is_some, true, false, IfOk, OnOk};
+ghost use Rattle.std.specs.Prelude.{◌≡◌, ◌++◌, [], ◌∷◌, length, map, nat_lt, not, ◌&&◌, option_map, replicate, Some, None, is_some, true, false, IfOk, OnOk};
 ghost use Rattle.std.specs.List.{flat_map};
 ghost use Rattle.script_screens.specs.Laws.{LinkIsWhole};
 ghost use Rattle.script_screens.specs.Status.{link_seen};
@@ -8,11 +8,12 @@ ghost use Rattle.script_keys.specs.Runs.{keys_of_run, keys_of};
 ghost use Rattle.tn_session.specs.KeptView.{kept_view};
 ghost use Rattle.tn_session.specs.TerminalTalk.{OfWaiting, tolerant_worked, records_kept, agreed_in, takes_input_in};
 ghost use Rattle.cli_scripts.specs.declared.deed.Deed.TheVariants.{Begun, Heard, Pressed as PressedKey};
-ghost use Rattle.cli_scripts.specs.Desks.{DidAll, handed_due, new_desk, is_error, is_waiting, link_of_host};
+ghost use Rattle.cli_scripts.specs.Desks.{DidAll, KeepsScreens, handed_due, handed_screens, desk_of, is_error, is_waiting, link_of_host};
 
 use crate::answer::add_bytes;
 use crate::deed::Deed;
 use crate::host::{Host, connection_to};
+use crate::sent_screen::{SentScreen, collect};
 use ds_keys::Key;
 use ds_screen::{Lock, PlaneCells, Screen};
 use script_keys::Run;
@@ -20,7 +21,8 @@ use script_screens::{Connection, Protocol};
 use std::alloc::{AllocError, Global};
 use std::marker::Model;
 use tn_session::{
-    Device, History, KeptRecord, Pressed, RunFault, ScreenModel, SessionFault, TerminalSession,
+    Arrived, Device, History, KeptRecord, Pressed, RunFault, ScreenModel, SessionFault,
+    TerminalSession,
 };
 
 /// How often the host is read in one session, at most.
@@ -45,11 +47,16 @@ pub(crate) struct Desk {
     deeds: History<Deed>,
     heard: History<u8>,
     gone: History<u8>,
+    /// Screens on which keys send are kept, to be judged.
+    collects: bool,
+    judged: History<SentScreen>,
+    /// Those that were not handed out.
+    unjudged: Vec<SentScreen>,
 }
 
 impl Model for Desk {
     ghost use Rattle.std.specs.Prelude.{◌++◌};
-    ghost use Rattle.cli_scripts.specs.Deeds.{Did, new_talk};
+    ghost use Rattle.cli_scripts.specs.Deeds.{DidSo};
     ghost use Rattle.cli_scripts.specs.Desks.{Worked};
 
     ghost Value = { Worked };
@@ -63,15 +70,34 @@ impl Model for Desk {
       heard = d.heard.items;
       gone = d.gone.items;
       due = d.due.items;
+      collects = d.collects;
+      judged = d.judged.items;
+      unjudged = d.unjudged.items;
     } };
 
-    ghost invariant = { λ d. Did d.device d.deeds.items d.heard.items (d.gone.items ++ d.due.items) (new_talk d.device) d.session.talk };
+    ghost invariant = { λ d. DidSo d.device d.deeds.items d.heard.items (d.gone.items ++ d.due.items) d.session.talk d.collects (d.judged.items ++ d.unjudged.items) };
 }
 
 fn deed_of(key: Key) -> Deed
     ensures { result ≡ PressedKey key }
 {
     Deed::Pressed(key)
+}
+
+/// Adds screens to a history.
+fn add_screens(history: &mut History<SentScreen>, screens: &[SentScreen])
+    ensures { history.new.items ≡ history.old.items ++ screens.now }
+{
+    'screens: for screen in screens {
+        *history = history.and(screen);
+    }
+}
+
+/// Whether a record of 3270 data was taken, and not refused.
+fn is_shown(arrived: Arrived) -> bool
+    ensures { result ≡ nat_lt 0 arrived.taken }
+{
+    0 < arrived.taken
 }
 
 fn is_inhibited(pressed: Pressed) -> bool {
@@ -86,9 +112,9 @@ fn new_session(alloc: Global, device: Device) -> Result<TerminalSession, AllocEr
 }
 
 impl Desk {
-    /// A terminal that isn't connected.
-    pub(crate) fn new(alloc: Global, device: Device) -> Result<Desk, AllocError>
-        ensures { IfOk result (λ desk. desk ≡ new_desk device) }
+    /// A terminal that isn't connected, and whether screens on which its keys send are collected.
+    pub(crate) fn new(alloc: Global, device: Device, collects: bool) -> Result<Desk, AllocError>
+        ensures { IfOk result (λ desk. desk ≡ desk_of device collects) }
     {
         Ok(Desk {
             device,
@@ -101,6 +127,9 @@ impl Desk {
             deeds: History::new(),
             heard: History::new(),
             gone: History::new(),
+            collects,
+            judged: History::new(),
+            unjudged: Vec::new(alloc),
         })
     }
 
@@ -109,6 +138,7 @@ impl Desk {
         ensures deeds { OnOk result (self.new.deeds ≡ self.old.deeds ++ Begun ∷ []) }
         ensures heard { self.new.heard ≡ self.old.heard }
         ensures gone { self.new.gone ≡ self.old.gone }
+        ensures screens { KeepsScreens self.old self.new }
         ensures host { self.new.host ≡ self.old.host }
     {
         let session = new_session(alloc, self.device)?;
@@ -122,6 +152,7 @@ impl Desk {
         ensures deeds { OnOk result (self.new.deeds ≡ self.old.deeds ++ Begun ∷ []) }
         ensures heard { self.new.heard ≡ self.old.heard }
         ensures gone { self.new.gone ≡ self.old.gone }
+        ensures screens { KeepsScreens self.old self.new }
         ensures host { OnOk result (self.new.host ≡ Some host) }
     {
         self.renew(alloc)?;
@@ -152,6 +183,7 @@ impl Desk {
         ensures deeds { self.new.deeds ≡ self.old.deeds ++ Heard (length bytes.now) ∷ [] }
         ensures heard { self.new.heard ≡ self.old.heard ++ bytes.now }
         ensures gone { self.new.gone ≡ self.old.gone }
+        ensures screens { KeepsScreens self.old self.new }
         ensures host { self.new.host ≡ self.old.host }
     {
         let told = self.session.take(alloc, bytes, &mut self.due);
@@ -168,6 +200,7 @@ impl Desk {
     pub(crate) fn hear(&mut self, alloc: Global, bytes: &[u8]) -> Result<bool, AllocError>
         ensures heard { self.new.heard ≡ self.old.heard ++ bytes.now }
         ensures gone { self.new.gone ≡ self.old.gone }
+        ensures screens { KeepsScreens self.old self.new }
     {
         let told = self.take(alloc, bytes);
         self.count_read();
@@ -185,6 +218,7 @@ impl Desk {
     fn count_read(&mut self)
         ensures heard { self.new.heard ≡ self.old.heard }
         ensures gone { self.new.gone ≡ self.old.gone }
+        ensures screens { KeepsScreens self.old self.new }
     {
         self.reads = self.reads.saturating_add(1);
         if self.reads >= MAX_READS {
@@ -192,14 +226,16 @@ impl Desk {
         }
     }
 
-    /// Whether a record came since this was last asked.
+    /// Whether a record came since this was last asked. Then the screen wasn't read since.
     fn has_arrived(&mut self) -> bool
+        ensures read { self.new.was_read ≡ (self.old.was_read && not result) }
         ensures deeds { self.new.deeds ≡ self.old.deeds }
         ensures heard { self.new.heard ≡ self.old.heard }
         ensures gone { self.new.gone ≡ self.old.gone }
+        ensures screens { KeepsScreens self.old self.new }
         ensures host { self.new.host ≡ self.old.host }
     {
-        let came = self.session.arrived().taken > 0;
+        let came = is_shown(self.session.arrived());
         if came {
             self.was_read = false;
         }
@@ -211,18 +247,21 @@ impl Desk {
         ensures deeds { OnOk result (self.new.deeds ≡ self.old.deeds ++ Begun ∷ []) }
         ensures heard { self.new.heard ≡ self.old.heard }
         ensures gone { self.new.gone ≡ self.old.gone }
+        ensures screens { KeepsScreens self.old self.new }
     {
         self.renew(alloc)
     }
 
-    /// Presses a key.
+    /// Presses a key. The screen on which it sends is collected before.
     pub(crate) fn press(&mut self, alloc: Global, key: &Key) -> Result<Pressed, AllocError>
-        ensures deeds { self.new.deeds ≡ self.old.deeds ++ PressedKey key.now ∷ [] }
+        ensures deeds { OnOk result (self.new.deeds ≡ self.old.deeds ++ PressedKey key.now ∷ []) }
         ensures heard { self.new.heard ≡ self.old.heard }
         ensures gone { self.new.gone ≡ self.old.gone }
+        ensures screens { KeepsScreens self.old self.new }
         ensures host { self.new.host ≡ self.old.host }
     {
         let deed = deed_of(*key);
+        collect(alloc, self.collects, &self.session, key, &mut self.unjudged)?;
         let pressed = self.session.press(alloc, *key, &mut self.due);
         self.deeds = self.deeds.and(&deed);
         match pressed {
@@ -238,6 +277,7 @@ impl Desk {
             ≡ self.old.deeds ++ replicate times (PressedKey key.now)) }
         ensures heard { self.new.heard ≡ self.old.heard }
         ensures gone { self.new.gone ≡ self.old.gone }
+        ensures screens { KeepsScreens self.old self.new }
         ensures host { self.new.host ≡ self.old.host }
     {
         let mut inhibited = false;
@@ -254,6 +294,7 @@ impl Desk {
             ≡ self.old.deeds ++ map PressedKey (keys_of_run run.now)) }
         ensures heard { self.new.heard ≡ self.old.heard }
         ensures gone { self.new.gone ≡ self.old.gone }
+        ensures screens { KeepsScreens self.old self.new }
         ensures host { self.new.host ≡ self.old.host }
     {
         self.press_times(alloc, &run.key, run.times)
@@ -265,6 +306,7 @@ impl Desk {
             ≡ self.old.deeds ++ map PressedKey (keys_of runs.now)) }
         ensures heard { self.new.heard ≡ self.old.heard }
         ensures gone { self.new.gone ≡ self.old.gone }
+        ensures screens { KeepsScreens self.old self.new }
         ensures host { self.new.host ≡ self.old.host }
     {
         let mut inhibited = false;
@@ -289,6 +331,22 @@ impl Desk {
     {
         add_bytes(&mut self.gone, &self.due);
         self.due.clear();
+    }
+
+    /// The screens on which keys sent that were not handed out.
+    pub(crate) fn sent_screens(&self) -> &[SentScreen]
+        ensures value { result.now ≡ self.now.unjudged }
+        ensures did { DidAll self.now }
+    {
+        &self.unjudged
+    }
+
+    /// Notes that they were handed out.
+    pub(crate) fn hand_out_screens(&mut self)
+        ensures { self.new ≡ handed_screens self.old }
+    {
+        add_screens(&mut self.judged, &self.unjudged);
+        self.unjudged.clear();
     }
 
     pub(crate) fn screen(&self) -> &Screen<PlaneCells>

@@ -1,5 +1,11 @@
 //! Actions that press keys.
 
+ghost use Rattle.std.specs.Prelude.{◌≡◌, ◌++◌, map, OnOk};
+ghost use Rattle.script_keys.specs.Runs.{keys_of};
+ghost use Rattle.script_keys.specs.Steps.{runs_of};
+ghost use Rattle.tn_session.specs.TerminalTalk.{OfWaiting};
+ghost use Rattle.cli_scripts.specs.declared.deed.Deed.TheVariants.{Pressed};
+ghost use Rattle.cli_scripts.specs.Acts.{is_clear, is_reset, unconnected_deeds, PressesKeys, PressesOnly};
 ghost use Rattle.cli_scripts.specs.Desks.{Keeps};
 
 use crate::answer::Saying;
@@ -14,11 +20,15 @@ use std::alloc::{AllocError, Global};
 /// What is said where a key can't act.
 const LOCKED: &[u8] = b"Keyboard locked";
 
-fn is_reset(keys: &Keys) -> bool {
+fn is_reset(keys: &Keys) -> bool
+    ensures { result ≡ is_reset keys.now }
+{
     matches!(keys, Keys::Plain(Key::Reset))
 }
 
-fn is_clear(keys: &Keys) -> bool {
+fn is_clear(keys: &Keys) -> bool
+    ensures { result ≡ is_clear keys.now }
+{
     match keys {
         Keys::Plain(Key::Attention(aid)) => aid.byte() == 0x6D,
         _ => false,
@@ -27,7 +37,8 @@ fn is_clear(keys: &Keys) -> bool {
 
 /// Presses keys at a terminal that isn't connected: Clear clears its screen, the others do nothing.
 fn press_unconnected(alloc: Global, desk: &mut Desk, keys: &Keys) -> Result<Step, AllocError>
-    ensures { Keeps desk.old desk.new }
+    ensures keeps { Keeps desk.old desk.new }
+    ensures deeds { OnOk result (desk.new.deeds ≡ desk.old.deeds ++ unconnected_deeds keys.now) }
 {
     if is_clear(keys) {
         desk.clear(alloc)?;
@@ -42,7 +53,9 @@ fn press_now(
     keys: &Keys,
     saying: &mut Saying,
 ) -> Result<Step, AllocError>
-    ensures { Keeps desk.old desk.new }
+    ensures keeps { Keeps desk.old desk.new }
+    ensures deeds { OnOk result (OfWaiting (λ state. desk.old.deeds
+        ++ map Pressed (keys_of (runs_of state.terminal keys.now))) desk.old.talk desk.new.deeds) }
 {
     let runs = runs_of(alloc, desk.screen(), *keys)?;
     if desk.press_runs(alloc, &runs)? {
@@ -61,7 +74,8 @@ pub(crate) fn press(
     keys: &Keys,
     saying: &mut Saying,
 ) -> Result<Step, AllocError>
-    ensures { Keeps desk.old desk.new }
+    ensures keeps { Keeps desk.old desk.new }
+    ensures deeds { OnOk result (PressesKeys keys.now desk.old desk.new) }
 {
     if !desk.is_connected() {
         return press_unconnected(alloc, desk, keys);
@@ -80,7 +94,8 @@ pub(crate) fn type_code(
     code: u8,
     saying: &mut Saying,
 ) -> Result<Step, AllocError>
-    ensures { Keeps desk.old desk.new }
+    ensures keeps { Keeps desk.old desk.new }
+    ensures deeds { OnOk result (PressesOnly desk.old desk.new) }
 {
     if !desk.is_connected() {
         return Ok(Step::Ended(Outcome::Done));

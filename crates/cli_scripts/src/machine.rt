@@ -2,16 +2,17 @@
 
 ghost use Rattle.std.specs.Prelude.{◌≡◌, ◌++◌, [], ◌∷◌, true, false, is_some, IfOk, IfSome, OnOk};
 ghost use Rattle.cli_scripts.specs.Answers.{AreAnswers, handed_lines, nothing_told};
-ghost use Rattle.cli_scripts.specs.Desks.{DidAll, Keeps, handed_due, new_desk};
+ghost use Rattle.cli_scripts.specs.Desks.{DidAll, Keeps, handed_due, handed_screens, desk_of, new_desk};
 ghost use Rattle.tn_session.specs.TerminalTalk.{OfWaiting};
 ghost use Rattle.cli_scripts.specs.declared.came.Wants.TheVariants.{Line};
-ghost use Rattle.cli_scripts.specs.Machines.{HearsNext, AnswersSo, goes_on};
+ghost use Rattle.cli_scripts.specs.Machines.{HearsNext, AnswersSo, DrainsFirst, IsDrained, goes_on};
 
 use crate::answer::Answers;
 use crate::came::{Came, Need, Wants};
 use crate::desk::Desk;
 use crate::doing::{Doing, Step};
 use crate::host::Host;
+use crate::sent_screen::SentScreen;
 use crate::worker::Worker;
 use ds_screen::{PlaneCells, Screen};
 use script_lines::{Found, next_action};
@@ -49,6 +50,27 @@ impl Model for Machine {
 /// Said of a line of more than 65,536 bytes.
 const TOO_LONG: &[u8] = b"line too long";
 
+/// A terminal of this device, not connected, and whether its screens are to be judged.
+fn begun(
+    alloc: Global,
+    device: Device,
+    code_page: CodePage,
+    collects: bool,
+) -> Result<Machine, AllocError>
+    ensures { IfOk result (λ machine. machine ≡ record {
+      desk = desk_of device collects;
+      telling = nothing_told;
+      is_busy = false;
+    }) }
+{
+    let desk = Desk::new(alloc, device, collects)?;
+    Ok(Machine {
+        worker: Worker::new(alloc, desk, code_page),
+        job: None,
+        answers: Answers::new(alloc),
+    })
+}
+
 impl Machine {
     /// A terminal of this device, not connected.
     pub fn new(alloc: Global, device: Device, code_page: CodePage) -> Result<Machine, AllocError>
@@ -58,12 +80,19 @@ impl Machine {
           is_busy = false;
         }) }
     {
-        let desk = Desk::new(alloc, device)?;
-        Ok(Machine {
-            worker: Worker::new(alloc, desk, code_page),
-            job: None,
-            answers: Answers::new(alloc),
-        })
+        begun(alloc, device, code_page, false)
+    }
+
+    /// A terminal of this device, not connected, whose screens are to be judged: of each on which Enter, a PF or a PA key sends a copy is
+    /// kept, as it was before the key.
+    pub fn judged(alloc: Global, device: Device, code_page: CodePage) -> Result<Machine, AllocError>
+        ensures { IfOk result (λ machine. machine ≡ record {
+          desk = desk_of device true;
+          telling = nothing_told;
+          is_busy = false;
+        }) }
+    {
+        begun(alloc, device, code_page, true)
     }
 
     /// Begins a session with a host that was connected before the script's first line.
@@ -150,6 +179,21 @@ impl Machine {
         self.worker.desk.hand_out();
     }
 
+    /// The screens on which keys sent that are to be judged, and were not handed out.
+    pub fn sent_screens(&self) -> &[SentScreen]
+        ensures value { result.now ≡ self.now.desk.unjudged }
+        ensures did { DidAll self.now.desk }
+    {
+        self.worker.desk.sent_screens()
+    }
+
+    /// Notes that they were handed out.
+    pub fn hand_out_screens(&mut self)
+        ensures { self.new ≡ record self.old { desk = handed_screens self.old.desk } }
+    {
+        self.worker.desk.hand_out_screens();
+    }
+
     /// Why the last session failed, once.
     pub fn take_fault(&mut self) -> Option<RunFault>
         ensures { self.new ≡ self.old }
@@ -163,6 +207,9 @@ impl Machine {
         ensures gone { self.new.telling.gone ≡ self.old.telling.gone }
         ensures answered { IfOk result (λ wants.
             AnswersSo (goes_on self.old.is_busy came.entry) self.old wants self.new) }
+        // At a terminal that is connected a line begins with what has arrived of the host.
+        ensures drains { self.old.is_busy ≡ false → IfOk result (λ wants.
+            DrainsFirst came.entry self.old.desk wants self.new.desk) }
     {
         match self.job.take() {
             None => self.take_line(alloc, came),
@@ -180,6 +227,8 @@ impl Machine {
         ensures gone { self.new.telling.gone ≡ self.old.telling.gone }
         ensures answered { IfOk result (λ wants.
             AnswersSo (goes_on false came.entry) self.old wants self.new) }
+        ensures drains { IfOk result (λ wants.
+            DrainsFirst came.entry self.old.desk wants self.new.desk) }
     {
         match came {
             Came::Line(line) => self.begin(alloc, line),
@@ -197,10 +246,16 @@ impl Machine {
         ensures desk { Keeps self.old.desk self.new.desk }
         ensures gone { self.new.telling.gone ≡ self.old.telling.gone }
         ensures answered { IfOk result (λ wants. AnswersSo true self.old wants self.new) }
+        ensures drains { is_some self.old.desk.host ≡ true → IfOk result (λ wants.
+            IsDrained self.old.desk wants self.new.desk) }
     {
         if self.worker.desk.is_connected() {
-            let step = Step::Waits(Doing::Arriving, Need::Arrived);
-            self.go_on(alloc, step, line)
+            let rest = line.to_vec(alloc)?;
+            self.job = Some(Job {
+                rest,
+                doing: Doing::Arriving,
+            });
+            Ok(Wants::Need(Need::Arrived))
         } else {
             self.perform(alloc, line)
         }

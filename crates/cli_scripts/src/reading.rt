@@ -1,5 +1,6 @@
 //! Actions that read a screen.
 
+ghost use Rattle.cli_scripts.specs.Acts.{PressesNone};
 ghost use Rattle.cli_scripts.specs.Desks.{Keeps};
 
 use crate::answer::Saying;
@@ -32,7 +33,8 @@ pub(crate) fn read(
     arguments: &[Vec<u8>],
     saying: &mut Saying,
 ) -> Result<Outcome, AllocError>
-    ensures { Keeps desk.old desk.new }
+    ensures keeps { Keeps desk.old desk.new }
+    ensures deeds { PressesNone desk.old desk.new }
 {
     let outcome = saying.read(alloc, desk.screen(), code_page, reading, arguments)?;
     desk.note_read();

@@ -1,22 +1,24 @@
 //! The command `script`, over what it is worked over.
 
-ghost use Rattle.std.specs.Prelude.{◌≡◌, ◌++◌, ℕ, List, true, false, IfOk, OnOk};
+ghost use Rattle.std.specs.Prelude.{◌≡◌, ◌++◌, ℕ, List, [], true, false, IfOk, OnOk, OnErr};
 ghost use Rattle.std.specs.Bool.{OnTrue};
 ghost use Rattle.std.specs.Io.KnownBytes.{Appends};
 ghost use Rattle.cli_commands.specs.Streams.{AppendsFront};
-ghost use Rattle.cli_scripts.specs.Desks.{Keeps, DidAll};
+ghost use Rattle.cli_scripts.specs.Desks.{Keeps, DidAll, handed_screens};
+ghost use Rattle.cli_scripts.specs.Judged.{Concludes, HasFindings, IsOver, Judges, JudgesAll, judged_all, reports_of, end_of_report, judged_status};
 ghost use Rattle.cli_scripts.specs.Answers.{AreAnswers};
 ghost use Rattle.cli_scripts.specs.Machines.{AnswersSo};
-ghost use Rattle.cli_scripts.specs.Worlds.{Exchanged, Took, Tells, TellsAll, ended_status, is_need};
+ghost use Rattle.cli_scripts.specs.Worlds.{Exchanged, Took, Tells, TellsAll, is_need};
 ghost use Rattle.cli_scripts.specs.declared.run.Ended.TheVariants.{Over};
-ghost use Rattle.cli_commands.specs.declared.status.Status.TheVariants.{Done};
+ghost use Rattle.cli_commands.specs.declared.status.Status.TheVariants.{Done, Findings, NoMemory};
 
 use crate::came::{Came, Need, Wants};
 use crate::machine::Machine;
 use crate::script::{Asked, Script};
+use crate::sent_screen::SentScreen;
 use crate::world::{Heard, Patience, World};
 use cli_commands::{CommandError, GivesBytes, Status, TakesBytes};
-use script_checks::LayoutText;
+use script_checks::{Judge, LayoutText};
 use std::alloc::{AllocError, Global};
 
 /// How many bytes a read of the host gives at most.
@@ -31,6 +33,20 @@ enum Ended {
     Failed,
     /// A request for memory was refused.
     NoMemory,
+}
+
+/// How a script ended.
+#[derive(Clone, Copy, PartialEq, Eq)]
+struct Finish {
+    ended: Ended,
+    /// No write of the report failed.
+    is_told: bool,
+}
+
+fn finished(ended: Ended, is_told: bool) -> Finish
+    ensures { result ≡ record { ended = ended; is_told = is_told } }
+{
+    Finish { ended, is_told }
 }
 
 impl From<AllocError> for Ended {
@@ -221,7 +237,10 @@ fn send<W: World>(machine: &mut Machine, world: &mut W)
         × (machine.new.desk.heard ≡ machine.old.desk.heard)
         × (W.received world.new ≡ W.received world.old)
         × (machine.new.telling ≡ machine.old.telling)
-        × (machine.new.is_busy ≡ machine.old.is_busy) }
+        × (machine.new.is_busy ≡ machine.old.is_busy)
+        × (machine.new.desk.judged ≡ machine.old.desk.judged)
+        × (machine.new.desk.unjudged ≡ machine.old.desk.unjudged)
+        × (machine.new.desk.collects ≡ machine.old.desk.collects) }
 {
     if !machine.due().is_empty() {
         world.write(machine.due());
@@ -264,67 +283,152 @@ fn answer<O: TakesBytes>(machine: &mut Machine, output: &mut O) -> bool
     taken
 }
 
-/// Works the terminal by the lines of the script, up to its end.
-fn work<R: GivesBytes, O: TakesBytes, W: World>(
+/// Judges screens, and adds what is reported of them.
+fn judge_screens(
+    alloc: Global,
+    judge: &mut Judge,
+    screens: &[SentScreen],
+    text: &mut Vec<u8>,
+) -> Result<(), AllocError>
+    ensures after { OnOk result (judge.new ≡ judged_all judge.old screens.now) }
+    ensures report { OnOk result (text.new.items
+        ≡ text.old.items ++ reports_of judge.old screens.now) }
+{
+    let mut rest = screens;
+    'screens: while let Some((screen, others)) = rest.split_first() {
+        judge.judge(alloc, screen.screen(), screen.turns(), text)?;
+        rest = others;
+    }
+    Ok(())
+}
+
+/// Judges the screens on which keys sent, and reports them, unless a write of the report failed before: whether none has.
+fn inspect<P: TakesBytes>(
+    alloc: Global,
+    machine: &mut Machine,
+    judge: &mut Judge,
+    report: &mut P,
+    is_told: bool,
+) -> Result<bool, AllocError>
+    ensures machine { OnOk result
+        (machine.new ≡ record machine.old { desk = handed_screens machine.old.desk }) }
+    ensures same { OnErr result (machine.new ≡ machine.old) }
+    ensures after { OnOk result (judge.new ≡ judged_all judge.old machine.old.desk.unjudged) }
+    ensures before { IfOk result (λ told. told ≡ true → is_told ≡ true) }
+    ensures reported { IfOk result (λ told. OnTrue told (Appends (P.contents report.old)
+        (P.contents report.new) (reports_of judge.old machine.old.desk.unjudged))) }
+{
+    let mut text = Vec::new(alloc);
+    judge_screens(alloc, judge, machine.sent_screens(), &mut text)?;
+    machine.hand_out_screens();
+    Ok(is_told && (text.is_empty() || write_lines(report, &text)))
+}
+
+/// Ends the report, unless a write of it failed before: whether none has.
+fn end_report<P: TakesBytes>(
+    alloc: Global,
+    judge: &Judge,
+    report: &mut P,
+    is_told: bool,
+) -> Result<bool, AllocError>
+    ensures before { IfOk result (λ told. told ≡ true → is_told ≡ true) }
+    ensures reported { IfOk result (λ told. OnTrue told (Appends (P.contents report.old)
+        (P.contents report.new) (end_of_report judge.now))) }
+{
+    let mut text = Vec::new(alloc);
+    judge.finish(&mut text)?;
+    Ok(is_told && (text.is_empty() || write_lines(report, &text)))
+}
+
+/// Works the terminal by the lines of the script, up to its end: why it is over, and whether no write of the report failed.
+fn work<R: GivesBytes, O: TakesBytes, P: TakesBytes, W: World>(
     alloc: Global,
     machine: &mut Machine,
     script: &mut Script<'_, R>,
     output: &mut O,
     world: &mut W,
-) -> Ended
+    judge: &mut Judge,
+    report: &mut P,
+) -> Finish
     requires { machine.old.is_busy ≡ false }
     ensures exchanged { Exchanged machine.old.desk machine.new.desk (W.sent world.old)
         (W.sent world.new) (W.received world.old) (W.received world.new) }
     ensures told { Tells machine.old machine.new (O.contents output.old) (O.contents output.new) }
-    ensures whole { result ≡ Over → TellsAll machine.old machine.new (O.contents output.old)
-        (O.contents output.new) }
+    ensures whole { result.ended ≡ Over → TellsAll machine.old machine.new
+        (O.contents output.old) (O.contents output.new) }
+    ensures judged { result.ended ≡ Over → Judges machine.old.desk machine.new.desk judge.old
+        judge.new result.is_told (P.contents report.old) (P.contents report.new) }
+    ensures all { result.ended ≡ Over → machine.new.desk.unjudged ≡ [] }
 {
     let mut wants = Wants::Line;
+    let mut is_told = true;
     'turns: for _turn in 0..u64::MAX {
         let given = turn(alloc, machine, script, world, wants);
+        match inspect(alloc, machine, judge, report, is_told) {
+            Ok(told) => is_told = told,
+            Err(AllocError) => return finished(Ended::NoMemory, false),
+        }
         send(machine, world);
         match given {
             Ok(next) => wants = next,
-            Err(why) => return why,
+            Err(why) => return finished(why, is_told),
         }
         if !answer(machine, output) {
-            return Ended::Failed;
+            return finished(Ended::Failed, is_told);
         }
     }
-    Ended::Failed
+    finished(Ended::Failed, is_told)
 }
 
 /// The status of a script that is over.
-fn ended_status(ended: Ended) -> Status
-    ensures { result ≡ ended_status ended }
+fn judged_status(ended: Ended, is_told: bool, has_findings: bool) -> Status
+    ensures { result ≡ judged_status ended is_told has_findings }
 {
     match ended {
+        Ended::Over if !is_told => Status::Failed,
+        Ended::Over if has_findings => Status::Findings,
         Ended::Over => Status::Done,
         Ended::Failed => Status::Failed,
         Ended::NoMemory => Status::NoMemory,
     }
 }
 
-/// The status of a script that is over, and what its machine says of itself.
-fn ended_with(machine: &Machine, ended: Ended) -> Status
-    ensures status { result ≡ ended_status ended }
+/// Ends the report of a script that is over, but where memory was refused to it: its status.
+fn conclude<P: TakesBytes>(alloc: Global, judge: &Judge, report: &mut P, finish: Finish) -> Status
+    ensures over { IsOver result → Concludes judge.now result finish (P.contents report.old)
+        (P.contents report.new) }
+{
+    if matches!(finish.ended, Ended::NoMemory) {
+        return Status::NoMemory;
+    }
+    match end_report(alloc, judge, report, finish.is_told) {
+        Ok(told) => judged_status(finish.ended, told, judge.has_findings()),
+        Err(AllocError) => Status::NoMemory,
+    }
+}
+
+/// What a machine says of itself.
+fn attest(machine: &Machine)
     ensures did { DidAll machine.now.desk }
     ensures answers { AreAnswers machine.now.telling.outcomes
         (machine.now.telling.gone ++ machine.now.telling.lines) }
 {
     let _due = machine.due();
     let _lines = machine.lines();
-    ended_status(ended)
 }
 
-/// Works a terminal by the lines of a script: each is answered by its data lines, a status line, and `ok` or `error`. The status is `Done`
-/// where the script ended or was told to, `Failed` where a read of it or a write of an answer failed, or `NoMemory`.
-pub fn run_script<R: GivesBytes, O: TakesBytes, W: World>(
+/// Works a terminal by the lines of a script: each is answered by its data lines, a status line, and `ok` or `error`. Where the terminal's
+/// screens are to be judged, each on which a key sends is, before what the key sends goes to the host; the judge's report is written as it
+/// comes, and ended with the script. The status is `Done` where the script ended or was told to, or `Findings` where a screen had some;
+/// `Failed` where a read of the script, or a write of an answer or of the report failed; or `NoMemory`.
+pub fn run_script<R: GivesBytes, O: TakesBytes, P: TakesBytes, W: World>(
     alloc: Global,
     machine: &mut Machine,
     script: &mut R,
     output: &mut O,
     world: &mut W,
+    judge: &mut Judge,
+    report: &mut P,
 ) -> Status
     requires { machine.old.is_busy ≡ false }
     // What the hosts gave was heard, and what was due went to them, in order and once;
@@ -334,14 +438,20 @@ pub fn run_script<R: GivesBytes, O: TakesBytes, W: World>(
     ensures did { DidAll machine.new.desk }
     // Answers alone were written, each of data lines, one status line, and how the line ended.
     ensures told { Tells machine.old machine.new (O.contents output.old) (O.contents output.new) }
-    ensures whole { result ≡ Done → TellsAll machine.old machine.new (O.contents output.old)
+    ensures whole { IsOver result → TellsAll machine.old machine.new (O.contents output.old)
         (O.contents output.new) }
     ensures answers { AreAnswers machine.new.telling.outcomes
         (machine.new.telling.gone ++ machine.new.telling.lines) }
+    // Each screen on which a key sent was judged, and what the judge says of them was written.
+    ensures judged { IsOver result → JudgesAll machine.old.desk machine.new.desk judge.old
+        judge.new (P.contents report.old) (P.contents report.new) }
+    ensures findings { IsOver result → HasFindings result judge.new.has_findings }
 {
     let Ok(mut lines) = Script::new(alloc, script) else {
-        return ended_with(machine, Ended::NoMemory);
+        attest(machine);
+        return Status::NoMemory;
     };
-    let ended = work(alloc, machine, &mut lines, output, world);
-    ended_with(machine, ended)
+    let finish = work(alloc, machine, &mut lines, output, world, judge, report);
+    attest(machine);
+    conclude(alloc, judge, report, finish)
 }

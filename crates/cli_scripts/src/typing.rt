@@ -1,6 +1,9 @@
 //! Texts that are typed.
 
+ghost use Rattle.std.specs.Prelude.{◌≡◌, IfOk, OnOk};
+ghost use Rattle.cli_scripts.specs.Acts.{PressesOnly, pressed_key, function_key, access_key};
 ghost use Rattle.cli_scripts.specs.Desks.{Keeps};
+ghost use Rattle.cli_scripts.specs.Steps.{IsTypedLater};
 
 use crate::answer::Saying;
 use crate::came::Need;
@@ -24,7 +27,9 @@ enum Stop<'a> {
 }
 
 /// The PF key of a number, 1 to 24.
-fn pf_key(number: u8) -> Option<Key> {
+fn pf_key(number: u8) -> Option<Key>
+    ensures { result ≡ function_key number }
+{
     if 1 <= number && number <= 24 {
         Some(Key::Attention(Aid::pf(number)))
     } else {
@@ -33,7 +38,9 @@ fn pf_key(number: u8) -> Option<Key> {
 }
 
 /// The PA key of a number, 1 to 3.
-fn pa_key(number: u8) -> Option<Key> {
+fn pa_key(number: u8) -> Option<Key>
+    ensures { result ≡ access_key number }
+{
     if 1 <= number && number <= 3 {
         Some(Key::Attention(Aid::pa(number)))
     } else {
@@ -41,7 +48,9 @@ fn pa_key(number: u8) -> Option<Key> {
     }
 }
 
-fn pressed_key(key: StringKey) -> Option<Key> {
+fn pressed_key(key: StringKey) -> Option<Key>
+    ensures { result ≡ pressed_key key }
+{
     match key {
         StringKey::Tab => Some(Key::Tab),
         StringKey::BackTab => Some(Key::BackTab),
@@ -56,7 +65,8 @@ fn pressed_key(key: StringKey) -> Option<Key> {
 
 /// Presses a key of a text.
 fn press_string_key(alloc: Global, desk: &mut Desk, key: StringKey) -> Result<Pressed, AllocError>
-    ensures { Keeps desk.old desk.new }
+    ensures keeps { Keeps desk.old desk.new }
+    ensures deeds { OnOk result (PressesOnly desk.old desk.new) }
 {
     match pressed_key(key) {
         Some(key) => desk.press(alloc, &key),
@@ -71,7 +81,8 @@ fn type_character(
     fills: bool,
     code: u8,
 ) -> Result<Pressed, AllocError>
-    ensures { Keeps desk.old desk.new }
+    ensures keeps { Keeps desk.old desk.new }
+    ensures deeds { OnOk result (PressesOnly desk.old desk.new) }
 {
     let runs = typed_runs(alloc, desk.screen(), fills, code)?;
     if desk.press_runs(alloc, &runs)? {
@@ -89,7 +100,8 @@ fn type_piece(
     piece: Piece,
     saying: &mut Saying,
 ) -> Result<Pressed, AllocError>
-    ensures { Keeps desk.old desk.new }
+    ensures keeps { Keeps desk.old desk.new }
+    ensures deeds { OnOk result (PressesOnly desk.old desk.new) }
 {
     match piece {
         Piece::Character(code) => type_character(alloc, desk, fills, code),
@@ -111,7 +123,8 @@ fn type_pieces<'a>(
     text: &'a [u8],
     saying: &mut Saying,
 ) -> Result<Stop<'a>, AllocError>
-    ensures { Keeps desk.old desk.new }
+    ensures keeps { Keeps desk.old desk.new }
+    ensures deeds { OnOk result (PressesOnly desk.old desk.new) }
 {
     let mut rest = text;
     'pieces: while let Some((piece, after)) = next_piece(code_page, rest) {
@@ -138,7 +151,8 @@ fn column_of(desk: &Desk) -> u32 {
 
 /// Leads the cursor to the column at which it began, where it stands before that.
 fn return_to(alloc: Global, desk: &mut Desk, column: u32) -> Result<Step, AllocError>
-    ensures { Keeps desk.old desk.new }
+    ensures keeps { Keeps desk.old desk.new }
+    ensures deeds { OnOk result (PressesOnly desk.old desk.new) }
 {
     if let Some(run) = margin_run(desk.screen(), column) {
         desk.press_runs(alloc, &[run])?;
@@ -147,7 +161,9 @@ fn return_to(alloc: Global, desk: &mut Desk, column: u32) -> Result<Step, AllocE
 }
 
 /// A text that goes on after a key that sent.
-fn typed_later(alloc: Global, rest: &[u8]) -> Result<Step, AllocError> {
+fn typed_later(alloc: Global, rest: &[u8]) -> Result<Step, AllocError>
+    ensures { IfOk result (λ step. IsTypedLater rest.now step) }
+{
     let typing = Typing {
         text: rest.to_vec(alloc)?,
         after_send: true,
@@ -164,7 +180,8 @@ fn type_free(
     text: &[u8],
     saying: &mut Saying,
 ) -> Result<Step, AllocError>
-    ensures { Keeps desk.old desk.new }
+    ensures keeps { Keeps desk.old desk.new }
+    ensures deeds { OnOk result (PressesOnly desk.old desk.new) }
 {
     let column = column_of(desk);
     match type_pieces(alloc, desk, code_page, fills, text, saying)? {
@@ -198,7 +215,8 @@ pub(crate) fn type_text(
     typing: Typing,
     saying: &mut Saying,
 ) -> Result<Step, AllocError>
-    ensures { Keeps desk.old desk.new }
+    ensures keeps { Keeps desk.old desk.new }
+    ensures deeds { OnOk result (PressesOnly desk.old desk.new) }
 {
     if !desk.is_connected() {
         return type_unconnected(alloc, &typing, saying);

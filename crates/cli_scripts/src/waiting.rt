@@ -1,5 +1,7 @@
 //! Wait.
 
+ghost use Rattle.cli_scripts.specs.Waits.{HoldsSo};
+
 use crate::answer::Saying;
 use crate::came::Need;
 use crate::desk::Desk;
@@ -17,7 +19,9 @@ fn failed(alloc: Global, saying: &mut Saying, text: &[u8]) -> Result<Step, Alloc
 const DONE: Step = Step::Ended(Outcome::Done);
 
 /// Whether what is waited for is so, at a terminal that is connected.
-fn holds(desk: &Desk, what: Awaited) -> bool {
+fn holds(desk: &Desk, what: Awaited) -> bool
+    ensures { HoldsSo what desk.now result }
+{
     match what {
         Awaited::InputField => desk.takes_input(),
         Awaited::Mode3270 => desk.is_ready(),

@@ -1,6 +1,8 @@
 //! The actions of a script at its terminal.
 
-ghost use Rattle.std.specs.Prelude.{◌≡◌};
+ghost use Rattle.std.specs.Prelude.{◌≡◌, map, Ok, OnOk};
+ghost use Rattle.script_keys.specs.Actions.{read_action, other};
+ghost use Rattle.cli_scripts.specs.Acts.{Acts, PressesNone, PressesOnly};
 ghost use Rattle.cli_scripts.specs.Desks.{Keeps};
 ghost use Rattle.cli_scripts.specs.Machines.{HearsCame};
 
@@ -52,7 +54,9 @@ impl Worker {
         name: &[u8],
         arguments: &[Vec<u8>],
     ) -> Result<Step, AllocError>
-        ensures { Keeps self.old.desk self.new.desk }
+        ensures keeps { Keeps self.old.desk self.new.desk }
+        ensures acts { OnOk result (Acts (read_action name.now
+            (map (λ argument. argument.items) arguments.now)) self.old.desk self.new.desk) }
     {
         match read_action(name, arguments) {
             Ok(Action::Keys(keys)) => press(alloc, &mut self.desk, &keys, &mut self.saying),
@@ -78,7 +82,9 @@ impl Worker {
         name: Name,
         arguments: &[Vec<u8>],
     ) -> Result<Step, AllocError>
-        ensures { Keeps self.old.desk self.new.desk }
+        ensures keeps { Keeps self.old.desk self.new.desk }
+        ensures acts { OnOk result (Acts (Ok (other name
+            (map (λ argument. argument.items) arguments.now))) self.old.desk self.new.desk) }
     {
         match name {
             Name::String => self.type_arguments(alloc, arguments),
@@ -95,7 +101,8 @@ impl Worker {
 
     /// Types what the arguments of String say, put together.
     fn type_arguments(&mut self, alloc: Global, arguments: &[Vec<u8>]) -> Result<Step, AllocError>
-        ensures { Keeps self.old.desk self.new.desk }
+        ensures keeps { Keeps self.old.desk self.new.desk }
+        ensures deeds { OnOk result (PressesOnly self.old.desk self.new.desk) }
     {
         let mut text = Vec::new(alloc);
         'arguments: for argument in arguments {
@@ -109,7 +116,8 @@ impl Worker {
     }
 
     fn type_on(&mut self, alloc: Global, typing: Typing) -> Result<Step, AllocError>
-        ensures { Keeps self.old.desk self.new.desk }
+        ensures keeps { Keeps self.old.desk self.new.desk }
+        ensures deeds { OnOk result (PressesOnly self.old.desk self.new.desk) }
     {
         let fills = self.settings.blank_fill;
         type_text(
@@ -124,7 +132,8 @@ impl Worker {
 
     /// Types the characters that the arguments of Key say, in turn.
     fn type_key(&mut self, alloc: Global, arguments: &[Vec<u8>]) -> Result<Step, AllocError>
-        ensures { Keeps self.old.desk self.new.desk }
+        ensures keeps { Keeps self.old.desk self.new.desk }
+        ensures deeds { OnOk result (PressesOnly self.old.desk self.new.desk) }
     {
         let [argument] = arguments else {
             return Ok(Step::Ended(Outcome::Done));
@@ -141,7 +150,8 @@ impl Worker {
 
     /// Says that there is no such key.
     fn refuse_key(&mut self, alloc: Global, argument: &[u8]) -> Result<Step, AllocError>
-        ensures { Keeps self.old.desk self.new.desk }
+        ensures keeps { Keeps self.old.desk self.new.desk }
+        ensures deeds { PressesNone self.old.desk self.new.desk }
     {
         let mut words = Vec::new(alloc);
         words.extend_from_slice(b"Key(): Nonexistent or invalid name:")?;
@@ -153,7 +163,8 @@ impl Worker {
     }
 
     fn begin_wait(&mut self, alloc: Global, arguments: &[Vec<u8>]) -> Result<Step, AllocError>
-        ensures { Keeps self.old.desk self.new.desk }
+        ensures keeps { Keeps self.old.desk self.new.desk }
+        ensures deeds { PressesNone self.old.desk self.new.desk }
     {
         match read_wait(arguments) {
             Ok(asked) => wait(alloc, &self.desk, asked, &mut self.saying),
@@ -163,7 +174,8 @@ impl Worker {
 
     /// Prints the screen.
     fn print(&mut self, alloc: Global, arguments: &[Vec<u8>]) -> Result<Step, AllocError>
-        ensures { Keeps self.old.desk self.new.desk }
+        ensures keeps { Keeps self.old.desk self.new.desk }
+        ensures deeds { PressesNone self.old.desk self.new.desk }
     {
         match printing_of(arguments) {
             Printing::Lines => {
@@ -182,7 +194,8 @@ impl Worker {
         name: Name,
         arguments: &[Vec<u8>],
     ) -> Result<Outcome, AllocError>
-        ensures { Keeps self.old.desk self.new.desk }
+        ensures keeps { Keeps self.old.desk self.new.desk }
+        ensures deeds { PressesNone self.old.desk self.new.desk }
     {
         if let Some(reading) = reading_named(name) {
             return self.read(alloc, reading, arguments);
@@ -230,7 +243,8 @@ impl Worker {
         reading: Reading,
         arguments: &[Vec<u8>],
     ) -> Result<Outcome, AllocError>
-        ensures { Keeps self.old.desk self.new.desk }
+        ensures keeps { Keeps self.old.desk self.new.desk }
+        ensures deeds { PressesNone self.old.desk self.new.desk }
     {
         let page = self.code_page;
         read(
@@ -249,7 +263,8 @@ impl Worker {
         asked: Query,
         arguments: &[Vec<u8>],
     ) -> Result<Outcome, AllocError>
-        ensures { Keeps self.old.desk self.new.desk }
+        ensures keeps { Keeps self.old.desk self.new.desk }
+        ensures deeds { PressesNone self.old.desk self.new.desk }
     {
         self.saying.query(alloc, &self.desk, asked, arguments)
     }

@@ -2,10 +2,11 @@
 
 ghost use Rattle.std.specs.Prelude.{◌≡◌};
 ghost use Rattle.clap.specs.Words.{found_of, rows_of};
-ghost use Rattle.cli_words.specs.Script.{IsCodePage, IsScript};
+ghost use Rattle.cli_words.specs.Script.{IsCodePage, IsReportFormat, IsScript};
 
 use crate::asked::{path_in, text_in};
 use clap::ArgMatches;
+use script_checks::ReportFormat;
 use script_screens::CodePage;
 
 /// What is asked of `script`.
@@ -15,6 +16,11 @@ pub struct ScriptAsked<'a> {
     pub host: Option<&'a str>,
     pub device: &'a str,
     pub code_page: CodePage,
+    /// The folder of the layouts by which screens are judged.
+    pub layouts: Option<&'a str>,
+    /// The file of the report.
+    pub report: Option<&'a str>,
+    pub report_format: ReportFormat,
 }
 
 fn code_page_in(words: &ArgMatches<'_>) -> CodePage
@@ -26,6 +32,16 @@ fn code_page_in(words: &ArgMatches<'_>) -> CodePage
     }
 }
 
+fn report_format_in(words: &ArgMatches<'_>) -> ReportFormat
+    ensures { IsReportFormat (rows_of (found_of words.now)) result }
+{
+    match path_in(words, "report-format") {
+        Some("json") => ReportFormat::Json,
+        Some("junit") => ReportFormat::Junit,
+        _ => ReportFormat::Text,
+    }
+}
+
 /// What the words of `script` ask for.
 pub(crate) fn script_of<'a>(words: &ArgMatches<'a>) -> ScriptAsked<'a>
     ensures { IsScript (rows_of (found_of words.now)) result }
@@ -34,5 +50,8 @@ pub(crate) fn script_of<'a>(words: &ArgMatches<'a>) -> ScriptAsked<'a>
         host: path_in(words, "HOST"),
         device: text_in(words, "device"),
         code_page: code_page_in(words),
+        layouts: path_in(words, "layouts"),
+        report: path_in(words, "report"),
+        report_format: report_format_in(words),
     }
 }

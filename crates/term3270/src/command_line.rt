@@ -20,6 +20,8 @@ const SUITE_FORMS: &[&str] = &["text", "json", "junit", "sarif"];
 
 const CODE_PAGES: &[&str] = &["bracket", "037"];
 
+const REPORT_FORMS: &[&str] = &["text", "json", "junit"];
+
 const DEVICE_HELP: &str =
     "The terminal: IBM-3278-M or IBM-3279-M, M from 2 to 5, and -E where it is extended";
 
@@ -54,6 +56,8 @@ enum Takes<'a> {
     Optional,
     /// A value of this name, which need not be given.
     Value(&'a str),
+    /// A value of this name, one of these words, which may be given where an option of this name is.
+    WordWith(&'a str, &'a [&'a str], &'a str),
     /// The path of a file, where none of these is given.
     FileAlone(&'a [&'a str]),
     /// A value of this name, which may be given where an option of this name is, and none of these.
@@ -492,6 +496,21 @@ const SESSIONS: &[Described<'_>] = &[
                 takes: Takes::OneOf("PAGE", CODE_PAGES, "bracket"),
                 help: "The host's characters",
             },
+            Argument {
+                name: "layouts",
+                takes: Takes::Value("DIR"),
+                help: "Judge each screen on which a key sends, by the layout of this folder that it matches",
+            },
+            Argument {
+                name: "report",
+                takes: Takes::ValueWith("FILE", "layouts", &[]),
+                help: "With --layouts: the file of the report, in place of standard error",
+            },
+            Argument {
+                name: "report-format",
+                takes: Takes::WordWith("FORM", REPORT_FORMS, "layouts"),
+                help: "With --layouts: how the screens are reported",
+            },
         ],
     },
     Described {
@@ -610,6 +629,9 @@ fn bare<'a>(alloc: Global, name: &'a str, takes: Takes<'a>) -> Result<Arg<'a>, A
         Takes::Count(value) => Ok(count(alloc, name, value)),
         Takes::Optional => Ok(Arg::new(alloc, name)),
         Takes::Value(value) => Ok(option(alloc, name, value)),
+        Takes::WordWith(value, words, other) => option(alloc, name, value)
+            .value_parser(words)
+            .requires_arg(other),
         Takes::FileAlone(others) => alone(option(alloc, name, "FILE"), others),
         Takes::ValueWith(value, other, others) => {
             alone(option(alloc, name, value).requires_arg(other)?, others)

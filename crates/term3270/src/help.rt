@@ -256,11 +256,18 @@ pub(crate) const SCRIPT: &str = "Input:
 Output:
   for each line its data lines, a status line, and 'ok' or 'error'.
 
+Report:
+  With --layouts each screen on which Enter, a PF or a PA key sends is judged before it does, as check and talk do, by
+  the layout of the folder that it matches: its size, and a field at each entry. The report has a line for each screen,
+  'screen K NAME.toml yes', 'screen K NAME.toml no' and its findings, or 'screen K none'; json is an object a line,
+  junit the XML that GitLab, Jenkins and GitHub's reporters read.
+
 Example:
   $ printf 'Connect(localhost:3270)\nString(ANNA)\nAscii(3,19,8)\n' | term3270 script
 
 Statuses:
-  0 done, 2 a fault of the command line, 3 a read or a write failed, 4 out of memory";
+  0 done, 1 a screen had findings, 2 a fault of the command line, or a layout is refused, 3 a layout can't be read, or a read
+  or a write failed, 4 out of memory";
 
 pub(crate) const TAP: &str = "Output:
   '# terminal K connected' and '# terminal K ended'; between them what 'records --turns' prints of the host's

@@ -12,6 +12,7 @@ mod prompt;
 mod reasons;
 mod reports;
 mod script;
+mod script_layouts;
 mod sessions;
 mod stream;
 mod suite;

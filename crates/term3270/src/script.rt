@@ -1,14 +1,16 @@
 //! The command `script`: over standard streams, a line over TCP, and files.
 
-ghost use Rattle.std.specs.Prelude.{◌≡◌, ◌++◌, false};
+ghost use Rattle.std.specs.Prelude.{◌≡◌, ◌++◌, false, IfOk};
 ghost use Rattle.cli_scripts.specs.Worlds.{Gives};
 
 use crate::manners::{bare_host, tell_unknown_device};
+use crate::script_layouts::{MOST_BYTES, layouts_of, report_at};
 use crate::tcp::Place;
 use cli_commands::{Status, Watched, failure};
 use cli_scripts::{Heard, Machine, Patience, World, run_script};
 use cli_words::ScriptAsked;
 use ds_screen::{PlaneCells, Screen};
+use script_checks::{Judge, Layouts};
 use script_requests::{Address, push_address_fault, read_address};
 use script_screens::{CodePage, Reading, push_reading};
 use std::alloc::{AllocError, Global};
@@ -20,9 +22,6 @@ use tn_session::{Device, History, RunFault};
 
 /// The port of a host that names none (RFC 854).
 const TELNET: u16 = 23;
-
-/// How many bytes a layout's file has at most; what comes after them is not read, so that it is too long.
-const MOST_BYTES: u64 = 16_777_217;
 
 /// How a socket waits.
 #[derive(Clone, Copy, PartialEq, Eq)]
@@ -368,22 +367,80 @@ fn refuse_address(rt: &HostRuntime, text: &str) -> Status {
     Status::BadInput
 }
 
-/// Works a terminal by the lines of standard input.
-fn run_on(rt: &HostRuntime, world: &mut Surroundings<'_>, machine: &mut Machine) -> Status
+/// Works a terminal by the lines of standard input, and reports its screens.
+fn run_on<P: Write + Drop>(
+    rt: &HostRuntime,
+    world: &mut Surroundings<'_>,
+    machine: &mut Machine,
+    judge: &mut Judge,
+    report: P,
+) -> Status
     requires { machine.old.is_busy ≡ false }
 {
     let mut input = Watched::new(rt.stdin());
     let mut output = Watched::new(rt.stdout());
-    run_script(rt.alloc(), machine, &mut input, &mut output, world)
+    let mut report = Watched::new(report);
+    run_script(
+        rt.alloc(),
+        machine,
+        &mut input,
+        &mut output,
+        world,
+        judge,
+        &mut report,
+    )
 }
 
-/// `script`: a terminal that is worked by the lines of standard input.
-pub(crate) fn script(rt: &HostRuntime, asked: ScriptAsked<'_>) -> Status {
-    let Some(device) = Device::from_name(asked.device.as_bytes()) else {
-        tell_unknown_device(rt);
-        return Status::BadInput;
+/// The judge of the screens: by the layouts of a folder, where one is named.
+fn judge_of(rt: &HostRuntime, asked: ScriptAsked<'_>, device: Device) -> Result<Judge, Status> {
+    let layouts = match asked.layouts {
+        Some(folder) => layouts_of(rt, folder, device)?,
+        None => Layouts::new(rt.alloc(), device.geometry()),
     };
-    let Ok(mut machine) = Machine::new(rt.alloc(), device, asked.code_page) else {
+    Ok(Judge::new(rt.alloc(), layouts, asked.report_format))
+}
+
+/// The terminal, whose screens are judged where there are layouts.
+fn machine_of(alloc: Global, asked: ScriptAsked<'_>, device: Device) -> Result<Machine, AllocError>
+    ensures { IfOk result (λ machine. machine.is_busy ≡ false) }
+{
+    if asked.layouts.is_some() {
+        Machine::judged(alloc, device, asked.code_page)
+    } else {
+        Machine::new(alloc, device, asked.code_page)
+    }
+}
+
+/// Connects to the host that is named, if one is: the status where it has no address.
+fn connect_named(
+    rt: &HostRuntime,
+    world: &mut Surroundings<'_>,
+    machine: &mut Machine,
+    host: Option<&str>,
+) -> Result<(), Status>
+    ensures { machine.new.is_busy ≡ machine.old.is_busy }
+{
+    let Some(text) = host else {
+        return Ok(());
+    };
+    let Ok(address) = read_address(text.as_bytes()) else {
+        return Err(refuse_address(rt, text));
+    };
+    match connect_first(rt, world, machine, address) {
+        Ok(()) => Ok(()),
+        Err(AllocError) => Err(Status::NoMemory),
+    }
+}
+
+/// Works a terminal by the lines of standard input, after its host was connected.
+fn run_to<P: Write + Drop>(
+    rt: &HostRuntime,
+    asked: ScriptAsked<'_>,
+    device: Device,
+    judge: &mut Judge,
+    report: P,
+) -> Status {
+    let Ok(mut machine) = machine_of(rt.alloc(), asked, device) else {
         return Status::NoMemory;
     };
     let mut world = Surroundings {
@@ -394,13 +451,27 @@ pub(crate) fn script(rt: &HostRuntime, asked: ScriptAsked<'_>) -> Status {
         received: History::new(),
         sent: History::new(),
     };
-    if let Some(text) = asked.host {
-        let Ok(address) = read_address(text.as_bytes()) else {
-            return refuse_address(rt, text);
-        };
-        if connect_first(rt, &mut world, &mut machine, address).is_err() {
-            return Status::NoMemory;
-        }
+    match connect_named(rt, &mut world, &mut machine, asked.host) {
+        Ok(()) => run_on(rt, &mut world, &mut machine, judge, report),
+        Err(status) => status,
     }
-    run_on(rt, &mut world, &mut machine)
+}
+
+/// `script`: a terminal that is worked by the lines of standard input.
+pub(crate) fn script(rt: &HostRuntime, asked: ScriptAsked<'_>) -> Status {
+    let Some(device) = Device::from_name(asked.device.as_bytes()) else {
+        tell_unknown_device(rt);
+        return Status::BadInput;
+    };
+    let mut judge = match judge_of(rt, asked, device) {
+        Ok(judge) => judge,
+        Err(status) => return status,
+    };
+    let Some(path) = asked.report else {
+        return run_to(rt, asked, device, &mut judge, rt.stderr());
+    };
+    match report_at(rt, path) {
+        Ok(report) => run_to(rt, asked, device, &mut judge, report),
+        Err(status) => status,
+    }
 }

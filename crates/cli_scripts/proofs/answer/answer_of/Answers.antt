@@ -1,4 +1,4 @@
-use Rattle.std.proofs.Common.{◌≡◌, ◌++◌, [], sym, ap, ◌∙◌, subst}
+use Rattle.std.proofs.Common.{◌++◌, [], ap, ◌∙◌}
 use Rattle.script_screens.specs.declared.code_page.CodePage.TheVariants.{Bracket}
 use Rattle.script_screens.specs.declared.snap.Kept.TheVariants.{Status}
 use Rattle.script_screens.specs.Status.{link_seen, status_words}

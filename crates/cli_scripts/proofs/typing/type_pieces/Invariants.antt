@@ -1,9 +1,14 @@
 use Rattle.std.proofs.Common.{length}
+use Rattle.cli_scripts.specs.Acts.{PressesOnly}
 use Rattle.cli_scripts.specs.Desks.{Keeps}
 use Rattle.cli_scripts.proofs.typing.type_pieces.Given as goal
 
 abbrev pub invariant-pieces : goal.invariant-pieces
-invariant-pieces l = Keeps l.initial.desk l.desk
+invariant-pieces l =
+    record {
+      keeps : Keeps l.initial.desk l.desk;
+      deeds : PressesOnly l.initial.desk l.desk;
+    }
 
 abbrev pub decreases-pieces : goal.decreases-pieces
 decreases-pieces l = length l.rest

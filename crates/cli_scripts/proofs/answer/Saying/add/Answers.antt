@@ -1,4 +1,4 @@
-use Rattle.std.proofs.Common.{◌≡◌, ◌++◌, ℕ, Bool, true, false, List, Result, Ok, Err, sym, subst, is_ok, if◌then◌else◌}
+use Rattle.std.proofs.Common.{◌≡◌, ◌++◌, ℕ, Bool, true, false, List, sym, subst, is_ok, if◌then◌else◌}
 use Rattle.cli_scripts.specs.Answers.{AreData}
 use Rattle.cli_scripts.proofs.DataLines.{more_data}
 use Rattle.cli_scripts.proofs.answer.Saying.add.Goals as goal

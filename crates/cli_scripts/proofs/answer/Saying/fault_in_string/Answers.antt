@@ -1,4 +1,4 @@
-use Rattle.std.proofs.Common.{◌≡◌, ◌++◌, [], sym, ap, ◌∙◌, subst, map}
+use Rattle.std.proofs.Common.{◌++◌, sym, ap, ◌∙◌, subst}
 use Rattle.cli_scripts.specs.Answers.{AreData}
 use Rattle.std.proofs.Common.{codes}
 use Rattle.script_screens.specs.Lines.{data_line}

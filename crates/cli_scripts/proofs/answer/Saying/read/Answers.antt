@@ -1,4 +1,4 @@
-use Rattle.std.proofs.Common.{◌≡◌, ◌++◌, [], sym, ap, ◌∙◌, subst, map}
+use Rattle.std.proofs.Common.{sym, subst, map}
 use Rattle.cli_scripts.specs.Answers.{AreData}
 use Rattle.script_screens.specs.Reading.{said_of_reading}
 use Rattle.cli_scripts.proofs.DataLines.{said_data}

@@ -1,4 +1,4 @@
-use Rattle.std.proofs.Common.{◌≡◌, ◌++◌, [], sym, ap, ◌∙◌, subst, map}
+use Rattle.std.proofs.Common.{sym, subst, map}
 use Rattle.cli_scripts.specs.Answers.{AreData}
 use Rattle.script_screens.specs.Laws.{LinkIsWhole}
 use Rattle.script_screens.specs.Snap.{said_of_kept}

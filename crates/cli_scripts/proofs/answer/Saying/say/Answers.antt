@@ -1,4 +1,4 @@
-use Rattle.std.proofs.Common.{◌≡◌, ◌++◌, [], sym, ap, ◌∙◌, subst}
+use Rattle.std.proofs.Common.{◌++◌, sym, ap, ◌∙◌, subst}
 use Rattle.cli_scripts.specs.Answers.{AreData, printed_text}
 use Rattle.script_screens.specs.Lines.{data_line}
 use Rattle.cli_scripts.proofs.DataLines.{printed_data}

@@ -1,34 +1,49 @@
-use Rattle.std.proofs.Common.{◌≡◌, ◌++◌, ℕ, List, [], refl, sym, ap, ◌∙◌, subst}
+use Rattle.std.proofs.Common.{◌≡◌, ◌++◌, ℕ, Bool, true, false, List, [], refl, sym, ap, ◌∙◌, subst}
 use Rattle.tn_cores.specs.declared.device.Device.{Device}
 use Rattle.tn_session.specs.declared.terminal_state.TerminalState.{TerminalState}
 use Rattle.tn_session.specs.Talk.{Talk}
 use Rattle.cli_scripts.specs.declared.deed.Deed.{Deed}
-use Rattle.cli_scripts.specs.Deeds.{Did, new_talk}
-use Rattle.cli_scripts.specs.Desks.{Worked, new_desk}
+use Rattle.cli_scripts.specs.Deeds.{Did, DidSo, new_talk}
+use Rattle.cli_scripts.specs.Desks.{desk_of}
+use Rattle.cli_scripts.specs.SentOn.{SentOn, collected}
 use Rattle.cli_scripts.proofs.desk.Desk.new.Goals as goal
 
-nothing : (device : Device) (deeds : List Deed) (heard gone due : List ℕ) (talk : Talk TerminalState) → deeds ≡ [] → heard ≡ [] → gone ≡ [] → due ≡ []
-    → talk ≡ new_talk device → Did device deeds heard (gone ++ due) (new_talk device) talk
-nothing device deeds heard gone due talk none unheard ungone undue is =
-    subst (λ (ds : List Deed). Did device ds heard (gone ++ due) (new_talk device) talk) (sym none)
-    (unheard, ap (λ z. z ++ due) ungone ∙ undue, is)
+none_collected : (collects : Bool) (judged unjudged : List SentOn) → judged ≡ [] → unjudged ≡ [] → judged ++ unjudged ≡ collected collects []
+none_collected true judged unjudged none no_more = ap (λ z. z ++ unjudged) none ∙ no_more
+none_collected false judged unjudged none no_more = ap (λ z. z ++ unjudged) none ∙ no_more
+
+nothing : (device : Device) (deeds : List Deed) (heard gone due : List ℕ) (talk : Talk TerminalState) (collects : Bool) (judged unjudged : List SentOn)
+    → deeds ≡ [] → heard ≡ [] → gone ≡ [] → due ≡ [] → talk ≡ new_talk device → judged ≡ [] → unjudged ≡ []
+    → DidSo device deeds heard (gone ++ due) talk collects (judged ++ unjudged)
+nothing device deeds heard gone due talk collects judged unjudged none unheard ungone undue is unseen unkept = (
+  [],
+  subst (λ (ds : List Deed). Did device ds heard (gone ++ due) [] (new_talk device) talk) (sym none)
+      (unheard, ap (λ z. z ++ due) ungone ∙ undue, refl, is),
+  none_collected collects judged unjudged unseen unkept,
+)
 
 pub invariant_of-result : goal.invariant_of-result
 invariant_of-result c =
-    nothing c.args.device c.new-2.result.items c.new-3.result.items c.new-4.result.items c.new.result.items c.in_ok-new_session.field-0.talk c.new-2.ensures
-    c.new-3.ensures c.new-4.ensures c.new.ensures.items (ap (λ w. w.talk) c.in_ok-new_session.ensures)
+    nothing c.args.device c.new-2.result.items c.new-3.result.items c.new-4.result.items c.new.result.items c.in_ok-new_session.field-0.talk
+    c.args.collects c.new-5.result.items c.new-6.result.items c.new-2.ensures c.new-3.ensures c.new-4.ensures c.new.ensures.items
+    (ap (λ w. w.talk) c.in_ok-new_session.ensures) c.new-5.ensures c.new-6.ensures.items
 
 -- each part of a desk
-parts : (device : Device) (deeds : List Deed) (heard gone due : List ℕ) (talk : Talk TerminalState) → deeds ≡ [] → heard ≡ [] → gone ≡ [] → due ≡ []
-    → talk ≡ new_talk device
-    → record (new_desk device) { talk = talk; deeds = deeds; heard = heard; gone = gone; due = due } ≡ new_desk device
-parts device deeds heard gone due talk none unheard ungone undue is =
-    ap (λ z. record (new_desk device) { talk = z; deeds = deeds; heard = heard; gone = gone; due = due }) is
-    ∙ ap (λ z. record (new_desk device) { deeds = z; heard = heard; gone = gone; due = due }) none
-    ∙ ap (λ z. record (new_desk device) { heard = z; gone = gone; due = due }) unheard
-    ∙ ap (λ z. record (new_desk device) { gone = z; due = due }) ungone ∙ ap (λ z. record (new_desk device) { due = z }) undue
+parts : (device : Device) (collects : Bool) (deeds : List Deed) (heard gone due : List ℕ) (talk : Talk TerminalState) (judged unjudged : List SentOn)
+    → deeds ≡ [] → heard ≡ [] → gone ≡ [] → due ≡ [] → talk ≡ new_talk device → judged ≡ [] → unjudged ≡ []
+    → record (desk_of device collects) { talk = talk; deeds = deeds; heard = heard; gone = gone; due = due; judged = judged; unjudged = unjudged }
+    ≡ desk_of device collects
+parts device collects deeds heard gone due talk judged unjudged none unheard ungone undue is unseen unkept =
+    ap (λ z. record (desk_of device collects) { talk = z; deeds = deeds; heard = heard; gone = gone; due = due; judged = judged; unjudged = unjudged }) is
+    ∙ ap (λ z. record (desk_of device collects) { deeds = z; heard = heard; gone = gone; due = due; judged = judged; unjudged = unjudged }) none
+    ∙ ap (λ z. record (desk_of device collects) { heard = z; gone = gone; due = due; judged = judged; unjudged = unjudged }) unheard
+    ∙ ap (λ z. record (desk_of device collects) { gone = z; due = due; judged = judged; unjudged = unjudged }) ungone
+    ∙ ap (λ z. record (desk_of device collects) { due = z; judged = judged; unjudged = unjudged }) undue
+    ∙ ap (λ z. record (desk_of device collects) { judged = z; unjudged = unjudged }) unseen
+    ∙ ap (λ z. record (desk_of device collects) { unjudged = z }) unkept
 
 pub returns : goal.returns
 returns c =
-    parts c.args.device c.new-2.result.items c.new-3.result.items c.new-4.result.items c.new.result.items c.in_ok-new_session.field-0.talk c.new-2.ensures
-    c.new-3.ensures c.new-4.ensures c.new.ensures.items (ap (λ w. w.talk) c.in_ok-new_session.ensures)
+    parts c.args.device c.args.collects c.new-2.result.items c.new-3.result.items c.new-4.result.items c.new.result.items
+    c.in_ok-new_session.field-0.talk c.new-5.result.items c.new-6.result.items c.new-2.ensures c.new-3.ensures c.new-4.ensures c.new.ensures.items
+    (ap (λ w. w.talk) c.in_ok-new_session.ensures) c.new-5.ensures c.new-6.ensures.items

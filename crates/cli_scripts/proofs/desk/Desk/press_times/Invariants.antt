@@ -1,5 +1,6 @@
 use Rattle.std.proofs.Common.{◌≡◌, ◌++◌, replicate}
 use Rattle.cli_scripts.specs.declared.deed.Deed.TheVariants.{Pressed}
+use Rattle.cli_scripts.specs.Desks.{KeepsScreens}
 use Rattle.cli_scripts.proofs.desk.Desk.press_times.Given as goal
 
 abbrev pub invariant-times : goal.invariant-times
@@ -8,5 +9,6 @@ invariant-times l =
       deeds : l.self.deeds ≡ l.initial.self.deeds ++ replicate l._time (Pressed l.key);
       heard : l.self.heard ≡ l.initial.self.heard;
       gone : l.self.gone ≡ l.initial.self.gone;
+      screens : KeepsScreens l.initial.self l.self;
       host : l.self.host ≡ l.initial.self.host;
     }

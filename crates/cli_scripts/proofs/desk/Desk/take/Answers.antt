@@ -1,13 +1,12 @@
-use Rattle.std.proofs.Common.{length, refl}
+use Rattle.std.proofs.Common.{◌++◌, length, refl}
 use Rattle.cli_scripts.specs.declared.deed.Deed.TheVariants.{Heard}
-use Rattle.cli_scripts.specs.Deeds.{new_talk}
-use Rattle.cli_scripts.proofs.DeskSteps.{step}
+use Rattle.cli_scripts.proofs.DeskSteps.{plain_step}
 use Rattle.cli_scripts.proofs.desk.Desk.take.Goals as goal
 
 pub invariant_of-self : goal.invariant_of-self
 invariant_of-self c =
     let took = c.take-told.ensures.took in
-    step c.self.inside.device c.self.inside.deeds.items c.and-self-inside.result.items (Heard (length c.args.bytes.now)) c.self.inside.heard.items
+    plain_step c.self.inside.device c.self.inside.deeds.items c.and-self-inside.result.items (Heard (length c.args.bytes.now)) c.self.inside.heard.items
     c.add_bytes.new.history.items c.args.bytes.now c.self.inside.gone.items c.self.inside.due.items c.take-told.new.due.items took.0
-    (new_talk c.self.inside.device) c.self.inside.session.talk c.take-told.new.self.talk c.and-self-inside.ensures c.add_bytes.ensures took.1
-    c.self.invariant (refl, (c.take-told.result, took.2))
+    c.self.inside.collects (c.self.inside.judged.items ++ c.self.inside.unjudged.items) c.self.inside.session.talk c.take-told.new.self.talk
+    c.and-self-inside.ensures c.add_bytes.ensures took.1 c.self.invariant (refl, refl, (c.take-told.result, took.2))

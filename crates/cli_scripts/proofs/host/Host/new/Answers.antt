@@ -1,4 +1,4 @@
-use Rattle.std.proofs.Common.{◌≡◌, ◌++◌, true, ap, sym, ◌∙◌, subst}
+use Rattle.std.proofs.Common.{◌++◌, ap, ◌∙◌}
 use Rattle.script_screens.specs.Laws.{is_whole}
 use Rattle.cli_scripts.specs.Answers.{printed_text}
 use Rattle.cli_scripts.proofs.DataLines.{printed_whole}

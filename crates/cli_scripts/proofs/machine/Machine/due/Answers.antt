@@ -1,4 +1,4 @@
-use Rattle.std.proofs.Common.{ap, subst}
+use Rattle.std.proofs.Common.{subst}
 use Rattle.cli_scripts.specs.Desks.{DidAll}
 use Rattle.cli_scripts.specs.Machines.{Scripted}
 use Rattle.cli_scripts.proofs.machine.Machine.due.Goals as goal

@@ -1,0 +1,75 @@
+-- What each action of a script does at the terminal: which keys it presses, and that others press none.
+use Rattle.std.specs.Prelude.{◌≡◌, ℕ, nat_le, ◌==◌, Bool, true, false, not, ◌&&◌, map, List, [], ◌∷◌, ◌++◌, Option, Some, None, Result, Ok, if◌then◌else◌}
+use Rattle.ds_codec.specs.Aid.{function_aid, access_aid}
+use Rattle.ds_keys.specs.declared.key.Key.{Key}
+use Rattle.ds_keys.specs.declared.key.Key.TheVariants as pressed
+use Rattle.ds_keys.specs.declared.key.Key.TheVariants.{Attention}
+use Rattle.script_keys.specs.Actions.{Action, keys, other}
+use Rattle.script_keys.specs.declared.keys.Keys.{Keys}
+use Rattle.script_keys.specs.declared.keys.Keys.TheVariants.{Plain}
+use Rattle.script_keys.specs.declared.name.Name.TheVariants as names
+use Rattle.script_keys.specs.Faults.{Fault}
+use Rattle.script_keys.specs.Runs.{keys_of}
+use Rattle.script_keys.specs.Steps.{runs_of}
+use Rattle.script_screens.specs.declared.pieces.StringKey.{StringKey}
+use Rattle.script_screens.specs.declared.pieces.StringKey.TheVariants as keyed
+use Rattle.tn_session.specs.declared.terminal_state.TerminalState.{TerminalState}
+use Rattle.tn_session.specs.TerminalTalk.{OfWaiting}
+use Rattle.cli_scripts.specs.declared.deed.Deed.{Deed}
+use Rattle.cli_scripts.specs.declared.deed.Deed.TheVariants.{Begun, Pressed}
+use Rattle.cli_scripts.specs.Desks.{NamedHost, Worked, is_waiting}
+
+abbrev pub is_reset : Keys → Bool
+is_reset (Plain pressed.Reset) = true
+is_reset other_keys = false
+
+abbrev pub is_clear : Keys → Bool
+is_clear (Plain (Attention aid)) = aid == 0x6D
+is_clear other_keys = false
+
+-- The deeds of an action that presses keys: those of its runs on the screen that is shown, but none while the keyboard waits for the host, other
+-- than Reset. Without a host Clear alone does something.
+abbrev pub unconnected_deeds : Keys → List Deed
+unconnected_deeds it = if is_clear it then Begun ∷ [] else []
+
+abbrev pub keys_deeds : Keys → Option NamedHost → TerminalState → List Deed
+keys_deeds it None state = unconnected_deeds it
+keys_deeds it (Some host) state =
+    if is_waiting state.terminal.lock && not (is_reset it) then [] else map Pressed (keys_of (runs_of state.terminal it))
+
+abbrev pub PressesKeys : Keys → Worked → Worked → Type 0
+PressesKeys it old new = OfWaiting (λ state. old.deeds ++ keys_deeds it old.host state) old.talk new.deeds
+
+-- keys were pressed, and nothing else was done
+abbrev pub PressesOnly : Worked → Worked → Type 0
+PressesOnly old new = (typed : List Key) × (new.deeds ≡ old.deeds ++ map Pressed typed)
+
+-- no key was pressed, and no session begun
+abbrev pub PressesNone : Worked → Worked → Type 0
+PressesNone old new = new.deeds ≡ old.deeds
+
+-- an action that presses keys does what its keys do; others than String and Key do nothing at the terminal
+abbrev pub Acts : Result Action Fault → Worked → Worked → Type 0
+Acts (Ok (keys it)) old new = PressesKeys it old new
+Acts (Ok (other names.String arguments)) old new = PressesOnly old new
+Acts (Ok (other names.Key arguments)) old new = PressesOnly old new
+Acts action old new = PressesNone old new
+
+-- ---- the keys of a text
+
+abbrev pub function_key : ℕ → Option Key
+function_key number = if nat_le 1 number && nat_le number 24 then Some (Attention (function_aid number)) else None
+
+abbrev pub access_key : ℕ → Option Key
+access_key number = if nat_le 1 number && nat_le number 3 then Some (Attention (access_aid number)) else None
+
+-- \n is Enter, and \r Newline
+abbrev pub pressed_key : StringKey → Option Key
+pressed_key keyed.Tab = Some pressed.Tab
+pressed_key keyed.BackTab = Some pressed.BackTab
+pressed_key keyed.Left = Some pressed.Left
+pressed_key keyed.Newline = Some pressed.NewLine
+pressed_key keyed.Enter = Some (Attention 0x7D)
+pressed_key keyed.Clear = Some (Attention 0x6D)
+pressed_key (keyed.Pf number) = function_key number
+pressed_key (keyed.Pa number) = access_key number
