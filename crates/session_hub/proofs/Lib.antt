@@ -1,0 +1,3 @@
+mod Rooms
+mod Heard
+mod Alone
