@@ -1,5 +1,6 @@
 //! Laws of hubs. These functions do nothing: their contracts are the laws.
 
+ghost use Rattle.session_hub.specs.Alone.{SessionsAreTheirOwn};
 ghost use Rattle.session_hub.specs.Hubs.{IsIsolated, IsDeterminedAlone};
 
 use crate::session::Session;
@@ -14,4 +15,10 @@ pub fn isolation_law<S: Session>()
 /// to either, it is the same.
 pub fn alone_law<S: Session>()
     ensures { IsDeterminedAlone S.takes }
+{}
+
+/// A terminal's session is given a front of the pieces that came from its terminal, in turn, and nothing else; and what went out
+/// to the terminal, followed by what is still due to it, is what was due and then what the session gave.
+pub fn own_law<S: Session>()
+    ensures { SessionsAreTheirOwn S.takes }
 {}

@@ -11,7 +11,7 @@ mod seat;
 mod session;
 
 pub use hub::{Ended, Hub};
-pub use laws::{alone_law, isolation_law};
+pub use laws::{alone_law, isolation_law, own_law};
 pub use seat::{End, Limits, Stand};
 pub use session::{Came, Session};
 
