@@ -4,5 +4,5 @@
 mod asked;
 mod script;
 
-pub use crate::asked::{Asked, KeyLines, ReportForm, When};
+pub use crate::asked::{Asked, KeyLines, Many, ReportForm, When};
 pub use crate::script::ScriptAsked;
