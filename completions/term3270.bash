@@ -36,7 +36,7 @@ _term3270_values() { # OPTION
     check--records) _term3270_files '*.hex' ;;
     show--map | check--map | draft--map) _term3270_files '*.bms' ;;
     serve--listen | tap--listen) _term3270_offer -A hostname ;;
-    map--map | *--map-name | *--only | *--port | *--count | *--expect | *--timeout) ;;
+    map--map | *--map-name | *--only | *--port | *--count | *--at-once | serve--answers | *--idle | *--expect | *--timeout) ;;
     *) return 1 ;;
   esac
 }
@@ -66,7 +66,7 @@ _term3270_options() {
     draft) options='--turns --out --map --map-name --freekb --frset' ;;
     bind) options='--text --turns' ;;
     records) options='--from --answers --turns --turn --size --all' ;;
-    serve) options='--port --count --listen' ;;
+    serve) options='--port --count --at-once --answers --idle --listen' ;;
     attach) options='--strokes --port --device --tolerant --expect --timeout' ;;
     script) options='--device --code-page --layouts --report --report-format' ;;
     tap) options='--port --listen-port --listen --count' ;;
@@ -96,9 +96,10 @@ _term3270() {
   for ((index = 2; index < COMP_CWORD; index++)); do
     case ${COMP_WORDS[index]} in
       = | '<' | '>') index=$((index + 1)) ;;
-      --format | --color | --from | --device | --records | --layout | --only | --map | --map-name | --port | --count | --listen | --expect | --timeout | --code-page)
+      --format | --color | --from | --device | --records | --layout | --only | --map | --map-name | --port | --count | --at-once | --answers | --idle | --listen | --expect | --timeout | --code-page)
         # A value comes after =, or as the next word.
-        if [ "$command${COMP_WORDS[index]}" != map--layout ] && [ "${COMP_WORDS[index + 1]}" != = ]; then index=$((index + 1)); fi
+        case $command${COMP_WORDS[index]} in map--layout | records--answers) continue ;; esac
+        [ "${COMP_WORDS[index + 1]}" = = ] || index=$((index + 1))
         ;;
       -*) ;;
       *) place=$((place + 1)) ;;

@@ -1,5 +1,5 @@
 -- What the parsed words of a command line ask for.
-use Rattle.std.specs.Prelude.{◌⊎◌, ◌≡◌, ◌<◌, ℕ, Bool, true, false, List, Option, Some, None, is_some, option_map, codes}
+use Rattle.std.specs.Prelude.{◌⊎◌, ◌≡◌, ◌<◌, ◌||◌, ℕ, Bool, true, false, List, Option, Some, None, is_some, option_map, codes}
 use Rattle.std.specs.Borrow.{Bor}
 use Rattle.std.specs.Fmt.{decimal}
 use Rattle.bms_map.specs.declared.record.Control.{Control}
@@ -15,11 +15,12 @@ use Rattle.cli_commands.specs.declared.output.demo.Demos.TheVariants.{Printed, O
 use Rattle.cli_words.specs.declared.asked.When.{When}
 use Rattle.cli_words.specs.declared.asked.When.TheVariants.{Auto, Always, Never}
 use Rattle.cli_words.specs.declared.asked.KeyLines.{KeyLines}
+use Rattle.cli_words.specs.declared.asked.Many.{Many}
 use Rattle.cli_words.specs.declared.asked.KeyLines.TheVariants as key_lines
 use Rattle.cli_words.specs.declared.asked.ReportForm.{ReportForm}
 use Rattle.cli_words.specs.declared.asked.ReportForm.TheVariants.{Json, Sarif}
 use Rattle.cli_words.specs.declared.asked.Asked.{Asked}
-use Rattle.cli_words.specs.declared.asked.Asked.TheVariants.{Show, Draw, Annotate, Undrawn, Check, Report, Explain, Talk, ReportTalk, LogTalk, Press, Strike, Convert, ConvertCharacters, ConvertBack, ConvertBackCharacters, Draft, DraftTurns, Bind, BindTurns, Records, OneSided, Buffers, OneScreen, Serve, Attach, AttachTolerant, Script, Tap, Map, CheckMap, RenderMap, Suite, NoLayout}
+use Rattle.cli_words.specs.declared.asked.Asked.TheVariants.{Show, Draw, Annotate, Undrawn, Check, Report, Explain, Talk, ReportTalk, LogTalk, Press, Strike, Convert, ConvertCharacters, ConvertBack, ConvertBackCharacters, Draft, DraftTurns, Bind, BindTurns, Records, OneSided, Buffers, OneScreen, Serve, ServeMany, Attach, AttachTolerant, Script, Tap, Map, CheckMap, RenderMap, Suite, NoLayout}
 use Rattle.cli_findings.specs.declared.found.Pen.{Pen}
 use Rattle.cli_findings.specs.declared.found.Pen.TheVariants as pens
 use Rattle.cli_pictures.specs.declared.annotated.Annotated.{Annotated}
@@ -266,9 +267,22 @@ IsRecords rows asked = (first_of (codes "from") rows ≡ Some (codes "trace") �
     × (first_of (codes "from") rows ≡ Some (codes "stream") → IsTraced rows asked)
     × (first_of (codes "from") rows ≡ Some (codes "buffer") → AreBuffers rows asked)
 
+abbrev pub AreMany : List Row → Many → Type 0
+AreMany rows many = IsNumber (codes "count") rows many.count × IsNumber (codes "at-once") rows many.at_once
+    × IsNumber (codes "answers") rows many.answers × IsNumber (codes "idle") rows many.idle
+
+-- one of the options is there that ask for more than terminals in turn
+abbrev pub HasManyWords : List Row → Bool → Type 0
+HasManyWords rows has = has ≡ (is_some (first_of (codes "at-once") rows) || (is_some (first_of (codes "answers") rows) || is_some (first_of (codes "idle") rows)))
+
+-- terminals one after the other, where none of those options is there
 abbrev pub IsServe : List Row → Asked → Type 0
 IsServe rows (Serve layout address port count) =
     IsText (codes "LAYOUT") rows layout × IsText (codes "listen") rows address × IsNumber (codes "port") rows port × IsNumber (codes "count") rows count
+    × HasManyWords rows false × ¬ (count ≡ 0)
+IsServe rows (ServeMany layout address port many) =
+    IsText (codes "LAYOUT") rows layout × IsText (codes "listen") rows address × IsNumber (codes "port") rows port × AreMany rows many
+    × ((has : Bool) → HasManyWords rows has → (has ≡ true) ⊎ (many.count ≡ 0))
 IsServe rows _ = ⊥
 
 abbrev pub AreKeyLines : List Row → KeyLines → Type 0

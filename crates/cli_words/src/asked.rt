@@ -2,7 +2,7 @@
 
 ghost use Rattle.std.specs.Prelude.{◌≡◌, true, false, is_some, option_map};
 ghost use Rattle.clap.specs.Words.{first_of, found_of, rows_of, subcommand_rows_of};
-ghost use Rattle.cli_words.specs.Asked.{AreDemos, AreKeyLines, AsksFor, IsAttach, IsCheck, IsDrawn, IsForm, IsConvert, IsOption, IsPen, IsPress, IsShow, IsBind, IsDraft, IsDrafted, IsDraftedMap, IsRendering, IsShownMap, IsReportForm, IsSide, IsSource, IsWhen, IsWithLayout, IsMap, IsMapForm, IsMapCheck, IsLayoutCheck, IsTextCheck, IsTextTalk, IsTalk, IsSuite, IsSuiteForm, AreControls, AreTraced, AreTurns, AreBuffers, AreNoTracedWords, AreSizes, AreTracedWords, IsRecords, IsTraced};
+ghost use Rattle.cli_words.specs.Asked.{AreDemos, AreKeyLines, AreMany, HasManyWords, IsServe, AsksFor, IsAttach, IsCheck, IsDrawn, IsForm, IsConvert, IsOption, IsPen, IsPress, IsShow, IsBind, IsDraft, IsDrafted, IsDraftedMap, IsRendering, IsShownMap, IsReportForm, IsSide, IsSource, IsWhen, IsWithLayout, IsMap, IsMapForm, IsMapCheck, IsLayoutCheck, IsTextCheck, IsTextTalk, IsTalk, IsSuite, IsSuiteForm, AreControls, AreTraced, AreTurns, AreBuffers, AreNoTracedWords, AreSizes, AreTracedWords, IsRecords, IsTraced};
 ghost use Rattle.cli_words.specs.Values.{IsNumber, IsPath, IsText};
 
 use crate::script::{ScriptAsked, script_of};
@@ -42,6 +42,19 @@ pub enum KeyLines {
     Keys,
     /// Those, and the lines of insert mode, duplicate and field mark.
     Strokes,
+}
+
+/// How `serve` serves many terminals.
+#[derive(Clone, Copy)]
+pub struct Many {
+    /// How many are served; 0 is any number.
+    pub count: u16,
+    /// How many at once; 0 is one.
+    pub at_once: u16,
+    /// After how many answers it ends; 0 is any number.
+    pub answers: u16,
+    /// For how many seconds nothing need come of a terminal; 0 is any time.
+    pub idle: u16,
 }
 
 /// A command, with the files, the options and the place on the net that it was given.
@@ -125,6 +138,13 @@ pub enum Asked<'a> {
         address: &'a str,
         port: u16,
         count: u16,
+    },
+    /// Terminals at once, or with limits.
+    ServeMany {
+        layout: &'a str,
+        address: &'a str,
+        port: u16,
+        many: Many,
     },
     AttachTolerant {
         host: &'a str,
@@ -221,6 +241,45 @@ fn attach_of<'a>(words: &ArgMatches<'a>) -> Asked<'a>
     }
 }
 
+/// How many terminals are served, and how many at once.
+fn many_of(words: &ArgMatches<'_>) -> Many
+    ensures { AreMany (rows_of (found_of words.now)) result }
+{
+    Many {
+        count: number_in(words, "count"),
+        at_once: number_in(words, "at-once"),
+        answers: number_in(words, "answers"),
+        idle: number_in(words, "idle"),
+    }
+}
+
+/// Whether an option is there without which terminals come one after the other.
+fn has_many_words(words: &ArgMatches<'_>) -> bool
+    ensures { HasManyWords (rows_of (found_of words.now)) result }
+{
+    is_named(words, "at-once") || is_named(words, "answers") || is_named(words, "idle")
+}
+
+fn serve_of<'a>(words: &ArgMatches<'a>) -> Asked<'a>
+    ensures { IsServe (rows_of (found_of words.now)) result }
+{
+    let many = many_of(words);
+    if many.count == 0 || has_many_words(words) {
+        return Asked::ServeMany {
+            layout: text_in(words, "LAYOUT"),
+            address: text_in(words, "listen"),
+            port: number_in(words, "port"),
+            many,
+        };
+    }
+    Asked::Serve {
+        layout: text_in(words, "LAYOUT"),
+        address: text_in(words, "listen"),
+        port: number_in(words, "port"),
+        count: many.count,
+    }
+}
+
 fn command_of<'a>(name: &str, words: &ArgMatches<'a>) -> Asked<'a>
     ensures { AsksFor name.now (rows_of (found_of words.now)) result }
 {
@@ -233,12 +292,7 @@ fn command_of<'a>(name: &str, words: &ArgMatches<'a>) -> Asked<'a>
         "draft" => draft_of(words),
         "bind" => bind_of(words),
         "records" => records_of(words),
-        "serve" => Asked::Serve {
-            layout: text_in(words, "LAYOUT"),
-            address: text_in(words, "listen"),
-            port: number_in(words, "port"),
-            count: number_in(words, "count"),
-        },
+        "serve" => serve_of(words),
         "attach" => attach_of(words),
         "script" => Asked::Script(script_of(words)),
         "tap" => Asked::Tap(tap_of(words)),

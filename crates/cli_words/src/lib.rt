@@ -5,6 +5,6 @@ mod asked;
 mod script;
 mod tap;
 
-pub use crate::asked::{Asked, KeyLines, ReportForm, When};
+pub use crate::asked::{Asked, KeyLines, Many, ReportForm, When};
 pub use crate::script::ScriptAsked;
 pub use crate::tap::TapAsked;

@@ -50,8 +50,10 @@ enum Takes<'a> {
     Text(&'a str, &'a str),
     /// A value of this name: a number from 1 to this one, which must be given.
     Number(&'a str, i64),
-    /// A value of this name: a number from 1 to 65,535, which need not be given.
-    Count(&'a str),
+    /// A value of this name: a number from 0 to this one, which must be given.
+    Count(&'a str, i64),
+    /// A value of this name: a number from 1 to this one, which need not be given.
+    UpTo(&'a str, i64),
     /// An operand, which need not be given.
     Optional,
     /// A value of this name, which need not be given.
@@ -419,8 +421,23 @@ const SESSIONS: &[Described<'_>] = &[
             },
             Argument {
                 name: "count",
-                takes: Takes::Number("N", 1000),
-                help: "How many terminals are served, one after the other: 1 to 1000",
+                takes: Takes::Count("N", 1000),
+                help: "How many terminals are served: 1 to 1000, or 0 for any number",
+            },
+            Argument {
+                name: "at-once",
+                takes: Takes::UpTo("M", 1000),
+                help: "How many terminals are served at once: 1 to 1000",
+            },
+            Argument {
+                name: "answers",
+                takes: Takes::UpTo("N", 65535),
+                help: "End after so many terminals answered: 1 to 65535",
+            },
+            Argument {
+                name: "idle",
+                takes: Takes::UpTo("SECONDS", 65535),
+                help: "End a terminal of which nothing came for so long: 1 to 65535",
             },
             Argument {
                 name: "listen",
@@ -540,7 +557,7 @@ const SESSIONS: &[Described<'_>] = &[
             },
             Argument {
                 name: "count",
-                takes: Takes::Count("N"),
+                takes: Takes::UpTo("N", 65535),
                 help: "End after so many terminals: 1 to 65535; without it, go on until it is ended",
             },
         ],
@@ -574,9 +591,16 @@ fn number<'a>(alloc: Global, name: &'a str, value: &'a str, most: i64) -> Arg<'a
         .value_parser(clap::value_parser!(u16).range(1..=most))
 }
 
-/// An option with a number from 1 to 65,535.
-fn count<'a>(alloc: Global, name: &'a str, value: &'a str) -> Arg<'a> {
-    option(alloc, name, value).value_parser(clap::value_parser!(u16).range(1..=65535))
+/// An option with a number from 0 to this one, which must be given.
+fn count<'a>(alloc: Global, name: &'a str, value: &'a str, most: i64) -> Arg<'a> {
+    option(alloc, name, value)
+        .required(true)
+        .value_parser(clap::value_parser!(u16).range(0..=most))
+}
+
+/// An option with a number from 1 to this one.
+fn up_to<'a>(alloc: Global, name: &'a str, value: &'a str, most: i64) -> Arg<'a> {
+    option(alloc, name, value).value_parser(clap::value_parser!(u16).range(1..=most))
 }
 
 /// An option with a number from 1 to 65,535, which goes with this other one.
@@ -624,9 +648,10 @@ fn bare<'a>(alloc: Global, name: &'a str, takes: Takes<'a>) -> Result<Arg<'a>, A
         }
         Takes::Text(value, text) => Ok(with_default(alloc, name, value, text)),
         Takes::Number(value, most) => Ok(number(alloc, name, value, most)),
+        Takes::Count(value, most) => Ok(count(alloc, name, value, most)),
+        Takes::UpTo(value, most) => Ok(up_to(alloc, name, value, most)),
         Takes::NumberWith(value, other) => number_with(alloc, name, value, other),
         Takes::CountWithout(value, other) => count_without(alloc, name, value, other),
-        Takes::Count(value) => Ok(count(alloc, name, value)),
         Takes::Optional => Ok(Arg::new(alloc, name)),
         Takes::Value(value) => Ok(option(alloc, name, value)),
         Takes::WordWith(value, words, other) => option(alloc, name, value)

@@ -1,6 +1,7 @@
 //! Each command on the standard streams, and on the files that it was given.
 
 use crate::file::FileAt;
+use crate::many::run_serve_many;
 use crate::reasons::{
     HeardFile, HeardInput, heard_file, heard_input, says, says_first, told, told_answers,
     told_check, told_first, told_last, told_traces,
@@ -29,7 +30,7 @@ use cli_reasons::{Heard, Lines, Names};
 use cli_sessions::Output;
 use cli_traces::{Asked, Source, run_records};
 use cli_turns::{run_bind_turns, run_draft_turns};
-use cli_words::{KeyLines, ReportForm, When};
+use cli_words::{KeyLines, Many, ReportForm, When};
 use std::alloc::AllocError;
 use std::env;
 use std::env::VarError;
@@ -301,6 +302,26 @@ pub(crate) fn serve(rt: &HostRuntime, layout: &str, place: Place<'_>, count: u16
         &mut records,
         place,
         count,
+        &mut Output::new(output(rt)),
+    );
+    told_first(rt, status, &mut layout, &mut records)
+}
+
+/// `serve` for many terminals at once, with the layout of a file.
+pub(crate) fn serve_many(
+    rt: &HostRuntime,
+    layout: &str,
+    place: Place<'_>,
+    many: Many,
+) -> Status {
+    let mut layout = heard_file(rt, Lines::Layout, layout);
+    let mut records = sized_input(rt);
+    let status = run_serve_many(
+        rt,
+        &mut layout,
+        &mut records,
+        place,
+        many,
         &mut Output::new(output(rt)),
     );
     told_first(rt, status, &mut layout, &mut records)

@@ -8,11 +8,14 @@ mod drafts;
 mod file;
 mod help;
 mod manners;
+mod many;
+mod one_line;
 mod prompt;
 mod reasons;
 mod reports;
 mod script;
 mod script_layouts;
+mod server;
 mod sessions;
 mod stream;
 mod suite;
@@ -151,6 +154,15 @@ fn connect(rt: &HostRuntime, asked: Asked<'_>) -> Option<Status> {
         } => {
             let host = bare_host(address);
             Some(commands::serve(rt, layout, Place { host, port }, count))
+        }
+        Asked::ServeMany {
+            layout,
+            address,
+            port,
+            many,
+        } => {
+            let host = bare_host(address);
+            Some(commands::serve_many(rt, layout, Place { host, port }, many))
         }
         Asked::AttachTolerant {
             host,

@@ -1,0 +1,61 @@
+//! The command `serve` for many terminals at once, from its inputs to the net.
+
+ghost use Rattle.std.specs.Prelude.{IfSome, map, IfOk, ◌≡◌};
+ghost use Rattle.cli_commands.specs.Held.{records_held};
+ghost use Rattle.cli_sessions.specs.Prepare.{prepare};
+
+use crate::manners::tell_listening;
+use crate::server::{Server, serve_all};
+use crate::tcp::Place;
+use cli_commands::{GivesBytes, Status, TakesBytes, finish};
+use cli_sessions::{Output, Prepared, Screen, prepare_serve};
+use cli_words::Many;
+use std::alloc::{AllocError, Global};
+
+/// The records as slices.
+fn lent<'a>(alloc: Global, records: &'a [Vec<u8>]) -> Result<Vec<&'a [u8]>, AllocError>
+    ensures { IfOk result (λ v. map (λ bytes. bytes.now) v.items ≡ records_held records.now) }
+{
+    let mut slices = Vec::new(alloc);
+    for bytes in records {
+        slices.push(bytes.as_slice())?;
+    }
+    Ok(slices)
+}
+
+fn serve_screen<W: TakesBytes>(
+    rt: &HostRuntime,
+    place: Place<'_>,
+    screen: &Screen,
+    many: Many,
+    output: &mut Output<W>,
+) -> Status {
+    let Ok(records) = lent(rt.alloc(), screen.records.as_slice()) else {
+        return Status::NoMemory;
+    };
+    let mut server = match Server::at(rt, place, &screen.layout, records.as_slice(), many) {
+        Ok(server) => server,
+        Err(error) => return place.report(rt, &error),
+    };
+    tell_listening(rt, place);
+    match serve_all(rt, &mut server, output) {
+        Ok(status) => status,
+        Err(error) => place.report(rt, &error),
+    }
+}
+
+/// Serves a layout's screen at a place to many terminals. The port is bound once the screen is found fit.
+pub(crate) fn run_serve_many<L: GivesBytes, R: GivesBytes, W: TakesBytes>(
+    rt: &HostRuntime,
+    layout: &mut L,
+    records: &mut R,
+    place: Place<'_>,
+    many: Many,
+    output: &mut Output<W>,
+) -> Status {
+    match prepare_serve(rt.alloc(), layout, records) {
+        Ok(Prepared::Ready(screen)) => serve_screen(rt, place, &screen, many, output),
+        Ok(Prepared::Stops(answer)) => finish(rt.alloc(), output, Ok(answer)),
+        Err(error) => finish(rt.alloc(), output, Err(error)),
+    }
+}
