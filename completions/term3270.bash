@@ -25,7 +25,7 @@ _term3270_values() { # OPTION
     suite--format) _term3270_offer -W 'text json junit sarif' ;;
     script--code-page) _term3270_offer -W 'bracket 037' ;;
     script--report-format) _term3270_offer -W 'text json junit' ;;
-    script--layouts) _term3270_files '' ;;
+    script--layouts) compopt -o filenames 2> /dev/null; _term3270_offer -d ;;
     script--report) _term3270_files ;;
     records--from) _term3270_offer -W 'trace stream buffer' ;;
     attach--device | script--device)
@@ -95,7 +95,7 @@ _term3270() {
   for ((index = 2; index < COMP_CWORD; index++)); do
     case ${COMP_WORDS[index]} in
       = | '<' | '>') index=$((index + 1)) ;;
-      --format | --color | --from | --device | --records | --layout | --only | --map | --map-name | --port | --count | --listen | --expect | --timeout | --code-page)
+      --format | --color | --from | --device | --records | --layout | --only | --map | --map-name | --port | --count | --listen | --expect | --timeout | --code-page | --layouts | --report | --report-format)
         # A value comes after =, or as the next word.
         if [ "$command${COMP_WORDS[index]}" != map--layout ] && [ "${COMP_WORDS[index + 1]}" != = ]; then index=$((index + 1)); fi
         ;;
