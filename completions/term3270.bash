@@ -25,7 +25,7 @@ _term3270_values() { # OPTION
     suite--format) _term3270_offer -W 'text json junit sarif' ;;
     script--code-page) _term3270_offer -W 'bracket 037' ;;
     script--report-format) _term3270_offer -W 'text json junit' ;;
-    script--layouts) _term3270_files '' ;;
+    script--layouts) compopt -o filenames 2> /dev/null; _term3270_offer -d ;;
     script--report) _term3270_files ;;
     records--from) _term3270_offer -W 'trace stream buffer' ;;
     attach--device | script--device)
@@ -36,7 +36,7 @@ _term3270_values() { # OPTION
     check--records) _term3270_files '*.hex' ;;
     show--map | check--map | draft--map) _term3270_files '*.bms' ;;
     serve--listen | tap--listen) _term3270_offer -A hostname ;;
-    map--map | *--map-name | *--only | *--port | *--count | *--at-once | serve--answers | *--idle | *--expect | *--timeout) ;;
+    map--map | *--map-name | *--only | *--port | *--listen-port | *--count | *--at-once | serve--answers | *--idle | *--expect | *--timeout) ;;
     *) return 1 ;;
   esac
 }
@@ -96,7 +96,7 @@ _term3270() {
   for ((index = 2; index < COMP_CWORD; index++)); do
     case ${COMP_WORDS[index]} in
       = | '<' | '>') index=$((index + 1)) ;;
-      --format | --color | --from | --device | --records | --layout | --only | --map | --map-name | --port | --count | --at-once | --answers | --idle | --listen | --expect | --timeout | --code-page)
+      --format | --color | --from | --device | --records | --layout | --only | --map | --map-name | --port | --listen-port | --count | --at-once | --answers | --idle | --listen | --expect | --timeout | --code-page | --layouts | --report | --report-format)
         # A value comes after =, or as the next word.
         case $command${COMP_WORDS[index]} in map--layout | records--answers) continue ;; esac
         [ "${COMP_WORDS[index + 1]}" = = ] || index=$((index + 1))

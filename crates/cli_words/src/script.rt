@@ -35,9 +35,9 @@ fn code_page_in(words: &ArgMatches<'_>) -> CodePage
 fn report_format_in(words: &ArgMatches<'_>) -> ReportFormat
     ensures { IsReportFormat (rows_of (found_of words.now)) result }
 {
-    match path_in(words, "report-format") {
-        Some("json") => ReportFormat::Json,
-        Some("junit") => ReportFormat::Junit,
+    match text_in(words, "report-format") {
+        "json" => ReportFormat::Json,
+        "junit" => ReportFormat::Junit,
         _ => ReportFormat::Text,
     }
 }
