@@ -4,7 +4,8 @@ use Rattle.tn_traces.specs.Line.{Said, nothing, connected, piece, bad}
 use Rattle.cli_traces.specs.declared.asked.Asked.{Asked}
 use Rattle.cli_traces.specs.Following.{Following, Course, goes, stops, beginning, left_text, said_of, Adds, AddsSaid, Leads, EndsEarly}
 use Rattle.cli_traces.specs.Law.{AllHaveOneText, EndsHaveOneText, EndsAreNotAll}
-use Rattle.cli_traces.proofs.Cuts.{adds_one_text, same_following, never}
+use Rattle.cli_traces.proofs.Bytes.{adds_one_text}
+use Rattle.cli_traces.proofs.Cuts.{same_following, never}
 
 said_one : (asked : Asked) (number : ℕ) (f : Following) (said : Said) (text other : List ℕ) (course course' : Course)
     → AddsSaid asked number f said text course → AddsSaid asked number f said other course' → (text ≡ other) × (course ≡ course')

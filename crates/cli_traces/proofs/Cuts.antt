@@ -1,18 +1,16 @@
 -- Pieces of a stream one after the other.
-use Rattle.std.proofs.Common.{◌≡◌, ℕ, List, [], ◌∷◌, ◌++◌, refl, sym, ◌∙◌, ap, subst, inl, inr, append_assoc}
-use Rattle.std.specs.List.{flat_map}
+use Rattle.std.proofs.Common.{◌≡◌, ℕ, List, [], ◌++◌, refl, sym, ◌∙◌, ap, subst, append_assoc}
 use Rattle.tn_wire.specs.Stream.{Told, Tells}
 use Rattle.tn_session.specs.declared.fault.RunFault.TheVariants.{Wire, Header, Session, Inbound, Bind, OutOfMemory}
 use Rattle.tn_session.specs.Runs.{Log, finishes, fails}
 use Rattle.tn_session.specs.OneLog.{Standing, waits, is_over, has_failed, is_at_fault, HasLog}
 use Rattle.tn_session.proofs.OneLog.{have_one_log}
-use Rattle.tn_session.proofs.RunLaws.{open_tells, goes-goes, goes-ends, goes-fault, nothing_yet}
+use Rattle.tn_session.proofs.RunLaws.{goes-goes, goes-ends, goes-fault, nothing_yet}
 use Rattle.tn_traces.specs.declared.line.Side.{Side}
 use Rattle.tn_traces.specs.declared.line.Side.TheVariants.{Host, Terminal}
 use Rattle.cli_traces.specs.declared.asked.Asked.{Asked}
 use Rattle.cli_traces.specs.declared.reading.Reading.{Reading}
 use Rattle.cli_traces.specs.Following.{Following, Course, goes, stops, open_of, with_open, act_of, AddsLog, AddsPiece}
-use Rattle.cli_traces.specs.Law.{IsOpenAt, PiecesAddWhole, AddsOneText, CutsAgree}
 use Rattle.cli_traces.specs.Text.{fault_text, wire_name, header_name, other_size_name}
 
 -- ---- logs
@@ -24,6 +22,10 @@ module _ (act : Reading → Told → Log Reading) where
   log_after b x y due d c s m (is_over end) first second = goes-ends act b x y due d c s m (finishes end) first second
   log_after b x y due d c s m (has_failed why) first second = goes-ends act b x y due d c s m (fails why) first second
   log_after b x y due d c s m (is_at_fault fault) first second = goes-fault act b x y due d c s m fault first second
+
+-- what is open tells nothing by itself
+abbrev pub IsOpenAt : Side → Following → Type 0
+IsOpenAt side following = Tells (open_of side following) [] (open_of side following)
 
 -- ---- a piece and a piece
 
@@ -154,25 +156,6 @@ module _ (asked : Asked) (number : ℕ) (side : Side) (f : Following) where
     adds = (refl, ap goes (as_open side f));
   }
 
-  pub open_after : (x text : List ℕ) (mid : Following) → AddsPiece asked number side f x text (goes mid) → IsOpenAt side mid
-  open_after x text mid a =
-      let w = waits_in x text mid a in
-      let left = open_tells (open_of side f ++ x) w.left w.log.events w.log.tells in
-      subst (IsOpenAt side) (sym w.same) (subst (λ z. Tells z [] z) (sym (opens side f w.left w.reading)) left)
-
--- ---- pieces in turn
-
-pub pieces_add_whole : PiecesAddWhole
-pieces_add_whole asked number side f [] text course open_now (none, is) =
-    subst (λ z. AddsPiece asked number side f [] z course) (sym none) (subst (AddsPiece asked number side f [] []) (sym is) (no_piece asked number side f open_now))
-pieces_add_whole asked number side f (piece ∷ pieces) text course open_now (inl (last, is)) =
-    subst (AddsPiece asked number side f (piece ++ flat_map (λ p. p) pieces) text) (sym is)
-    (stops_longer asked number side f piece (flat_map (λ p. p) pieces) text last)
-pieces_add_whole asked number side f (piece ∷ pieces) text course open_now (inr (first, others, next, one, is, rest)) =
-    subst (λ z. AddsPiece asked number side f (piece ++ flat_map (λ p. p) pieces) z course) (sym is)
-    (adds_both asked number side f piece (flat_map (λ p. p) pieces) first others next course one
-    (pieces_add_whole asked number side next pieces others course (open_after asked number side f piece first next one) rest))
-
 one_end : (number : ℕ) (side : Side) (f : Following) (due text other : List ℕ) (standing : Standing Reading) (course course' : Course)
     → AddsLog number side f due standing text course → AddsLog number side f due standing other course' → (text ≡ other) × (course ≡ course')
 one_end number side f due text other (waits r left) course course' a b = (a.0 ∙ sym b.0, a.1 ∙ sym b.1)
@@ -185,13 +168,10 @@ one_end number side f due text other (has_failed (Bind fault)) course course' a 
 one_end number side f due text other (has_failed OutOfMemory) course course' a b = absurd a
 one_end number side f due text other (is_over end) course course' a b = absurd a
 
-pub adds_one_text : AddsOneText
-adds_one_text asked number side f piece text other course course' a b =
+-- a piece of the stream adds one text, and leads to one place
+pub piece_one_text : (asked : Asked) (number : ℕ) (side : Side) (f : Following) (piece text other : List ℕ) (course course' : Course)
+    → AddsPiece asked number side f piece text course → AddsPiece asked number side f piece other course' → (text ≡ other) × (course ≡ course')
+piece_one_text asked number side f piece text other course course' a b =
     let same = have_one_log (act_of asked side number) (open_of side f) f.reading piece a.due b.due a.standing b.standing a.log b.log in
     one_end number side f a.due text other a.standing course course' a.adds
     (subst (λ z. AddsLog number side f z a.standing other course') (sym same.0) (subst (λ z. AddsLog number side f b.due z other course') (sym same.1) b.adds))
-
-pub cuts_agree : CutsAgree
-cuts_agree asked number side f pieces others text other course course' open_now same a b =
-    adds_one_text asked number side f (flat_map (λ p. p) pieces) text other course course' (pieces_add_whole asked number side f pieces text course open_now a)
-    (subst (λ z. AddsPiece asked number side f z other course') (sym same) (pieces_add_whole asked number side f others other course' open_now b))

@@ -1,4 +1,6 @@
 pub mod Alone
+pub mod Bytes
+pub mod ByteLines
 pub mod Costs
 pub mod Cuts
 pub mod FieldLaws
@@ -6,3 +8,4 @@ pub mod Lines
 pub mod Pieces
 pub mod Runs
 pub mod Sizes
+pub mod Starts

@@ -1,6 +1,6 @@
 -- What is printed of a trace or a captured stream: each line adds its text, and the lines follow one another.
 use Rattle.std.specs.List.{filter}
-use Rattle.std.specs.Prelude.{ℕ, ◌+◌, ◌≡◌, ◌==◌, not, nat_lt, Bool, true, false, ◌&&◌, List, [], ◌∷◌, ◌++◌, length, if◌then◌else◌}
+use Rattle.std.specs.Prelude.{ℕ, ◌+◌, ◌≡◌, ◌⊎◌, ◌==◌, not, nat_lt, Bool, true, false, ◌&&◌, List, [], ◌∷◌, ◌++◌, length, if◌then◌else◌}
 use Rattle.tn_wire.specs.Stream.{Told}
 use Rattle.tn_session.specs.declared.fault.RunFault.TheVariants.{Header as HeaderFails, Session as SessionFails}
 use Rattle.tn_session.specs.Runs.{Log}
@@ -15,7 +15,8 @@ use Rattle.cli_traces.specs.declared.reading.Reading.{Reading}
 use Rattle.cli_traces.specs.declared.turn.Turns.{Turns}
 use Rattle.cli_traces.specs.declared.turn.Turns.TheVariants.{Unmarked, Marked, UpTo}
 use Rattle.cli_traces.specs.Open.{open_text}
-use Rattle.cli_traces.specs.Reading.{again, at_first, event_log}
+use Rattle.cli_traces.specs.Reading.{again, at_first, ends_text, event_log, scanned}
+use Rattle.cli_traces.specs.Start.{may_cut, record_end}
 use Rattle.cli_traces.specs.Text.{connection_text, refused_text, wire_name, header_name, other_size_name, fault_text}
 
 -- ---- what is asked for
@@ -110,11 +111,45 @@ pub record AddsPiece (asked : Asked) (number : ℕ) (side : Side) (following : F
   pub log : HasLog (act_of asked side number) (open_of side following) following.reading bytes due standing
   pub adds : AddsLog number side following due standing text course
 
+-- ---- the bytes of a piece
+
+-- this adds its text and leads on, and that goes on from there; or this ends all
+abbrev pub AddsThen : (List ℕ → Course → Type 0) → (Following → List ℕ → Course → Type 0) → List ℕ → Course → Type 0
+AddsThen this that text course =
+    (this text stops × (course ≡ stops))
+    ⊎ ((first : List ℕ) × (others : List ℕ) × (next : Following) × this first (goes next) × (text ≡ first ++ others) × that next others course)
+
+-- after a command of the host's negotiation, and before any record of it, what is open is text: it is ended here by an end of
+-- a record of our own
+abbrev pub end_of_text : Side → Reading → List ℕ
+end_of_text side reading = if ends_text side reading then record_end else []
+
+-- a byte that was seen, while text may come
+abbrev pub with_seen : ℕ → Following → Following
+with_seen byte following = record following { reading = scanned byte following.reading }
+
+-- a byte, while text may come
+abbrev pub AddsByte : Asked → ℕ → Side → Following → ℕ → List ℕ → Course → Type 0
+AddsByte asked number side following byte text course =
+    AddsThen (AddsPiece asked number side (with_seen byte following) (byte ∷ [])) (λ next. AddsPiece asked number side next (end_of_text side next.reading)) text course
+
+abbrev pub AddsEither : Bool → Type 0 → Type 0 → Type 0
+AddsEither true one other = one
+AddsEither false one other = other
+
+-- bytes that this side sent: one by one while text may come, and then all others as they are
+abbrev pub AddsBytes : Asked → ℕ → Side → Following → List ℕ → List ℕ → Course → Type 0
+AddsBytes asked number side following [] text course = (text ≡ []) × (course ≡ goes following)
+AddsBytes asked number side following (byte ∷ bytes) text course =
+    AddsEither (may_cut side following.reading.start)
+    (AddsThen (AddsByte asked number side following byte) (λ next. AddsBytes asked number side next bytes) text course)
+    (AddsPiece asked number side following (byte ∷ bytes) text course)
+
 abbrev pub AddsSaid : Asked → ℕ → Following → Said → List ℕ → Course → Type 0
 AddsSaid asked number following nothing text course = (text ≡ []) × (course ≡ goes following)
 AddsSaid asked number following connected text course =
     (text ≡ left_text asked following ++ connection_text number) × (course ≡ goes (connection (again following.reading)))
-AddsSaid asked number following (piece side bytes) text course = AddsPiece asked number side following bytes text course
+AddsSaid asked number following (piece side bytes) text course = AddsBytes asked number side following bytes text course
 AddsSaid asked number following bad text course = (text ≡ refused_text number) × (course ≡ stops)
 
 -- the line of this number adds this text

@@ -1,47 +1,39 @@
 -- How a stream is cut in pieces doesn't matter.
-use Rattle.std.specs.Prelude.{ℕ, ◌≡◌, ◌⊎◌, List, [], ◌∷◌, ◌++◌, codes, Some}
+use Rattle.std.specs.Prelude.{ℕ, ◌≡◌, List, [], ◌∷◌, ◌++◌, codes, Some}
 use Rattle.std.specs.List.{flat_map}
-use Rattle.tn_wire.specs.Stream.{Tells}
 use Rattle.tn_cores.specs.declared.device.ScreenModel.{ScreenModel}
 use Rattle.tn_cores.specs.Devices.{sizes_of}
 use Rattle.tn_traces.specs.declared.line.Side.{Side}
 use Rattle.cli_commands.specs.Sizes.{geometry_told}
 use Rattle.cli_traces.specs.Device.{size_words}
 use Rattle.cli_traces.specs.declared.asked.Asked.{Asked}
-use Rattle.cli_traces.specs.Following.{Following, Course, goes, stops, open_of, AddsPiece, IsAll, EndsEarly}
+use Rattle.cli_traces.specs.Following.{Following, Course, goes, AddsThen, AddsBytes, IsAll, EndsEarly}
 
 -- Pieces of what a side sent, one after the other, add this text, and lead here; they end at the first that ends them. All
 -- comments name the line of this number.
 abbrev pub AddPieces : Asked → ℕ → Side → Following → List (List ℕ) → List ℕ → Course → Type 0
 AddPieces asked number side following [] text course = (text ≡ []) × (course ≡ goes following)
 AddPieces asked number side following (piece ∷ pieces) text course =
-    (AddsPiece asked number side following piece text stops × (course ≡ stops))
-    ⊎ ((first : List ℕ) × (others : List ℕ) × (next : Following) × AddsPiece asked number side following piece first (goes next)
-    × (text ≡ first ++ others) × AddPieces asked number side next pieces others course)
-
--- what is open tells nothing by itself
-abbrev pub IsOpenAt : Side → Following → Type 0
-IsOpenAt side following = Tells (open_of side following) [] (open_of side following)
+    AddsThen (AddsBytes asked number side following piece) (λ next. AddPieces asked number side next pieces) text course
 
 -- pieces add what the whole adds, and lead where it leads
 abbrev pub PiecesAddWhole : Type 0
 PiecesAddWhole =
     (asked : Asked) (number : ℕ) (side : Side) (following : Following) (pieces : List (List ℕ)) (text : List ℕ) (course : Course)
-    → IsOpenAt side following → AddPieces asked number side following pieces text course
-    → AddsPiece asked number side following (flat_map (λ piece. piece) pieces) text course
+    → AddPieces asked number side following pieces text course → AddsBytes asked number side following (flat_map (λ piece. piece) pieces) text course
 
 -- a piece adds one text, and leads to one place
 abbrev pub AddsOneText : Type 0
 AddsOneText =
     (asked : Asked) (number : ℕ) (side : Side) (following : Following) (piece text other : List ℕ) (course course' : Course)
-    → AddsPiece asked number side following piece text course → AddsPiece asked number side following piece other course'
+    → AddsBytes asked number side following piece text course → AddsBytes asked number side following piece other course'
     → (text ≡ other) × (course ≡ course')
 
 -- so the same stream, cut in other places, adds the same text
 abbrev pub CutsAgree : Type 0
 CutsAgree =
     (asked : Asked) (number : ℕ) (side : Side) (following : Following) (pieces others : List (List ℕ)) (text other : List ℕ) (course course' : Course)
-    → IsOpenAt side following → flat_map (λ piece. piece) pieces ≡ flat_map (λ piece. piece) others
+    → flat_map (λ piece. piece) pieces ≡ flat_map (λ piece. piece) others
     → AddPieces asked number side following pieces text course → AddPieces asked number side following others other course'
     → (text ≡ other) × (course ≡ course')
 

@@ -6,6 +6,7 @@ pub mod Law
 pub mod Open
 pub mod Printed
 pub mod Reading
+pub mod Start
 pub mod Taking
 pub mod Text
 pub mod Told

@@ -21,23 +21,26 @@ use Rattle.cli_traces.specs.declared.asked.Asked.{Asked}
 use Rattle.cli_traces.specs.declared.asked.Source.{Source}
 use Rattle.cli_traces.specs.declared.asked.Source.TheVariants.{Trace, Stream}
 use Rattle.cli_traces.specs.declared.reading.Reading.{Reading}
+use Rattle.cli_traces.specs.declared.start.Place.TheVariants.{Data}
+use Rattle.cli_traces.specs.declared.start.Start.TheVariants.{Agreeing}
 use Rattle.cli_traces.specs.declared.text.Shape.{Shape}
 use Rattle.cli_traces.specs.declared.text.Shape.TheVariants.{Comment, Line, Fields}
 use Rattle.cli_traces.specs.declared.turn.Stage.TheVariants.{Blank}
 use Rattle.cli_traces.specs.Device.{device_named, device_text, model_of, size_text}
 use Rattle.cli_traces.specs.Fields.{fields_in, drawn_of}
-use Rattle.cli_traces.specs.Text.{fields_text, record_text, shape_of}
+use Rattle.cli_traces.specs.Start.{is_cutting, place_after, plain_after, start_after, start_with}
+use Rattle.cli_traces.specs.Text.{fields_text, plain_text, record_text, shape_of}
 use Rattle.cli_traces.specs.Turns.{begins, stage_after, turn_after, turn_text, is_marked, is_within}
 
 -- ---- a connection
 
 -- before the first line
 abbrev pub at_first : Reading
-at_first = record { now = Classic; named = None; sized = None; count = 0; fields = 0; stage = Blank; turn = 0 }
+at_first = record { start = Agreeing; place = Data; plain = true; now = Classic; named = None; sized = None; count = 0; fields = 0; stage = Blank; turn = 0 }
 
 -- A connection begins in a classic session, with a device of its own. The counts, the dialogue and the line of sizes go on.
 abbrev pub again : Reading → Reading
-again reading = record reading { now = Classic; named = None }
+again reading = record reading { start = Agreeing; place = Data; plain = true; now = Classic; named = None }
 
 -- a trace shows both sides, a stream one
 abbrev pub sender_of : Source → Side → Sender
@@ -177,6 +180,30 @@ abbrev pub kept_log : Asked → Side → ℕ → Reading → Result Kept HeaderF
 kept_log asked side line reading (Ok kept) = shaped_log asked side line reading kept (shape_of asked.all side kept)
 kept_log asked side line reading (Err fault) = if same_side side asked.side then failed (HeaderFails fault) else going [] reading
 
+-- one more byte of the host's, before its first record
+abbrev pub scanned : ℕ → Reading → Reading
+scanned byte reading = record reading { place = place_after reading.place byte; plain = plain_after reading.place byte reading.plain }
+
+-- what is open is text, and ends here
+abbrev pub ends_text : Side → Reading → Bool
+ends_text side reading = is_cutting side reading.start && reading.plain
+
+-- Text before the session, which our own end of a record ended: a comment, where there is any.
+unfoldable pub before_text : Asked → Side → ℕ → Reading → List ℕ → List ℕ
+before_text asked side line reading [] = []
+before_text asked side line reading (byte ∷ bytes) = if is_printed asked side reading.turn then plain_text line (byte ∷ bytes) else []
+
+abbrev pub text_log : Asked → Side → ℕ → Reading → List ℕ → Log Reading
+text_log asked side line reading bytes = going (before_text asked side line reading bytes) (record reading { start = Agreeing })
+
+abbrev pub with_record : Side → Reading → Reading
+with_record side reading = record reading { start = start_with side reading.start }
+
+abbrev pub record_log : Asked → Side → ℕ → Reading → List ℕ → Log Reading
+record_log asked side line reading bytes =
+    if ends_text side reading then text_log asked side line reading bytes
+    else kept_log asked side line (with_record side reading) (kept_of reading.now bytes)
+
 -- ---- events
 
 abbrev pub named_after : Option ScreenModel → Option (List ℕ) → Option ScreenModel
@@ -191,15 +218,15 @@ abbrev pub named_text : Asked → Option (List ℕ) → List ℕ
 named_text asked None = []
 named_text asked (Some name) = if tells_device asked then device_text name else []
 
-abbrev pub negotiated_log : Asked → Sender → Reading → Told → Log Reading
-negotiated_log asked sender reading event =
+abbrev pub negotiated_log : Asked → Side → Sender → Reading → Told → Log Reading
+negotiated_log asked side sender reading event =
     going (named_text asked (device_named sender event))
-    (record reading { now = negotiated_after sender reading.now event; named = named_after reading.named (device_named sender event) })
+    (record reading { start = start_after side reading.start event; now = negotiated_after sender reading.now event; named = named_after reading.named (device_named sender event) })
 
 -- The text of an event that ends in the line of this number. Every event counts for what is agreed, and each side's records
 -- for the turn.
 abbrev pub event_log : Asked → Side → ℕ → Reading → Told → Log Reading
-event_log asked side line reading (told_record bytes) = kept_log asked side line reading (kept_of reading.now bytes)
-event_log asked side line reading (told_verb verb option) = negotiated_log asked (sender_of asked.source side) reading (told_verb verb option)
-event_log asked side line reading (told_sub option parameters) = negotiated_log asked (sender_of asked.source side) reading (told_sub option parameters)
-event_log asked side line reading (told_passed byte) = negotiated_log asked (sender_of asked.source side) reading (told_passed byte)
+event_log asked side line reading (told_record bytes) = record_log asked side line reading bytes
+event_log asked side line reading (told_verb verb option) = negotiated_log asked side (sender_of asked.source side) reading (told_verb verb option)
+event_log asked side line reading (told_sub option parameters) = negotiated_log asked side (sender_of asked.source side) reading (told_sub option parameters)
+event_log asked side line reading (told_passed byte) = negotiated_log asked side (sender_of asked.source side) reading (told_passed byte)

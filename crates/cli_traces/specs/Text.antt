@@ -104,6 +104,13 @@ fields_text count line kept = fields_head count line kept.header ++ fields_line 
 
 -- ---- what else is told, with the number of the line
 
+-- text before a session, with the line of the command that ended it
+unfoldable pub plain_head : ℕ → List ℕ
+plain_head line = codes "# plain text at line " ++ (decimal line ++ codes ": ")
+
+abbrev pub plain_text : ℕ → List ℕ → List ℕ
+plain_text line bytes = plain_head line ++ (encode_upper bytes ++ codes "\n")
+
 abbrev pub connection_text : ℕ → List ℕ
 connection_text line = codes "# connection at line " ++ (decimal line ++ codes "\n")
 

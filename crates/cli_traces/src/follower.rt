@@ -3,9 +3,10 @@
 ghost use Rattle.std.specs.Prelude.{◌≡◌, ◌++◌, length, IfOk, OnOk};
 ghost use Rattle.std.specs.String.{string_bytes};
 ghost use Rattle.tn_wire.specs.Stream.{Told};
-ghost use Rattle.cli_traces.specs.Following.{connection, open_of};
+ghost use Rattle.cli_traces.specs.Following.{connection, open_of, with_seen};
 ghost use Rattle.cli_traces.specs.Held.{following_seen, IsReady, TakesSide};
-ghost use Rattle.cli_traces.specs.Reading.{again, event_log};
+ghost use Rattle.cli_traces.specs.Reading.{again, ends_text, event_log};
+ghost use Rattle.cli_traces.specs.Start.{may_cut};
 ghost use Rattle.cli_traces.specs.Taking.{TakesPiece};
 
 use crate::piece::take_piece;
@@ -81,6 +82,29 @@ impl Follower {
                 piece,
             ),
         }
+    }
+
+    /// Whether text may still come of a side.
+    pub(crate) fn may_cut(&self, side: Side) -> bool
+        ensures { result ≡ may_cut side (following_seen self.now).reading.start }
+    {
+        self.reading.start.may_cut(side)
+    }
+
+    /// Whether what is open of a side's stream is text, and ends here.
+    pub(crate) fn ends_text(&self, side: Side) -> bool
+        ensures { result ≡ ends_text side (following_seen self.now).reading }
+    {
+        self.reading.ends_text(side)
+    }
+
+    /// Sees a byte of the host's, before its first record.
+    pub(crate) fn see(&mut self, byte: u8)
+        requires { IsReady self.old }
+        ensures seen { following_seen self.new ≡ with_seen byte (following_seen self.old) }
+        ensures ready { IsReady self.new }
+    {
+        self.reading = self.reading.scanned(byte);
     }
 
     /// The bytes that are open of a side's stream, as they came.

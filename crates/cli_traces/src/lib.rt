@@ -14,6 +14,7 @@ mod reading;
 mod record;
 mod run;
 mod spelled;
+mod start;
 mod text;
 mod told;
 mod turn;

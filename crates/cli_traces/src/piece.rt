@@ -8,7 +8,7 @@ ghost use Rattle.cli_traces.specs.Reading.{event_log};
 ghost use Rattle.cli_traces.specs.Taking.{TakesEvent, TakesPiece};
 
 use crate::reading::{Reading, Task};
-use crate::record::{take_negotiated, take_record};
+use crate::record::{take_negotiated, take_told};
 use crate::spelled::{len_of, open_after};
 use tn_session::RunFault;
 use tn_wire::{Deframer, Event, Step};
@@ -25,7 +25,7 @@ fn take_event(
         (string_bytes out.old) result reading.new (string_bytes out.new) }
 {
     match event {
-        Event::Record(bytes) => take_record(task, reading, out, bytes),
+        Event::Record(bytes) => take_told(task, reading, out, bytes),
         other => Ok(take_negotiated(task, reading, out, other)?),
     }
 }

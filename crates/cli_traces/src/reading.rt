@@ -1,9 +1,10 @@
 //! What is known of a connection beside what is open of its streams.
 
 ghost use Rattle.std.specs.Prelude.{◌≡◌};
-ghost use Rattle.cli_traces.specs.Reading.{at_first, again};
+ghost use Rattle.cli_traces.specs.Reading.{again, at_first, ends_text, scanned};
 
 use crate::asked::Asked;
+use crate::start::{Place, Start};
 use crate::turn::Stage;
 use tn_cores::ScreenModel;
 use tn_traces::{Negotiated, Side};
@@ -11,6 +12,12 @@ use tn_traces::{Negotiated, Side};
 /// What is known of a connection, and of what was printed before it.
 #[derive(Clone, Copy)]
 pub(crate) struct Reading {
+    /// How far this connection is from its first record.
+    pub(crate) start: Start,
+    /// Where in its token the host's stream stands, before its first record.
+    pub(crate) place: Place,
+    /// Whether what is open of it is plain text.
+    pub(crate) plain: bool,
     /// How far TN3270E is agreed.
     pub(crate) now: Negotiated,
     /// The model that this connection named last.
@@ -44,6 +51,9 @@ impl Reading {
         ensures { result ≡ at_first }
     {
         Reading {
+            start: Start::Agreeing,
+            place: Place::Data,
+            plain: true,
             now: Negotiated::Classic,
             named: None,
             sized: None,
@@ -59,9 +69,30 @@ impl Reading {
         ensures { result ≡ again self }
     {
         Reading {
+            start: Start::Agreeing,
+            place: Place::Data,
+            plain: true,
             now: Negotiated::Classic,
             named: None,
             ..self
         }
+    }
+
+    /// With one more byte of the host's, before its first record.
+    pub(crate) fn scanned(self, byte: u8) -> Reading
+        ensures { result ≡ scanned byte self }
+    {
+        Reading {
+            place: self.place.after(byte),
+            plain: self.place.stays_plain(byte, self.plain),
+            ..self
+        }
+    }
+
+    /// Whether what is open of a side's stream is text, and ends here.
+    pub(crate) fn ends_text(self, side: Side) -> bool
+        ensures { result ≡ ends_text side self }
+    {
+        self.start.is_cutting(side) && self.plain
     }
 }

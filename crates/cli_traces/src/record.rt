@@ -10,16 +10,19 @@ ghost use Rattle.tn_traces.specs.Record.{kept_of};
 ghost use Rattle.tn_wire.specs.Calls.{told_of};
 ghost use Rattle.cli_traces.specs.Device.{device_named};
 ghost use Rattle.cli_traces.specs.Fields.{fields_in, drawn_of};
-ghost use Rattle.cli_traces.specs.Reading.{sender_of, same_side, is_printed, is_model, size_line, sizes_text, first_sized, sized_after, is_other, has_other_size, counted, line_text, line_after, in_turn, body_text, body_after, some_text, some_after, bodies_text, bodies_after, drawn_by, head_text, head_after, ends_size, shaped_log, kept_log, named_after, named_text, tells_device, negotiated_log};
+ghost use Rattle.cli_traces.specs.Reading.{sender_of, same_side, is_printed, is_model, size_line, sizes_text, first_sized, sized_after, is_other, has_other_size, counted, line_text, line_after, in_turn, body_text, body_after, some_text, some_after, bodies_text, bodies_after, drawn_by, head_text, head_after, ends_size, shaped_log, kept_log, named_after, named_text, tells_device, negotiated_log, before_text, record_log, with_record};
+ghost use Rattle.cli_traces.specs.Start.{start_with};
 ghost use Rattle.cli_traces.specs.Text.{record_text, is_line};
 ghost use Rattle.cli_traces.specs.Turns.{begins, turn_after, turn_text};
+ghost use Rattle.cli_traces.specs.declared.start.Start.TheVariants.{Agreeing};
 ghost use Rattle.cli_traces.specs.declared.text.Shape.TheVariants.{Comment, Line, Fields};
 ghost use Rattle.cli_traces.specs.Taking.{TakesEvent};
 
 use crate::device::{device_named, model_of, push_device, size_words};
 use crate::fields::{after_first, drawn, first_field};
 use crate::reading::{Reading, Task};
-use crate::text::{Shape, push_fields, push_record, shape_of};
+use crate::start::Start;
+use crate::text::{Shape, push_fields, push_plain, push_record, shape_of};
 use crate::turn::{begins, stage_after, turn_after};
 use std::alloc::AllocError;
 use tn_cores::{ScreenModel, SessionFault};
@@ -280,7 +283,7 @@ fn take_kept(
 }
 
 /// Takes a record.
-pub(crate) fn take_record(
+fn take_record(
     task: Task,
     reading: &mut Reading,
     out: &mut String,
@@ -295,6 +298,43 @@ pub(crate) fn take_record(
         Err(fault) if is_same(task.side, task.asked.side) => Err(RunFault::Header(fault)),
         Err(_fault) => Ok(()),
     }
+}
+
+/// Takes text before the session, which our own end of a record ended.
+#[tactic(auto, unfolding(crate::specs::Reading::before_text))]
+fn take_text(
+    task: Task,
+    reading: &mut Reading,
+    out: &mut String,
+    bytes: &[u8],
+) -> Result<(), AllocError>
+    ensures text { OnOk result (string_bytes out.new ≡ string_bytes out.old
+        ++ before_text task.asked task.side task.line reading.old bytes.now) }
+    ensures known { OnOk result
+        (reading.new ≡ record reading.old { start = Agreeing }) }
+{
+    if !bytes.is_empty() && is_printed(task, reading.turn) {
+        push_plain(out, task.line, bytes)?;
+    }
+    reading.start = Start::Agreeing;
+    Ok(())
+}
+
+/// Takes the bytes that a record's end ended: text before the session, or a record.
+pub(crate) fn take_told(
+    task: Task,
+    reading: &mut Reading,
+    out: &mut String,
+    bytes: &[u8],
+) -> Result<(), RunFault>
+    ensures { TakesEvent (record_log task.asked task.side task.line reading.old bytes.now)
+        (string_bytes out.old) result reading.new (string_bytes out.new) }
+{
+    if reading.ends_text(task.side) {
+        return Ok(take_text(task, reading, out, bytes)?);
+    }
+    reading.start = reading.start.with_record(task.side);
+    take_record(task, reading, out, bytes)
 }
 
 /// Whether a device is told: beside turns and sizes.
@@ -333,13 +373,14 @@ pub(crate) fn take_negotiated(
     ensures text { OnOk result (string_bytes out.new ≡ string_bytes out.old
         ++ named_text task.asked
         (device_named (sender_of task.asked.source task.side) (told_of event.now))) }
-    ensures known { OnOk result (negotiated_log task.asked (sender_of task.asked.source task.side)
-        reading.old (told_of event.now) ≡ going (named_text task.asked
+    ensures known { OnOk result (negotiated_log task.asked task.side
+        (sender_of task.asked.source task.side) reading.old (told_of event.now) ≡ going (named_text task.asked
         (device_named (sender_of task.asked.source task.side) (told_of event.now))) reading.new) }
 {
     let sender = task.asked.sender(task.side);
     let named = device_named(sender, event);
     push_named(out, task, named)?;
+    reading.start = reading.start.after(task.side, event);
     reading.now = negotiated_after(sender, reading.now, event);
     reading.named = named_after(reading.named, named);
     Ok(())

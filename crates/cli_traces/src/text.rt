@@ -4,7 +4,7 @@ ghost use Rattle.std.specs.Prelude.{◌≡◌, ◌++◌, OnOk};
 ghost use Rattle.std.specs.String.{string_bytes};
 ghost use Rattle.tn_traces.specs.Held.{kept_seen};
 ghost use Rattle.cli_traces.specs.Open.{open_text};
-ghost use Rattle.cli_traces.specs.Text.{has_fields, shape_of, fields_word, fields_number, fields_head, fields_line, fields_text, is_3270, is_line, type_name, header_words, number_words, comment_text, bytes_text, record_text, connection_text, refused_text, wire_name, header_name, fault_text};
+ghost use Rattle.cli_traces.specs.Text.{has_fields, shape_of, fields_word, fields_number, fields_head, fields_line, fields_text, is_3270, is_line, type_name, header_words, number_words, comment_text, bytes_text, record_text, connection_text, plain_head, plain_text, refused_text, wire_name, header_name, fault_text};
 
 use crate::fields::{after_first, push_names};
 use order_lines::push_bytes;
@@ -193,6 +193,23 @@ pub(crate) fn push_fields(
 {
     push_fields_head(out, count, line, &kept.header)?;
     push_fields_line(out, kept.body)
+}
+
+#[tactic(auto, unfolding(crate::specs::Text::plain_head))]
+fn push_plain_head(out: &mut String, line: u64) -> Result<(), AllocError>
+    ensures { OnOk result (string_bytes out.new ≡ string_bytes out.old ++ plain_head line) }
+{
+    write!(out, "# plain text at line {line}: ")
+}
+
+/// The text that came before a session, up to a command in the line of this number.
+pub(crate) fn push_plain(out: &mut String, line: u64, bytes: &[u8]) -> Result<(), AllocError>
+    ensures { OnOk result
+        (string_bytes out.new ≡ string_bytes out.old ++ plain_text line bytes.now) }
+{
+    push_plain_head(out, line)?;
+    push_bytes(out, bytes)?;
+    out.push_str("\n")
 }
 
 /// That a new connection begins after a line.

@@ -1,4 +1,4 @@
-use Rattle.cli_traces.proofs.Cuts.{pieces_add_whole, adds_one_text, cuts_agree}
+use Rattle.cli_traces.proofs.Bytes.{pieces_add_whole, adds_one_text, cuts_agree}
 use Rattle.cli_traces.proofs.law.pieces_law.Goals as goal
 
 pub returns : goal.returns
