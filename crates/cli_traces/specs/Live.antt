@@ -2,7 +2,7 @@
 use Rattle.std.specs.Prelude.{ℕ, ◌≡◌, Bool, true, false, List, [], if◌then◌else◌}
 use Rattle.tn_traces.specs.declared.line.Side.{Side}
 use Rattle.cli_traces.specs.declared.asked.Asked.{Asked}
-use Rattle.cli_traces.specs.Following.{Following, Course, goes, stops, beginning, AddsPiece}
+use Rattle.cli_traces.specs.Following.{Following, Course, goes, stops, beginning, AddsBytes}
 
 -- what is asked for, the number that comments name, what is known of the session, and whether a fault of it was told
 pub record Followed : Type 0 where
@@ -22,7 +22,7 @@ course_of false following = goes following
 abbrev pub FollowsBy : Bool → Followed → Side → List ℕ → List ℕ → Followed → Type 0
 FollowsBy true old side piece text new = (text ≡ []) × (new ≡ old)
 FollowsBy false old side piece text new =
-    AddsPiece old.asked old.number side old.following piece text (course_of new.is_over new.following)
+    AddsBytes old.asked old.number side old.following piece text (course_of new.is_over new.following)
     × (new.asked ≡ old.asked) × (new.number ≡ old.number)
 
 abbrev pub Follows : Followed → Side → List ℕ → List ℕ → Followed → Type 0

@@ -42,7 +42,7 @@ fn push_run_fault(out: &mut String, number: u64, fault: RunFault) -> Result<Next
 }
 
 /// Takes a piece of what a side sent.
-pub(crate) fn take_piece_line(
+fn take_piece_line(
     asked: Asked,
     follower: &mut Follower,
     number: u64,
@@ -115,7 +115,7 @@ fn take_byte(
 }
 
 /// Takes bytes that a side sent: one by one while text may come, and then the others.
-fn take_bytes(
+pub(crate) fn take_bytes(
     asked: Asked,
     follower: &mut Follower,
     number: u64,

@@ -6,7 +6,7 @@ ghost use Rattle.cli_traces.specs.Live.{Follows, followed_first};
 
 use crate::asked::Asked;
 use crate::follower::Follower;
-use crate::line::{Next, take_piece_line};
+use crate::line::{Next, take_bytes};
 use crate::reading::Reading;
 use std::alloc::{AllocError, Global};
 use std::marker::Model;
@@ -79,7 +79,7 @@ impl Live {
             return Ok(());
         }
         self.is_over = true;
-        let next = take_piece_line(
+        let next = take_bytes(
             self.asked,
             &mut self.follower,
             self.number,
