@@ -68,7 +68,7 @@ def run(program: Program, more: list[str], screens: list[str], lines: list[str])
     return Ran(said, done.stderr.decode().splitlines(), done.returncode, host.answers)
 
 
-SCREENS = [SIGNON, WRONG, MENU, ITEMS, FLAWED, FLAWED, SIGNON]
+SCREENS = [SIGNON, WRONG, MENU, ITEMS, FLAWED, FLAWED, SIGNON, SIGNON]
 LINES = ["String(ANNA)", "Enter", "PF(3)", "String(1) Enter", "PA(1)", "Enter", "Enter", "Clear", "Quit"]
 
 
