@@ -308,12 +308,7 @@ pub(crate) fn serve(rt: &HostRuntime, layout: &str, place: Place<'_>, count: u16
 }
 
 /// `serve` for many terminals at once, with the layout of a file.
-pub(crate) fn serve_many(
-    rt: &HostRuntime,
-    layout: &str,
-    place: Place<'_>,
-    many: Many,
-) -> Status {
+pub(crate) fn serve_many(rt: &HostRuntime, layout: &str, place: Place<'_>, many: Many) -> Status {
     let mut layout = heard_file(rt, Lines::Layout, layout);
     let mut records = sized_input(rt);
     let status = run_serve_many(

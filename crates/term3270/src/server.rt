@@ -81,9 +81,7 @@ fn register(poll: &Poll, stream: &mut TcpStream, token: usize) -> bool {
     // Where the system refuses this, the session is slower and no other.
     let _ = stream.set_nodelay(true);
     let both = Interest::READABLE | Interest::WRITABLE;
-    poll.registry()
-        .register(stream, Token(token), both)
-        .is_ok()
+    poll.registry().register(stream, Token(token), both).is_ok()
 }
 
 /// Has a line reported again that may have more to do.
