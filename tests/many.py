@@ -158,11 +158,13 @@ def resets(serve, front):
 
 
 def floods(serve, data, times):
-    """Sends so much, and reads nothing."""
+    """Sends so much without reading, and then waits for the end."""
     with serve.line() as line:
         try:
             for _ in range(times):
                 line.sendall(data)
+            while line.recv(65536):
+                pass
         except OSError:
             pass
 
