@@ -1,0 +1,113 @@
+//! One terminal's line: its stream, as far as it goes without a wait.
+
+use cli_hosts::{Hosted, Hub, Stand};
+use mio::net::TcpStream;
+use std::alloc::Global;
+use std::io::{ErrorKind, Read, Write};
+
+/// How often a line is written and read in one turn.
+const MOST_STEPS: u32 = 4;
+
+/// What became of a write.
+enum Wrote {
+    /// The stream took some of what is due.
+    Some,
+    /// Nothing is due, or the stream takes nothing now.
+    Waits,
+    /// It failed.
+    Failed,
+}
+
+/// Writes what is due to the terminal of a token, once.
+fn write_due(stream: &mut TcpStream, hub: &mut Hub<Hosted<'_>>, token: usize) -> Wrote {
+    let due = hub.due(token);
+    if due.is_empty() {
+        return Wrote::Waits;
+    }
+    match stream.write(due) {
+        Ok(0) => Wrote::Failed,
+        Ok(count) => {
+            hub.send(token, count);
+            Wrote::Some
+        }
+        Err(error) => match error.kind() {
+            ErrorKind::WouldBlock => Wrote::Waits,
+            ErrorKind::Interrupted => Wrote::Some,
+            _ => Wrote::Failed,
+        },
+    }
+}
+
+/// What became of a read.
+enum Came {
+    /// The terminal's session took something.
+    Some,
+    /// Nothing is there now.
+    Nothing,
+    /// No more comes.
+    Ended,
+}
+
+/// Reads what came of the terminal of a token, once.
+fn read_some(
+    alloc: Global,
+    stream: &mut TcpStream,
+    hub: &mut Hub<Hosted<'_>>,
+    token: usize,
+    now: u64,
+    buffer: &mut [u8],
+) -> Came {
+    match stream.read(buffer) {
+        Ok(0) => {
+            hub.close(token);
+            Came::Ended
+        }
+        Ok(count) => {
+            hub.hear(alloc, token, now, &buffer[..count]);
+            Came::Some
+        }
+        Err(error) => match error.kind() {
+            ErrorKind::WouldBlock => Came::Nothing,
+            ErrorKind::Interrupted => Came::Some,
+            _ => {
+                hub.break_off(token);
+                Came::Ended
+            }
+        },
+    }
+}
+
+/// Whether the session of a token goes on, so that more is read.
+fn goes(hub: &Hub<Hosted<'_>>, token: usize) -> bool {
+    matches!(hub.stand(token), Some(Stand::Goes))
+}
+
+/// Writes and reads the line of a token until it would block, or has ended: whether it may have more to do, and is to be looked
+/// at again.
+pub(crate) fn work_line(
+    alloc: Global,
+    stream: &mut TcpStream,
+    hub: &mut Hub<Hosted<'_>>,
+    token: usize,
+    now: u64,
+    buffer: &mut [u8],
+) -> bool {
+    for _ in 0..MOST_STEPS {
+        match write_due(stream, hub, token) {
+            Wrote::Some => continue,
+            Wrote::Waits => {}
+            Wrote::Failed => {
+                hub.break_off(token);
+                return false;
+            }
+        }
+        if !goes(hub, token) {
+            return false;
+        }
+        match read_some(alloc, stream, hub, token, now, buffer) {
+            Came::Some => {}
+            Came::Nothing | Came::Ended => return false,
+        }
+    }
+    true
+}

@@ -1,0 +1,321 @@
+//! Many terminals at once: a listener, the lines that came of it, and the hub that they are of. Nothing but the wait for the next
+//! event waits.
+
+use crate::asked::Asked;
+use crate::one_line::work_line;
+use cli_commands::{Status, TakesBytes};
+use cli_hosts::{Hosted, Hub, Settled, host_limits, open_host, settle};
+use cli_sessions::Output;
+use mio::net::{TcpListener, TcpStream};
+use mio::{Events, Interest, Poll, Token};
+use scr_layout::Layout;
+use std::alloc::{AllocError, Global};
+use std::io;
+use std::net::{Net, ToSocketAddrs};
+use std::time::{Clock, Duration, Instant};
+
+/// The listener's token. The others are those of the hub.
+const LISTENER: Token = Token(usize::MAX);
+
+/// The most events of one wait.
+const MOST_EVENTS: usize = 256;
+
+/// The longest wait in milliseconds, after which the time is looked at.
+const SWEEP: u64 = 250;
+
+/// The bytes of one read.
+const MOST_READ: usize = 4_096;
+
+/// What became of the terminals that came.
+#[derive(Clone, Copy)]
+struct Tally {
+    settled: u64,
+    answered: u64,
+    has_failed: bool,
+    has_starved: bool,
+}
+
+impl Tally {
+    fn count(&mut self, settled: Settled) {
+        self.settled = self.settled.saturating_add(1);
+        match settled {
+            Settled::Answered => self.answered = self.answered.saturating_add(1),
+            Settled::Failed => self.has_failed = true,
+            Settled::Starved => self.has_starved = true,
+        }
+    }
+}
+
+/// A port, and the terminals that came to it.
+#[derive(Drop)]
+pub struct Server<'a> {
+    poll: Poll,
+    listener: TcpListener,
+    /// Whether a terminal may wait that was not accepted.
+    may_accept: bool,
+    hub: Hub<Hosted<'a>>,
+    layout: &'a Layout,
+    records: &'a [&'a [u8]],
+    /// The lines by token.
+    lines: Vec<Option<TcpStream>>,
+    open: u16,
+    asked: Asked,
+    tally: Tally,
+}
+
+/// Listens at the first address of a place that can be had.
+fn listen<R: Net>(rt: &R, host: &str, port: u16) -> io::Result<TcpListener> {
+    let mut last = io::Error::from(io::ErrorKind::InvalidInput);
+    for address in (host, port).to_socket_addrs(rt)? {
+        match TcpListener::bind(rt, address) {
+            Ok(listener) => return Ok(listener),
+            Err(error) => last = error,
+        }
+    }
+    Err(last)
+}
+
+/// Has a line reported whenever it can be read or written.
+fn register(poll: &Poll, stream: &mut TcpStream, token: usize) -> bool {
+    // Where the system refuses this, the session is slower and no other.
+    let _ = stream.set_nodelay(true);
+    let both = Interest::READABLE | Interest::WRITABLE;
+    poll.registry().register(stream, Token(token), both).is_ok()
+}
+
+/// Has a line reported again that may have more to do.
+fn register_again(poll: &Poll, stream: &mut TcpStream, token: usize) -> bool {
+    let both = Interest::READABLE | Interest::WRITABLE;
+    poll.registry()
+        .reregister(stream, Token(token), both)
+        .is_ok()
+}
+
+/// Keeps a line by its token.
+fn keep(
+    lines: &mut Vec<Option<TcpStream>>,
+    token: usize,
+    stream: TcpStream,
+) -> Result<(), AllocError> {
+    while lines.len() <= token {
+        lines.push(None)?;
+    }
+    lines[token] = Some(stream);
+    Ok(())
+}
+
+impl<'a> Server<'a> {
+    /// Listens at a place, to serve a screen.
+    pub fn at<R: Net>(
+        rt: &R,
+        alloc: Global,
+        host: &str,
+        port: u16,
+        layout: &'a Layout,
+        records: &'a [&'a [u8]],
+        asked: Asked,
+    ) -> io::Result<Server<'a>> {
+        let poll = Poll::new(rt)?;
+        let mut listener = listen(rt, host, port)?;
+        poll.registry()
+            .register(&mut listener, LISTENER, Interest::READABLE)?;
+        let patience = u64::from(asked.idle) * 1_000;
+        Ok(Server {
+            poll,
+            listener,
+            may_accept: false,
+            hub: Hub::new(alloc, host_limits(records, patience)),
+            layout,
+            records,
+            lines: Vec::new(alloc),
+            open: 0,
+            asked,
+            tally: Tally {
+                settled: 0,
+                answered: 0,
+                has_failed: false,
+                has_starved: false,
+            },
+        })
+    }
+
+    /// How many terminals may come in all.
+    fn most(&self) -> u64 {
+        match self.asked.count {
+            0 => u64::MAX,
+            count => u64::from(count),
+        }
+    }
+
+    /// Whether all terminals came and went, or enough answered.
+    fn is_done(&self) -> bool {
+        let answers = u64::from(self.asked.answers);
+        self.tally.settled >= self.most() || (answers > 0 && self.tally.answered >= answers)
+    }
+
+    /// Whether another terminal is served beside those that are there.
+    fn has_room(&self) -> bool {
+        self.open < self.asked.at_once.max(1) && self.hub.came() < self.most()
+    }
+
+    /// A terminal came.
+    fn open(&mut self, alloc: Global, now: u64, mut stream: TcpStream) {
+        if self.hub.came() >= self.most() {
+            return;
+        }
+        let Ok(token) = open_host(alloc, &mut self.hub, self.layout, self.records, now) else {
+            self.tally.has_starved = true;
+            return;
+        };
+        self.open = self.open.saturating_add(1);
+        let is_kept = register(&self.poll, &mut stream, token)
+            && keep(&mut self.lines, token, stream).is_ok();
+        if !is_kept {
+            self.hub.break_off(token);
+        }
+    }
+
+    /// Accepts the terminals that wait, as long as there is room.
+    fn accept_all(&mut self, alloc: Global, now: u64) {
+        for _ in 0..MOST_EVENTS {
+            if !self.has_room() {
+                return;
+            }
+            match self.listener.accept() {
+                Ok((stream, _)) => self.open(alloc, now, stream),
+                Err(error) if error.kind() == io::ErrorKind::WouldBlock => {
+                    self.may_accept = false;
+                    return;
+                }
+                // Too many open files, or a terminal that has gone: it is tried again after the next wait.
+                Err(_) => return,
+            }
+        }
+    }
+
+    /// Works a line as far as it goes now.
+    fn work(&mut self, alloc: Global, token: usize, now: u64, buffer: &mut [u8]) {
+        let Some(Some(stream)) = self.lines.get_mut(token) else {
+            return;
+        };
+        if work_line(alloc, stream, &mut self.hub, token, now, buffer)
+            && !register_again(&self.poll, stream, token)
+        {
+            self.hub.break_off(token);
+        }
+    }
+
+    /// Where the terminal of a token ended, its lines are printed, and its line goes.
+    fn settle<W: TakesBytes>(
+        &mut self,
+        alloc: Global,
+        token: usize,
+        output: &mut Output<W>,
+    ) -> Result<(), Status> {
+        let settled = settle(alloc, &mut self.hub, self.layout, token, output)?;
+        if let Some(settled) = settled {
+            if let Some(line) = self.lines.get_mut(token) {
+                *line = None;
+            }
+            self.open = self.open.saturating_sub(1);
+            self.tally.count(settled);
+        }
+        Ok(())
+    }
+
+    /// Ends the terminals whose time is up, and settles all that ended.
+    fn sweep<W: TakesBytes>(
+        &mut self,
+        alloc: Global,
+        now: u64,
+        output: &mut Output<W>,
+    ) -> Result<(), Status> {
+        self.hub.tick(now);
+        for token in 0..self.lines.len() {
+            if self.is_done() {
+                break;
+            }
+            self.settle(alloc, token, output)?;
+        }
+        Ok(())
+    }
+
+    /// Does what events ask for.
+    fn take_events<W: TakesBytes>(
+        &mut self,
+        alloc: Global,
+        events: &Events<Global>,
+        now: u64,
+        buffer: &mut [u8],
+        output: &mut Output<W>,
+    ) -> Result<(), Status> {
+        for event in events {
+            match event.token() {
+                LISTENER => self.may_accept = true,
+                Token(token) => {
+                    self.work(alloc, token, now, buffer);
+                    if self.is_done() {
+                        break;
+                    }
+                    self.settle(alloc, token, output)?;
+                }
+            }
+        }
+        Ok(())
+    }
+
+    /// How the command ends: well where enough answered, whoever else came.
+    fn status(&self) -> Status {
+        let answers = u64::from(self.asked.answers);
+        if answers > 0 && self.tally.answered >= answers {
+            Status::Done
+        } else if self.tally.has_starved {
+            Status::NoMemory
+        } else if self.tally.has_failed {
+            Status::Failed
+        } else {
+            Status::Done
+        }
+    }
+}
+
+/// What time it is, in milliseconds since the server began.
+fn time<R: Clock>(rt: &R, begun: Instant) -> io::Result<u64> {
+    let now = Instant::now(rt)?;
+    Ok(u64::try_from(now.saturating_duration_since(begun).as_millis()).unwrap_or(u64::MAX))
+}
+
+/// Serves until all terminals came and went, or enough answered. An error is one of the wait itself.
+pub fn serve_all<R: Clock, W: TakesBytes>(
+    rt: &R,
+    alloc: Global,
+    server: &mut Server<'_>,
+    output: &mut Output<W>,
+) -> io::Result<Status> {
+    let mut events = Events::with_capacity(alloc, MOST_EVENTS)?;
+    let mut buffer = [0; MOST_READ];
+    let begun = Instant::now(rt)?;
+    let mut swept = 0;
+    for _ in 0..u64::MAX {
+        if server.is_done() {
+            break;
+        }
+        server
+            .poll
+            .poll(&mut events, Some(Duration::from_millis(SWEEP)))?;
+        let now = time(rt, begun)?;
+        if let Err(status) = server.take_events(alloc, &events, now, &mut buffer, output) {
+            return Ok(status);
+        }
+        if now.saturating_sub(swept) >= SWEEP {
+            swept = now;
+            if let Err(status) = server.sweep(alloc, now, output) {
+                return Ok(status);
+            }
+        }
+        if server.may_accept {
+            server.accept_all(alloc, now);
+        }
+    }
+    Ok(server.status())
+}

@@ -1,0 +1,4 @@
+mod Rooms
+mod Heard
+mod Alone
+mod Own
