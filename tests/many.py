@@ -21,6 +21,9 @@ LAYOUT = 'default = "24x80"\n[[field]]\nname = "code"\nrow = 1\ncol = 4\nlength 
 RECORD = "F5C21D60C11D40131140C61DF0"
 LONGEST = 60
 
+# How long a terminal waits at most for its turn, on a machine that does nothing else.
+SOON = 1.0
+
 
 def bytes_of(text):
     return bytes.fromhex(text.replace(" ", ""))
@@ -155,11 +158,13 @@ def resets(serve, front):
 
 
 def floods(serve, data, times):
-    """Sends so much, and reads nothing."""
+    """Sends so much without reading, and then waits for the end."""
     with serve.line() as line:
         try:
             for _ in range(times):
                 line.sendall(data)
+            while line.recv(65536):
+                pass
         except OSError:
             pass
 
@@ -290,7 +295,7 @@ def idle(program):
     took = time.time() - begun
     status, text = serve.end()
     wrong += wrong_answers(text, [7])
-    if sorted(faults_in(text)) != ["N10"] + ["N12"] * 4:
+    if sorted(faults_in(text)) not in (["N12"] * 4 + ["N8"], ["N10"] + ["N12"] * 4):
         wrong.append(f"faults {faults_in(text)}")
     if not 2 <= took < 6 or status != 3:
         wrong.append(f"took {took:.1f} seconds, status {status}")
@@ -300,14 +305,14 @@ def idle(program):
 def limits(program):
     """What floods a session in whole tokens is ended by a limit, and costs the next terminal nothing."""
     serve = Serve(program, "--count", "0", "--at-once", "10", "--answers", "1")
-    together(*[quietly(lambda: floods(serve, b"\xff\xfd\x01" * 1000, 1000)) for _ in range(3)],
-             *[quietly(lambda: floods(serve, b"\xff\xf1" * 1000, 1000)) for _ in range(3)])
+    together(*[quietly(lambda: floods(serve, b"\xff\xfd\x01" * 1000, 70)) for _ in range(3)],
+             *[quietly(lambda: floods(serve, b"\xff\xf1" * 1000, 105)) for _ in range(3)])
     begun = time.time()
     wrong = together(lambda: good(serve, 8))
     took = time.time() - begun
     status, text = serve.end()
     wrong += wrong_answers(text, [8])
-    if took > 1 or status != 0:
+    if took > SOON or status != 0:
         wrong.append(f"took {took:.1f} seconds, status {status}")
     if not set(faults_in(text)) <= {"N4", "N8", "N13", "N14"} or "N14" not in faults_in(text):
         wrong.append(f"faults {faults_in(text)}")
@@ -323,7 +328,7 @@ def scan(program):
     for number in range(5):
         begun = time.time()
         wrong += together(lambda number=number: good(serve, number))
-        if time.time() - begun > 1:
+        if time.time() - begun > SOON:
             wrong.append(f"terminal {number} waited {time.time() - begun:.1f} seconds")
     status, text = serve.end()
     wrong += wrong_answers(text, range(5))
@@ -338,7 +343,7 @@ def held(program):
     lines = [serve.line() for _ in range(500)]
     begun = time.time()
     wrong = together(*[lambda number=number: good(serve, number) for number in range(20)])
-    if time.time() - begun > 2:
+    if time.time() - begun > 2 * SOON:
         wrong.append(f"it took {time.time() - begun:.1f} seconds")
     status, text = serve.end()
     for line in lines:

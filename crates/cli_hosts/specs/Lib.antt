@@ -1,2 +1,5 @@
 pub mod Hosting
+pub mod Writing
 pub mod Words
+pub mod Printed
+pub mod Alone

@@ -12,13 +12,14 @@ use Rattle.tn_session.specs.declared.fault.RunFault.{RunFault}
 use Rattle.tn_session.specs.declared.fault.RunFault.TheVariants.{Session, OutOfMemory}
 use Rattle.tn_session.specs.HostLog.{Outcome}
 use Rattle.tn_session.specs.HostTalk.{outcome_in}
-use Rattle.cli_sessions.specs.Printing.{Printing, IsPrinted}
+use Rattle.cli_sessions.specs.Printing.{Printing}
 use Rattle.cli_sessions.specs.Session.{session_seen, session_lines}
-use Rattle.cli_hosts.specs.declared.settle.Settled.{Settled}
-use Rattle.cli_hosts.specs.declared.settle.Settled.TheVariants.{Answered, Failed, Starved}
+use Rattle.cli_hosts.specs.declared.settling.Settled.{Settled}
+use Rattle.cli_hosts.specs.declared.settling.Settled.TheVariants.{Answered, Failed, Starved}
 use Rattle.cli_hosts.specs.declared.word.Word as held
 use Rattle.cli_hosts.specs.declared.word.Word.TheVariants as variants
 use Rattle.cli_hosts.specs.Hosting.{Hosting}
+use Rattle.cli_hosts.specs.Writing.{Writes}
 
 -- what came of its session; or a limit ended it; or memory was refused to it
 pub data Word : Type 0 where
@@ -90,9 +91,9 @@ settled_of of_memory = Starved
 
 -- the lines of a terminal that ended were written; or memory was refused for them, and none is; or a write failed
 abbrev pub PrintsEnded : List Declared → Ended Hosting → Printing → Printing → Result Settled Status → Type 0
-PrintsEnded entries ended old new (Ok settled) = IsPrinted old new (word_lines entries ended.number (word_ended ended)) true × (settled ≡ settled_of (word_ended ended))
+PrintsEnded entries ended old new (Ok settled) = Writes old new (word_lines entries ended.number (word_ended ended)) true × (settled ≡ settled_of (word_ended ended))
 PrintsEnded entries ended old new (Err NoMemory) = new ≡ old
-PrintsEnded entries ended old new (Err HasFailed) = IsPrinted old new (word_lines entries ended.number (word_ended ended)) false
+PrintsEnded entries ended old new (Err HasFailed) = Writes old new (word_lines entries ended.number (word_ended ended)) false
 PrintsEnded entries ended old new (Err status) = ⊥
 
 -- nothing is written of a terminal that is not there, or goes on

@@ -1,6 +1,6 @@
 //! A host's session in a hub.
 
-ghost use Rattle.std.specs.Prelude.{◌≡◌, ◌+◌, ◌<◌, ℕ, map, None, IfOk, IfErr, OnOk, Option, option_map};
+ghost use Rattle.std.specs.Prelude.{◌≡◌, ◌+◌, ◌<◌, ℕ, true, map, None, IfOk, IfErr, OnOk};
 ghost use Rattle.session_hub.specs.Hubs.{At, Opens, Steps, seat_at};
 ghost use Rattle.tn_session.specs.HostTalk.{host_talk, first_said, outcome_in};
 ghost use Rattle.tn_session.specs.HostView.{some_outcome};

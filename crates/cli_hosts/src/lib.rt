@@ -2,9 +2,12 @@
 #![tactic(auto)]
 
 mod hosted;
-mod settle;
+mod laws;
+mod lines;
+mod settling;
 mod word;
 
 pub use hosted::{Hosted, host_limits, open_host};
+pub use laws::host_law;
 pub use session_hub::{End, Ended, Hub, Limits, Stand};
-pub use settle::{Settled, settle};
+pub use settling::{Settled, settle};

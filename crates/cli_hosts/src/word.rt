@@ -1,14 +1,14 @@
 //! What is told of a terminal that ended.
 
-ghost use Rattle.std.specs.Prelude.{◌≡◌, ◌++◌, IfOk, OnOk, None, Some};
+ghost use Rattle.std.specs.Prelude.{◌≡◌, IfOk};
 ghost use Rattle.std.specs.String.{string_bytes};
 ghost use Rattle.tn_session.specs.HostView.{some_outcome};
 ghost use Rattle.tn_session.specs.HostTalk.{outcome_in};
-ghost use Rattle.cli_hosts.specs.Words.{word_seen, word_left, word_over, word_good, word_of, limit_number, limit_line, starved_line, word_lines, settled_of};
+ghost use Rattle.cli_hosts.specs.Words.{word_seen, word_left, word_over, word_good, word_of, word_lines, settled_of};
 
 use crate::hosted::Hosted;
-use crate::settle::Settled;
-use cli_sessions::session_text;
+use crate::lines::{answered_text, fault_text, limit_text, starved_text};
+use crate::settling::Settled;
 use scr_layout::Layout;
 use session_hub::{End, Ended};
 use std::alloc::{AllocError, Global};
@@ -78,31 +78,6 @@ pub(crate) fn settled_of(word: &Word) -> Settled
     }
 }
 
-/// The number of a limit; that of the others is a session's.
-fn limit_number(end: End) -> &'static str
-    ensures { result.now ≡ limit_number end }
-{
-    match end {
-        End::Idle => "N12",
-        End::Slow => "N13",
-        End::Flooded => "N14",
-        _ => "",
-    }
-}
-
-fn limit_text(alloc: Global, number: u64, end: End) -> Result<String, AllocError>
-    ensures { IfOk result (λ text. string_bytes text ≡ limit_line number end) }
-{
-    let fault = limit_number(end);
-    format!(in alloc; "terminal {number} fault {fault}\n")
-}
-
-fn starved_text(alloc: Global, number: u64) -> Result<String, AllocError>
-    ensures { IfOk result (λ text. string_bytes text ≡ starved_line number) }
-{
-    format!(in alloc; "terminal {number} out of memory\n")
-}
-
 /// The lines of the terminal of this number.
 pub(crate) fn word_text(
     alloc: Global,
@@ -114,7 +89,8 @@ pub(crate) fn word_text(
         ≡ word_lines layout.now.entries number (word_seen word.now)) }
 {
     match word {
-        Word::Session(session) => session_text(alloc, layout, number, session),
+        Word::Session(Ok(outcome)) => answered_text(alloc, layout, number, outcome),
+        Word::Session(Err(why)) => fault_text(alloc, number, *why),
         Word::Limit(end) => limit_text(alloc, number, *end),
         Word::Starved => starved_text(alloc, number),
     }

@@ -16,6 +16,5 @@ pub use fault::fault_number;
 pub use output::Output;
 pub use screen::{Prepared, Screen, prepare_serve};
 pub use serve::serve_on;
-pub use session::session_text;
 pub use terminals::{Terminals, Visits};
 pub use tolerant::{Timed, attach_tolerant_on};

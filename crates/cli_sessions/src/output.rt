@@ -43,7 +43,7 @@ impl<W: TakesBytes> Output<W> {
     }
 
     /// Writes a text and flushes: whether every byte was taken.
-    pub fn print(&mut self, alloc: Global, text: String) -> bool
+    pub(crate) fn print(&mut self, alloc: Global, text: String) -> bool
         ensures { IsPrinted self.old self.new (string_bytes text) result }
     {
         let status = Status::Done;

@@ -36,7 +36,7 @@ fn write_session<W: TakesBytes>(
     ensures { WritesSession layout.now.entries number (session_seen session.now)
         output.old output.new result }
 {
-    let Ok(text) = session_text(alloc, layout, u64::from(number), session) else {
+    let Ok(text) = session_text(alloc, layout, number, session) else {
         return Err(Status::NoMemory);
     };
     if output.print(alloc, text) {

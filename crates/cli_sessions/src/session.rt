@@ -81,7 +81,7 @@ fn push_fields(
 fn push_answered(
     out: &mut String,
     layout: &Layout,
-    number: u64,
+    number: u16,
     outcome: &HostOutcome,
 ) -> Result<(), AllocError>
     ensures { OnOk result (string_bytes out.new ≡ string_bytes out.old
@@ -93,7 +93,7 @@ fn push_answered(
     push_fields(out, layout.entries(), outcome.fields.as_slice())
 }
 
-fn push_fault(out: &mut String, number: u64, why: RunFault) -> Result<(), AllocError>
+fn push_fault(out: &mut String, number: u16, why: RunFault) -> Result<(), AllocError>
     ensures { OnOk result
         (string_bytes out.new ≡ string_bytes out.old ++ fault_line number why) }
 {
@@ -101,11 +101,11 @@ fn push_fault(out: &mut String, number: u64, why: RunFault) -> Result<(), AllocE
     write!(out, "terminal {number} fault {fault}\n")
 }
 
-/// The lines of the terminal of this number: the key and the fields that it sent, or the number of its fault.
-pub fn session_text(
+/// The lines of the terminal of this number.
+pub(crate) fn session_text(
     alloc: Global,
     layout: &Layout,
-    number: u64,
+    number: u16,
     session: &Result<HostOutcome, RunFault>,
 ) -> Result<String, AllocError>
     ensures { IfOk result (λ text. string_bytes text

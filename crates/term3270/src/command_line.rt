@@ -51,7 +51,7 @@ enum Takes<'a> {
     /// A value of this name: a number from 1 to this one, which must be given.
     Number(&'a str, i64),
     /// A value of this name: a number from 0 to this one, which must be given.
-    Count(&'a str, i64),
+    AnyCount(&'a str, i64),
     /// A value of this name: a number from 1 to this one, which need not be given.
     UpTo(&'a str, i64),
     /// An operand, which need not be given.
@@ -421,7 +421,7 @@ const SESSIONS: &[Described<'_>] = &[
             },
             Argument {
                 name: "count",
-                takes: Takes::Count("N", 1000),
+                takes: Takes::AnyCount("N", 1000),
                 help: "How many terminals are served: 1 to 1000, or 0 for any number",
             },
             Argument {
@@ -592,7 +592,7 @@ fn number<'a>(alloc: Global, name: &'a str, value: &'a str, most: i64) -> Arg<'a
 }
 
 /// An option with a number from 0 to this one, which must be given.
-fn count<'a>(alloc: Global, name: &'a str, value: &'a str, most: i64) -> Arg<'a> {
+fn any_count<'a>(alloc: Global, name: &'a str, value: &'a str, most: i64) -> Arg<'a> {
     option(alloc, name, value)
         .required(true)
         .value_parser(clap::value_parser!(u16).range(0..=most))
@@ -648,7 +648,7 @@ fn bare<'a>(alloc: Global, name: &'a str, takes: Takes<'a>) -> Result<Arg<'a>, A
         }
         Takes::Text(value, text) => Ok(with_default(alloc, name, value, text)),
         Takes::Number(value, most) => Ok(number(alloc, name, value, most)),
-        Takes::Count(value, most) => Ok(count(alloc, name, value, most)),
+        Takes::AnyCount(value, most) => Ok(any_count(alloc, name, value, most)),
         Takes::UpTo(value, most) => Ok(up_to(alloc, name, value, most)),
         Takes::NumberWith(value, other) => number_with(alloc, name, value, other),
         Takes::CountWithout(value, other) => count_without(alloc, name, value, other),

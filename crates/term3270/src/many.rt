@@ -5,11 +5,11 @@ ghost use Rattle.cli_commands.specs.Held.{records_held};
 ghost use Rattle.cli_sessions.specs.Prepare.{prepare};
 
 use crate::manners::tell_listening;
-use crate::server::{Server, serve_all};
 use crate::tcp::Place;
 use cli_commands::{GivesBytes, Status, TakesBytes, finish};
 use cli_sessions::{Output, Prepared, Screen, prepare_serve};
 use cli_words::Many;
+use host_server::{Asked, Server, serve_all};
 use std::alloc::{AllocError, Global};
 
 /// The records as slices.
@@ -23,6 +23,22 @@ fn lent<'a>(alloc: Global, records: &'a [Vec<u8>]) -> Result<Vec<&'a [u8]>, Allo
     Ok(slices)
 }
 
+/// What the words of the command line ask of a server.
+fn asked_of(many: Many) -> Asked {
+    let Many {
+        count,
+        at_once,
+        answers,
+        idle,
+    } = many;
+    Asked {
+        count,
+        at_once,
+        answers,
+        idle,
+    }
+}
+
 fn serve_screen<W: TakesBytes>(
     rt: &HostRuntime,
     place: Place<'_>,
@@ -33,12 +49,14 @@ fn serve_screen<W: TakesBytes>(
     let Ok(records) = lent(rt.alloc(), screen.records.as_slice()) else {
         return Status::NoMemory;
     };
-    let mut server = match Server::at(rt, place, &screen.layout, records.as_slice(), many) {
+    let Place { host, port } = place;
+    let (layout, records) = (&screen.layout, records.as_slice());
+    let mut server = match Server::at(rt, rt.alloc(), host, port, layout, records, asked_of(many)) {
         Ok(server) => server,
         Err(error) => return place.report(rt, &error),
     };
     tell_listening(rt, place);
-    match serve_all(rt, &mut server, output) {
+    match serve_all(rt, rt.alloc(), &mut server, output) {
         Ok(status) => status,
         Err(error) => place.report(rt, &error),
     }

@@ -1,19 +1,18 @@
 //! Many terminals at once: a listener, the lines that came of it, and the hub that they are of. Nothing but the wait for the next
 //! event waits.
 
+use crate::asked::Asked;
 use crate::one_line::work_line;
-use crate::tcp::Place;
 use cli_commands::{Status, TakesBytes};
 use cli_hosts::{Hosted, Hub, Settled, host_limits, open_host, settle};
 use cli_sessions::Output;
-use cli_words::Many;
 use mio::net::{TcpListener, TcpStream};
 use mio::{Events, Interest, Poll, Token};
 use scr_layout::Layout;
 use std::alloc::{AllocError, Global};
 use std::io;
-use std::net::ToSocketAddrs;
-use std::time::{Duration, Instant};
+use std::net::{Net, ToSocketAddrs};
+use std::time::{Clock, Duration, Instant};
 
 /// The listener's token. The others are those of the hub.
 const LISTENER: Token = Token(usize::MAX);
@@ -49,7 +48,7 @@ impl Tally {
 
 /// A port, and the terminals that came to it.
 #[derive(Drop)]
-pub(crate) struct Server<'a> {
+pub struct Server<'a> {
     poll: Poll,
     listener: TcpListener,
     /// Whether a terminal may wait that was not accepted.
@@ -60,14 +59,14 @@ pub(crate) struct Server<'a> {
     /// The lines by token.
     lines: Vec<Option<TcpStream>>,
     open: u16,
-    many: Many,
+    asked: Asked,
     tally: Tally,
 }
 
 /// Listens at the first address of a place that can be had.
-fn listen(rt: &HostRuntime, place: Place<'_>) -> io::Result<TcpListener> {
+fn listen<R: Net>(rt: &R, host: &str, port: u16) -> io::Result<TcpListener> {
     let mut last = io::Error::from(io::ErrorKind::InvalidInput);
-    for address in (place.host, place.port).to_socket_addrs(rt)? {
+    for address in (host, port).to_socket_addrs(rt)? {
         match TcpListener::bind(rt, address) {
             Ok(listener) => return Ok(listener),
             Err(error) => last = error,
@@ -107,28 +106,30 @@ fn keep(
 
 impl<'a> Server<'a> {
     /// Listens at a place, to serve a screen.
-    pub(crate) fn at(
-        rt: &HostRuntime,
-        place: Place<'_>,
+    pub fn at<R: Net>(
+        rt: &R,
+        alloc: Global,
+        host: &str,
+        port: u16,
         layout: &'a Layout,
         records: &'a [&'a [u8]],
-        many: Many,
+        asked: Asked,
     ) -> io::Result<Server<'a>> {
         let poll = Poll::new(rt)?;
-        let mut listener = listen(rt, place)?;
+        let mut listener = listen(rt, host, port)?;
         poll.registry()
             .register(&mut listener, LISTENER, Interest::READABLE)?;
-        let patience = u64::from(many.idle) * 1_000;
+        let patience = u64::from(asked.idle) * 1_000;
         Ok(Server {
             poll,
             listener,
             may_accept: false,
-            hub: Hub::new(rt.alloc(), host_limits(records, patience)),
+            hub: Hub::new(alloc, host_limits(records, patience)),
             layout,
             records,
-            lines: Vec::new(rt.alloc()),
+            lines: Vec::new(alloc),
             open: 0,
-            many,
+            asked,
             tally: Tally {
                 settled: 0,
                 answered: 0,
@@ -140,7 +141,7 @@ impl<'a> Server<'a> {
 
     /// How many terminals may come in all.
     fn most(&self) -> u64 {
-        match self.many.count {
+        match self.asked.count {
             0 => u64::MAX,
             count => u64::from(count),
         }
@@ -148,13 +149,13 @@ impl<'a> Server<'a> {
 
     /// Whether all terminals came and went, or enough answered.
     fn is_done(&self) -> bool {
-        let answers = u64::from(self.many.answers);
+        let answers = u64::from(self.asked.answers);
         self.tally.settled >= self.most() || (answers > 0 && self.tally.answered >= answers)
     }
 
     /// Whether another terminal is served beside those that are there.
     fn has_room(&self) -> bool {
-        self.open < self.many.at_once.max(1) && self.hub.came() < self.most()
+        self.open < self.asked.at_once.max(1) && self.hub.came() < self.most()
     }
 
     /// A terminal came.
@@ -265,7 +266,7 @@ impl<'a> Server<'a> {
 
     /// How the command ends: well where enough answered, whoever else came.
     fn status(&self) -> Status {
-        let answers = u64::from(self.many.answers);
+        let answers = u64::from(self.asked.answers);
         if answers > 0 && self.tally.answered >= answers {
             Status::Done
         } else if self.tally.has_starved {
@@ -279,18 +280,19 @@ impl<'a> Server<'a> {
 }
 
 /// What time it is, in milliseconds since the server began.
-fn time(rt: &HostRuntime, begun: Instant) -> io::Result<u64> {
+fn time<R: Clock>(rt: &R, begun: Instant) -> io::Result<u64> {
     let now = Instant::now(rt)?;
     Ok(u64::try_from(now.saturating_duration_since(begun).as_millis()).unwrap_or(u64::MAX))
 }
 
 /// Serves until all terminals came and went, or enough answered. An error is one of the wait itself.
-pub(crate) fn serve_all<W: TakesBytes>(
-    rt: &HostRuntime,
+pub fn serve_all<R: Clock, W: TakesBytes>(
+    rt: &R,
+    alloc: Global,
     server: &mut Server<'_>,
     output: &mut Output<W>,
 ) -> io::Result<Status> {
-    let mut events = Events::with_capacity(rt.alloc(), MOST_EVENTS)?;
+    let mut events = Events::with_capacity(alloc, MOST_EVENTS)?;
     let mut buffer = [0; MOST_READ];
     let begun = Instant::now(rt)?;
     let mut swept = 0;
@@ -302,17 +304,17 @@ pub(crate) fn serve_all<W: TakesBytes>(
             .poll
             .poll(&mut events, Some(Duration::from_millis(SWEEP)))?;
         let now = time(rt, begun)?;
-        if let Err(status) = server.take_events(rt.alloc(), &events, now, &mut buffer, output) {
+        if let Err(status) = server.take_events(alloc, &events, now, &mut buffer, output) {
             return Ok(status);
         }
         if now.saturating_sub(swept) >= SWEEP {
             swept = now;
-            if let Err(status) = server.sweep(rt.alloc(), now, output) {
+            if let Err(status) = server.sweep(alloc, now, output) {
                 return Ok(status);
             }
         }
         if server.may_accept {
-            server.accept_all(rt.alloc(), now);
+            server.accept_all(alloc, now);
         }
     }
     Ok(server.status())

@@ -6,7 +6,7 @@ use std::alloc::Global;
 use std::io::{ErrorKind, Read, Write};
 
 /// How often a line is written and read in one turn.
-const MOST_STEPS: u32 = 16;
+const MOST_STEPS: u32 = 4;
 
 /// What became of a write.
 enum Wrote {

@@ -1,0 +1,27 @@
+//! The example of `host_server`.
+
+use cli_commands::{Status, TakesBytes};
+use cli_sessions::{Output, Screen};
+use host_server::{Asked, Server, serve_all};
+use std::alloc::Global;
+use std::io;
+use std::net::Net;
+use std::time::Clock;
+
+/// Serves a screen to three terminals at once, at a port of this machine.
+fn serve_three<R: Net + Clock, W: TakesBytes>(
+    rt: &R,
+    alloc: Global,
+    screen: &Screen,
+    records: &[&[u8]],
+    output: &mut Output<W>,
+) -> io::Result<Status> {
+    let asked = Asked {
+        count: 3,
+        at_once: 3,
+        answers: 0,
+        idle: 60,
+    };
+    let mut server = Server::at(rt, alloc, "127.0.0.1", 3270, &screen.layout, records, asked)?;
+    serve_all(rt, alloc, &mut server, output)
+}
