@@ -120,7 +120,8 @@ pub fn open_host<'a>(
     ensures free { IfOk result (λ token. seat_at token hub.old.seats ≡ None) }
     ensures counted { OnOk result (hub.new.came ≡ hub.old.came + 1) }
     ensures limits { hub.new.limits ≡ hub.old.limits }
-    ensures refused { IfErr result (λ e. (t : ℕ) → seat_at t hub.new.seats ≡ seat_at t hub.old.seats) }
+    ensures refused { IfErr result (λ e. (t : ℕ) → seat_at t hub.new.seats
+        ≡ seat_at t hub.old.seats) }
     ensures uncounted { IfErr result (λ e. hub.new.came ≡ hub.old.came) }
 {
     let host = HostSession::new(alloc, layout, records, true, true)?;

@@ -15,7 +15,7 @@ use Rattle.cli_commands.specs.declared.output.demo.Demos.TheVariants.{Printed, O
 use Rattle.cli_words.specs.declared.asked.When.{When}
 use Rattle.cli_words.specs.declared.asked.When.TheVariants.{Auto, Always, Never}
 use Rattle.cli_words.specs.declared.asked.KeyLines.{KeyLines}
-use Rattle.cli_words.specs.declared.asked.Many.{Many}
+use Rattle.cli_words.specs.Many.{AreMany, HasManyWords}
 use Rattle.cli_words.specs.declared.asked.KeyLines.TheVariants as key_lines
 use Rattle.cli_words.specs.declared.asked.ReportForm.{ReportForm}
 use Rattle.cli_words.specs.declared.asked.ReportForm.TheVariants.{Json, Sarif}
@@ -266,14 +266,6 @@ abbrev pub IsRecords : List Row → Asked → Type 0
 IsRecords rows asked = (first_of (codes "from") rows ≡ Some (codes "trace") → IsTraced rows asked)
     × (first_of (codes "from") rows ≡ Some (codes "stream") → IsTraced rows asked)
     × (first_of (codes "from") rows ≡ Some (codes "buffer") → AreBuffers rows asked)
-
-abbrev pub AreMany : List Row → Many → Type 0
-AreMany rows many = IsNumber (codes "count") rows many.count × IsNumber (codes "at-once") rows many.at_once
-    × IsNumber (codes "answers") rows many.answers × IsNumber (codes "idle") rows many.idle
-
--- one of the options is there that ask for more than terminals in turn
-abbrev pub HasManyWords : List Row → Bool → Type 0
-HasManyWords rows has = has ≡ (is_some (first_of (codes "at-once") rows) || (is_some (first_of (codes "answers") rows) || is_some (first_of (codes "idle") rows)))
 
 -- terminals one after the other, where none of those options is there
 abbrev pub IsServe : List Row → Asked → Type 0

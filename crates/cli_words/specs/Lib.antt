@@ -1,4 +1,5 @@
 pub mod Asked
+pub mod Many
 pub mod Script
 pub mod Tap
 pub mod Values

@@ -2,9 +2,10 @@
 
 ghost use Rattle.std.specs.Prelude.{◌≡◌, true, false, is_some, option_map};
 ghost use Rattle.clap.specs.Words.{first_of, found_of, rows_of, subcommand_rows_of};
-ghost use Rattle.cli_words.specs.Asked.{AreDemos, AreKeyLines, AreMany, HasManyWords, IsServe, AsksFor, IsAttach, IsCheck, IsDrawn, IsForm, IsConvert, IsOption, IsPen, IsPress, IsShow, IsBind, IsDraft, IsDrafted, IsDraftedMap, IsRendering, IsShownMap, IsReportForm, IsSide, IsSource, IsWhen, IsWithLayout, IsMap, IsMapForm, IsMapCheck, IsLayoutCheck, IsTextCheck, IsTextTalk, IsTalk, IsSuite, IsSuiteForm, AreControls, AreTraced, AreTurns, AreBuffers, AreNoTracedWords, AreSizes, AreTracedWords, IsRecords, IsTraced};
+ghost use Rattle.cli_words.specs.Asked.{AreDemos, AreKeyLines, IsServe, AsksFor, IsAttach, IsCheck, IsDrawn, IsForm, IsConvert, IsOption, IsPen, IsPress, IsShow, IsBind, IsDraft, IsDrafted, IsDraftedMap, IsRendering, IsShownMap, IsReportForm, IsSide, IsSource, IsWhen, IsWithLayout, IsMap, IsMapForm, IsMapCheck, IsLayoutCheck, IsTextCheck, IsTextTalk, IsTalk, IsSuite, IsSuiteForm, AreControls, AreTraced, AreTurns, AreBuffers, AreNoTracedWords, AreSizes, AreTracedWords, IsRecords, IsTraced};
 ghost use Rattle.cli_words.specs.Values.{IsNumber, IsPath, IsText};
 
+use crate::many::{Many, has_many_words, many_of};
 use crate::script::{ScriptAsked, script_of};
 use crate::tap::{TapAsked, tap_of};
 use bms_map::Control;
@@ -42,19 +43,6 @@ pub enum KeyLines {
     Keys,
     /// Those, and the lines of insert mode, duplicate and field mark.
     Strokes,
-}
-
-/// How `serve` serves many terminals.
-#[derive(Clone, Copy)]
-pub struct Many {
-    /// How many are served; 0 is any number.
-    pub count: u16,
-    /// How many at once; 0 is one.
-    pub at_once: u16,
-    /// After how many answers it ends; 0 is any number.
-    pub answers: u16,
-    /// For how many seconds nothing need come of a terminal; 0 is any time.
-    pub idle: u16,
 }
 
 /// A command, with the files, the options and the place on the net that it was given.
@@ -239,25 +227,6 @@ fn attach_of<'a>(words: &ArgMatches<'a>) -> Asked<'a>
         port: number_in(words, "port"),
         device: text_in(words, "device"),
     }
-}
-
-/// How many terminals are served, and how many at once.
-fn many_of(words: &ArgMatches<'_>) -> Many
-    ensures { AreMany (rows_of (found_of words.now)) result }
-{
-    Many {
-        count: number_in(words, "count"),
-        at_once: number_in(words, "at-once"),
-        answers: number_in(words, "answers"),
-        idle: number_in(words, "idle"),
-    }
-}
-
-/// Whether an option is there without which terminals come one after the other.
-fn has_many_words(words: &ArgMatches<'_>) -> bool
-    ensures { HasManyWords (rows_of (found_of words.now)) result }
-{
-    is_named(words, "at-once") || is_named(words, "answers") || is_named(words, "idle")
 }
 
 fn serve_of<'a>(words: &ArgMatches<'a>) -> Asked<'a>
@@ -786,7 +755,7 @@ pub(crate) fn path_in<'a>(words: &ArgMatches<'a>, option: &str) -> Option<&'a st
 }
 
 /// Whether a text was given for a word.
-fn is_named(words: &ArgMatches<'_>, word: &str) -> bool
+pub(crate) fn is_named(words: &ArgMatches<'_>, word: &str) -> bool
     ensures { result ≡ is_some (first_of word.now (rows_of (found_of words.now))) }
 {
     words.get_str(word).is_some()

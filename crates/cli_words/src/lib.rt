@@ -2,9 +2,11 @@
 #![tactic(auto)]
 
 mod asked;
+mod many;
 mod script;
 mod tap;
 
-pub use crate::asked::{Asked, KeyLines, Many, ReportForm, When};
+pub use crate::asked::{Asked, KeyLines, ReportForm, When};
+pub use crate::many::Many;
 pub use crate::script::ScriptAsked;
 pub use crate::tap::TapAsked;

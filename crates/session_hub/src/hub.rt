@@ -61,8 +61,10 @@ fn put<S: Session>(
     seat: Seat<S>,
 ) -> Result<(), AllocError>
     ensures own { OnOk result (seat_at token seats.new.items ≡ Some seat) }
-    ensures others { (t : ℕ) → ¬ (t ≡ token) → seat_at t seats.new.items ≡ seat_at t seats.old.items }
-    ensures refused { IfErr result (λ e. (t : ℕ) → seat_at t seats.new.items ≡ seat_at t seats.old.items) }
+    ensures others { (t : ℕ) → ¬ (t ≡ token) → seat_at t seats.new.items
+        ≡ seat_at t seats.old.items }
+    ensures refused { IfErr result (λ e. (t : ℕ) → seat_at t seats.new.items
+        ≡ seat_at t seats.old.items) }
 {
     while seats.len() <= token {
         seats.push(None)?;
@@ -97,7 +99,8 @@ fn hear_at<S: Session>(
 )
     ensures own { HearsAt S.takes limits.now now bytes.now
         (seat_at token seats.old.items) (seat_at token seats.new.items) }
-    ensures others { (t : ℕ) → ¬ (t ≡ token) → seat_at t seats.new.items ≡ seat_at t seats.old.items }
+    ensures others { (t : ℕ) → ¬ (t ≡ token) → seat_at t seats.new.items
+        ≡ seat_at t seats.old.items }
 {
     if let Some(seat) = seats.get_mut(token) {
         hear_in(alloc, seat, limits, now, bytes);
@@ -115,8 +118,10 @@ fn send_in<S: Session>(seat: &mut Option<Seat<S>>, count: usize)
 
 /// So many bytes that were due to a token went out.
 fn send_at<S: Session>(seats: &mut Vec<Option<Seat<S>>>, token: usize, count: usize)
-    ensures own { seat_at token seats.new.items ≡ option_map (sent count) (seat_at token seats.old.items) }
-    ensures others { (t : ℕ) → ¬ (t ≡ token) → seat_at t seats.new.items ≡ seat_at t seats.old.items }
+    ensures own { seat_at token seats.new.items
+        ≡ option_map (sent count) (seat_at token seats.old.items) }
+    ensures others { (t : ℕ) → ¬ (t ≡ token) → seat_at t seats.new.items
+        ≡ seat_at t seats.old.items }
 {
     if let Some(seat) = seats.get_mut(token) {
         send_in(seat, count);
@@ -134,8 +139,10 @@ fn close_in<S: Session>(seat: &mut Option<Seat<S>>)
 
 /// The line of a token closed.
 fn close_at<S: Session>(seats: &mut Vec<Option<Seat<S>>>, token: usize)
-    ensures own { seat_at token seats.new.items ≡ option_map closed (seat_at token seats.old.items) }
-    ensures others { (t : ℕ) → ¬ (t ≡ token) → seat_at t seats.new.items ≡ seat_at t seats.old.items }
+    ensures own { seat_at token seats.new.items
+        ≡ option_map closed (seat_at token seats.old.items) }
+    ensures others { (t : ℕ) → ¬ (t ≡ token) → seat_at t seats.new.items
+        ≡ seat_at t seats.old.items }
 {
     if let Some(seat) = seats.get_mut(token) {
         close_in(seat);
@@ -153,8 +160,10 @@ fn break_in<S: Session>(seat: &mut Option<Seat<S>>)
 
 /// The line of a token broke.
 fn break_at<S: Session>(seats: &mut Vec<Option<Seat<S>>>, token: usize)
-    ensures own { seat_at token seats.new.items ≡ option_map broken (seat_at token seats.old.items) }
-    ensures others { (t : ℕ) → ¬ (t ≡ token) → seat_at t seats.new.items ≡ seat_at t seats.old.items }
+    ensures own { seat_at token seats.new.items
+        ≡ option_map broken (seat_at token seats.old.items) }
+    ensures others { (t : ℕ) → ¬ (t ≡ token) → seat_at t seats.new.items
+        ≡ seat_at t seats.old.items }
 {
     if let Some(seat) = seats.get_mut(token) {
         break_in(seat);
@@ -174,7 +183,8 @@ fn tick_in<S: Session>(seat: &mut Option<Seat<S>>, limits: &Limits, now: u64)
 fn tick_at<S: Session>(seats: &mut Vec<Option<Seat<S>>>, limits: &Limits, token: usize, now: u64)
     ensures own { seat_at token seats.new.items
         ≡ option_map (ticked limits.now now) (seat_at token seats.old.items) }
-    ensures others { (t : ℕ) → ¬ (t ≡ token) → seat_at t seats.new.items ≡ seat_at t seats.old.items }
+    ensures others { (t : ℕ) → ¬ (t ≡ token) → seat_at t seats.new.items
+        ≡ seat_at t seats.old.items }
     ensures len { vec_len seats.new ≡ vec_len seats.old }
 {
     if let Some(seat) = seats.get_mut(token) {
@@ -205,7 +215,8 @@ fn stand_at<S: Session>(seats: &[Option<Seat<S>>], token: usize) -> Option<Stand
 fn leave_at<S: Session>(seats: &mut Vec<Option<Seat<S>>>, token: usize) -> Option<Seat<S>>
     ensures gone { result ≡ seat_at token seats.old.items }
     ensures own { seat_at token seats.new.items ≡ None }
-    ensures others { (t : ℕ) → ¬ (t ≡ token) → seat_at t seats.new.items ≡ seat_at t seats.old.items }
+    ensures others { (t : ℕ) → ¬ (t ≡ token) → seat_at t seats.new.items
+        ≡ seat_at t seats.old.items }
 {
     match seats.get_mut(token) {
         Some(seat) => seat.take(),
@@ -240,7 +251,8 @@ impl<S: Session> Hub<S> {
         ensures free { IfOk result (λ token. seat_at token self.old.seats ≡ None) }
         ensures counted { OnOk result (self.new.came ≡ self.old.came + 1) }
         ensures limits { self.new.limits ≡ self.old.limits }
-        ensures refused { IfErr result (λ e. (t : ℕ) → seat_at t self.new.seats ≡ seat_at t self.old.seats) }
+        ensures refused { IfErr result (λ e. (t : ℕ) → seat_at t self.new.seats
+            ≡ seat_at t self.old.seats) }
         ensures uncounted { IfErr result (λ e. self.new.came ≡ self.old.came) }
     {
         let number = self.came + 1;
@@ -253,7 +265,8 @@ impl<S: Session> Hub<S> {
 
     /// Bytes came from the terminal of a token, at this time.
     pub fn hear(&mut self, alloc: Global, token: usize, now: u64, bytes: &[u8])
-        ensures heard { Steps S.takes self.old.limits (At token (Hears now bytes.now)) self.old.seats self.new.seats }
+        ensures heard { Steps S.takes self.old.limits (At token (Hears now bytes.now))
+            self.old.seats self.new.seats }
         ensures others { (self.new.limits ≡ self.old.limits) × (self.new.came ≡ self.old.came) }
     {
         hear_at(alloc, &mut self.seats, &self.limits, token, now, bytes);
@@ -261,7 +274,8 @@ impl<S: Session> Hub<S> {
 
     /// So many of the bytes that were due to the terminal of a token went out.
     pub fn send(&mut self, token: usize, count: usize)
-        ensures sent { Steps S.takes self.old.limits (At token (Sends count)) self.old.seats self.new.seats }
+        ensures sent { Steps S.takes self.old.limits (At token (Sends count)) self.old.seats
+            self.new.seats }
         ensures others { (self.new.limits ≡ self.old.limits) × (self.new.came ≡ self.old.came) }
     {
         send_at(&mut self.seats, token, count);
@@ -269,7 +283,8 @@ impl<S: Session> Hub<S> {
 
     /// The line to the terminal of a token closed: a read gave nothing.
     pub fn close(&mut self, token: usize)
-        ensures closed { Steps S.takes self.old.limits (At token Closes) self.old.seats self.new.seats }
+        ensures closed { Steps S.takes self.old.limits (At token Closes) self.old.seats
+            self.new.seats }
         ensures others { (self.new.limits ≡ self.old.limits) × (self.new.came ≡ self.old.came) }
     {
         close_at(&mut self.seats, token);
@@ -277,7 +292,8 @@ impl<S: Session> Hub<S> {
 
     /// The line to the terminal of a token broke: a read or a write of it failed.
     pub fn break_off(&mut self, token: usize)
-        ensures broken { Steps S.takes self.old.limits (At token Breaks) self.old.seats self.new.seats }
+        ensures broken { Steps S.takes self.old.limits (At token Breaks) self.old.seats
+            self.new.seats }
         ensures others { (self.new.limits ≡ self.old.limits) × (self.new.came ≡ self.old.came) }
     {
         break_at(&mut self.seats, token);
@@ -310,7 +326,8 @@ impl<S: Session> Hub<S> {
 
     /// A terminal that ended leaves, and its token is free.
     pub fn leave(&mut self, token: usize) -> Option<Ended<S>>
-        ensures left { Steps S.takes self.old.limits (At token Leaves) self.old.seats self.new.seats }
+        ensures left { Steps S.takes self.old.limits (At token Leaves) self.old.seats
+            self.new.seats }
         ensures ended { result ≡ ended_in (seat_at token self.old.seats) }
         ensures others { (self.new.limits ≡ self.old.limits) × (self.new.came ≡ self.old.came) }
     {
