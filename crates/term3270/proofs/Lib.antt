@@ -1,2 +1,2 @@
 mod Ended
-mod Many
+mod ManyEnds

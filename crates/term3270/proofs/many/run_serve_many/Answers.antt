@@ -1,7 +1,7 @@
 use Rattle.cli_sessions.specs.Held.{prepared_seen}
 use Rattle.cli_sessions.specs.Prepare.{prepare}
 use Rattle.term3270.proofs.Ended.{if_some, serve_ends}
-use Rattle.term3270.proofs.Many.{many_ends}
+use Rattle.term3270.proofs.ManyEnds.{many_ends}
 use Rattle.term3270.proofs.many.run_serve_many.Goals as goal
 
 pub returns-in-Err : goal.returns-in-Err
