@@ -33,6 +33,12 @@ ServesPrepared count old new status (Err fault) = Prints old.written new.written
 ServesPrepared count old new status (Ok (stops answer)) = Prints old.written new.written status answer
 ServesPrepared count old new status (Ok (ready layout records)) = ServesAnew layout records count old new status ⊎ HasFailed old new status
 
+-- the same for many terminals at once, of which each is told as the server goes on
+abbrev pub ServesManyPrepared : Printing → Printing → Status → Result Prepared Fault → Type 0
+ServesManyPrepared old new status (Err fault) = Prints old.written new.written status (printed (fault_line fault) BadInput)
+ServesManyPrepared old new status (Ok (stops answer)) = Prints old.written new.written status answer
+ServesManyPrepared old new status (Ok (ready layout records)) = Unit {0}
+
 -- the same of a tolerant terminal, of which so many answers are expected
 abbrev pub AttachesTolerantly : Device → ℕ → List Strike → Printing → Printing → Status → Type 0
 AttachesTolerantly device expected keys old new status =

@@ -1,8 +1,9 @@
 //! The command `serve` for many terminals at once, from its inputs to the net.
 
-ghost use Rattle.std.specs.Prelude.{IfSome, map, IfOk, ◌≡◌};
+ghost use Rattle.std.specs.Prelude.{◌≡◌, map, IfOk, IfSome};
 ghost use Rattle.cli_commands.specs.Held.{records_held};
 ghost use Rattle.cli_sessions.specs.Prepare.{prepare};
+ghost use Rattle.term3270.specs.Sessions.{ServesManyPrepared};
 
 use crate::manners::tell_listening;
 use crate::tcp::Place;
@@ -70,7 +71,10 @@ pub(crate) fn run_serve_many<L: GivesBytes, R: GivesBytes, W: TakesBytes>(
     place: Place<'_>,
     many: Many,
     output: &mut Output<W>,
-) -> Status {
+) -> Status
+    ensures { IfSome (L.remaining layout.old) (λ text. IfSome (R.remaining records.old) (λ input.
+        ServesManyPrepared output.old output.new result (prepare text input))) }
+{
     match prepare_serve(rt.alloc(), layout, records) {
         Ok(Prepared::Ready(screen)) => serve_screen(rt, place, &screen, many, output),
         Ok(Prepared::Stops(answer)) => finish(rt.alloc(), output, Ok(answer)),
