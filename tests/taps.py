@@ -12,6 +12,7 @@ import socket
 import struct
 import subprocess
 import sys
+import tempfile
 import threading
 import time
 
@@ -43,7 +44,9 @@ class Tap:
         self.host_port = host_port or self.host.getsockname()[1]
         self.port = free_port()
         words = [PROGRAM, "tap", "127.0.0.1", "--port", str(self.host_port), "--listen-port", str(self.port), "--count", str(count)]
-        self.program = subprocess.Popen(words, stdout=subprocess.PIPE, stderr=subprocess.PIPE)
+        # A file takes what is printed at any time; a pipe that nobody reads would hold the tap.
+        self.printed = tempfile.TemporaryFile()
+        self.program = subprocess.Popen(words, stdout=self.printed, stderr=subprocess.PIPE)
 
     def pair(self):
         """A terminal, and the host's end of its line."""
@@ -69,16 +72,17 @@ class Tap:
 
     def end(self):
         """What was printed, said on standard error, and the status."""
+        status = None
         try:
-            printed, said = self.program.communicate(timeout=LONGEST)
+            _, said = self.program.communicate(timeout=LONGEST)
+            status = self.program.returncode
         except subprocess.TimeoutExpired:
             self.program.kill()
-            printed, said = self.program.communicate()
-            return printed.decode(), said.decode(), "no end"
-        finally:
-            if self.host:
-                self.host.close()
-        return printed.decode(), said.decode(), self.program.returncode
+            _, said = self.program.communicate()
+        if self.host:
+            self.host.close()
+        self.printed.seek(0)
+        return self.printed.read().decode(), said.decode(), "no end" if status is None else status
 
 
 def read_all(line):
