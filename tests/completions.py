@@ -75,9 +75,9 @@ class Shell:
         for file in (self.line, self.offered):
             file.unlink(missing_ok=True)
         self.strike(f"{typed}\t\x18\x10" if typed else "\x18\x10")
-        for tried in range(1000):
+        for tried in range(1500):
             self.drain()
-            if tried % 100 == 99:
+            if tried % 400 == 399:
                 self.strike("\x18\x10")
             if self.line.exists() and self.line.read_text().endswith("\n"):
                 break
