@@ -5,6 +5,7 @@ pub mod HeardView
 pub mod Replies
 pub mod Rows
 pub mod Terminal
+pub mod Grants
 pub mod Host
 pub mod Steps
 pub mod Tolerant

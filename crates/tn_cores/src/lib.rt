@@ -5,6 +5,7 @@
 #![tactic(auto)]
 
 mod device;
+mod grant;
 mod heard;
 mod host;
 mod laws;

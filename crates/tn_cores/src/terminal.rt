@@ -1,7 +1,8 @@
 //! The terminal's end of a session.
 
-ghost use Rattle.std.specs.Prelude.{◌≡◌, Ok, OnErr};
+ghost use Rattle.std.specs.Prelude.{◌≡◌, Ok, OnErr, option_map};
 ghost use Rattle.tn_wire.specs.Calls.{told_of};
+ghost use Rattle.tn_cores.specs.Grants.{granted_lu_name};
 ghost use Rattle.tn_cores.specs.HeardView.{heard_view, joined_view};
 ghost use Rattle.tn_cores.specs.ReplyView.{rowed};
 ghost use Rattle.tn_cores.specs.Steps.{Takes, terminal_step};
@@ -12,6 +13,7 @@ ghost use Rattle.tn_cores.specs.Terminal.{terminal_functions, terminal_functions
 ghost use Rattle.tn_cores.specs.Tolerant.{new_tolerant};
 
 use crate::device::Device;
+use crate::grant::granted_in;
 use crate::heard::{FunctionList, Heard, Joined};
 use crate::option::{Sides, TelnetOption};
 use crate::reply::{Reply, once, unless_on};
@@ -146,6 +148,15 @@ impl TermCore {
             TerminalPhase::Classic | TerminalPhase::Opening => self.agreed_classic(),
             _ => None,
         }
+    }
+
+    /// The name of the logical unit that an event grants before it is taken: what DEVICE-TYPE IS connects to, once a device was
+    /// asked for. It is empty where the host names none.
+    pub fn granted_lu_name<'a>(&self, event: &Event<'a>) -> Option<&'a [u8]>
+        ensures { option_map (λ name. name.now) result
+            ≡ granted_lu_name self.now (told_of event.now) }
+    {
+        granted_in(self.phase, &Heard::of(event))
     }
 
     /// Whether the name was sent, and records in binary are agreed on both sides.

@@ -1,7 +1,8 @@
 //! The terminal's end of a session that gets through: what it isn't prepared for it ignores, and it refuses nothing.
 
-ghost use Rattle.std.specs.Prelude.{◌≡◌, ◌≤◌, ◌&&◌, true, false, [], length, Ok};
+ghost use Rattle.std.specs.Prelude.{◌≡◌, ◌≤◌, ◌&&◌, true, false, [], length, option_map, Ok};
 ghost use Rattle.tn_wire.specs.Calls.{told_of};
+ghost use Rattle.tn_cores.specs.Grants.{granted_lu_name};
 ghost use Rattle.tn_cores.specs.HeardView.{heard_view};
 ghost use Rattle.tn_cores.specs.ReplyView.{tokens_of, answered};
 ghost use Rattle.tn_cores.specs.Steps.{Takes};
@@ -306,6 +307,15 @@ impl TolerantCore {
             TerminalPhase::Classic | TerminalPhase::Opening => self.agreed_classic(),
             _ => None,
         }
+    }
+
+    /// The name of the logical unit that an event grants before it is taken: what DEVICE-TYPE IS connects to, once a device was
+    /// asked for. It is empty where the host names none.
+    pub fn granted_lu_name<'a>(&self, event: &Event<'a>) -> Option<&'a [u8]>
+        ensures { option_map (λ name. name.now) result
+            ≡ granted_lu_name self.now.core (told_of event.now) }
+    {
+        self.core.granted_lu_name(event)
     }
 
     /// The device that it is: the one that it was made with, or that a host granted.
