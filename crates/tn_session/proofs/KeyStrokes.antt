@@ -38,7 +38,7 @@ use Rattle.tn_session.specs.Runs.{Course, goes, finishes, fails, Log, going, fin
 use Rattle.tn_session.specs.Sent.{data_header}
 use Rattle.tn_session.specs.Strikes.{Strike, by_key, by_stroke, Struck, struck, struck_by}
 use Rattle.tn_session.specs.TerminalLog as log
-use Rattle.tn_session.specs.TerminalLog.{TerminalRunning, Doing, Typing, is_waiting, operator_at, typing, before, then_typed, standing, key_turned, typed_key, received_data, taken_data, taken_typed, taken_headed, taken_record, passed_over, with_core, stepped, by_core, terminal_start, terminal_act, strictly_taken, goes_with, one_passed, one_ignored, one_more, positive, noting, dropped, tolerated_fields, field_obeyed, then_obeyed, fields_obeyed, responded, obeyed, Fielding, tolerated_data, tolerated_typed, tolerated_headed, tolerated, dropping, fitted, renewed, heeding}
+use Rattle.tn_session.specs.TerminalLog.{TerminalRunning, Doing, Typing, is_waiting, operator_at, typing, before, then_typed, standing, key_turned, typed_key, received_data, taken_data, taken_typed, taken_headed, taken_record, passed_over, with_core, cored, stepped, by_core, terminal_start, terminal_act, strictly_taken, goes_with, one_passed, one_ignored, one_more, positive, noting, dropped, tolerated_fields, field_obeyed, then_obeyed, fields_obeyed, responded, obeyed, Fielding, tolerated_data, tolerated_typed, tolerated_headed, tolerated, dropping, fitted, renewed, heeding}
 use Rattle.tn_session.specs.TerminalTalk.{key_answer, worked_under}
 
 -- ---- one
@@ -300,8 +300,8 @@ record_same running (Some agreed) bytes pressing =
     (taken_headed agreed running (header_of bytes)) (taken_data agreed (data_header 0 0) running bytes)
     (headed_same agreed running (header_of bytes) pressing) (data_same agreed (data_header 0 0) running bytes pressing))
 
-cored : (running : TerminalRunning) (core : EndCore) → IsPressing running → IsPressing (with_core running core)
-cored running core pressing = record { keys = pressing.keys; off = pressing.off }
+cored_pressing : (running : TerminalRunning) (core : EndCore) → IsPressing running → IsPressing (with_core running core)
+cored_pressing running core pressing = record { keys = pressing.keys; off = pressing.off }
 
 dropping_inserts : (told : Meant) (state : TerminalState) → (dropping told state).inserts ≡ state.inserts
 dropping_inserts (means_ready agreed) state = refl
@@ -322,13 +322,13 @@ heeding_inserts (Tolerant core) told state = fitted_inserts core.core.device (dr
 
 stepped_same : (running : TerminalRunning) (event : Told) (step : Stepped EndCore) → IsPressing running
     → SameLog (stepped (striking running) event step) (stepped running event step)
-stepped_same running (told_record bytes) step pressing = record_same (with_core running step.core) (core_agreed step.core) bytes (cored running step.core pressing)
-stepped_same running (told_verb verb option) step pressing = state_same _ running (heeding step.core step.told (record running.state { core = step.core }))
-    (heeding_inserts step.core step.told (record running.state { core = step.core })) pressing
-stepped_same running (told_sub option parameters) step pressing = state_same _ running (heeding step.core step.told (record running.state { core = step.core }))
-    (heeding_inserts step.core step.told (record running.state { core = step.core })) pressing
-stepped_same running (told_passed byte) step pressing = state_same _ running (heeding step.core step.told (record running.state { core = step.core }))
-    (heeding_inserts step.core step.told (record running.state { core = step.core })) pressing
+stepped_same running (told_record bytes) step pressing = record_same (with_core running step.core) (core_agreed step.core) bytes (cored_pressing running step.core pressing)
+stepped_same running (told_verb verb option) step pressing = state_same _ running (heeding step.core step.told (cored running.state (told_verb verb option) step.core))
+    (heeding_inserts step.core step.told (cored running.state (told_verb verb option) step.core)) pressing
+stepped_same running (told_sub option parameters) step pressing = state_same _ running (heeding step.core step.told (cored running.state (told_sub option parameters) step.core))
+    (heeding_inserts step.core step.told (cored running.state (told_sub option parameters) step.core)) pressing
+stepped_same running (told_passed byte) step pressing = state_same _ running (heeding step.core step.told (cored running.state (told_passed byte) step.core))
+    (heeding_inserts step.core step.told (cored running.state (told_passed byte) step.core)) pressing
 
 core_same : (running : TerminalRunning) (event : Told) (step : Result (Stepped EndCore) SessionFault) → IsPressing running
     → SameLog (by_core (striking running) event step) (by_core running event step)

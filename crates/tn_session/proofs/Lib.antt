@@ -8,6 +8,7 @@ pub mod HostSteps
 pub mod HostFinish
 pub mod HostEnds
 pub mod TerminalSteps
+mod LuNames
 pub mod RunEnds
 pub mod TerminalEnds
 pub mod TerminalRunning

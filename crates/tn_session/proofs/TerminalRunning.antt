@@ -1,5 +1,5 @@
 -- A terminal's run, from that of its machine.
-use Rattle.std.proofs.Common.{◌≡◌, Bool, false, List, [], None, Ok, Err, refl, sym, ◌∙◌, ap, subst, inl}
+use Rattle.std.proofs.Common.{◌≡◌, ℕ, Bool, false, List, [], None, Ok, Err, refl, sym, ◌∙◌, ap, subst, inl}
 use Rattle.std.specs.Prelude.{Result}
 use Rattle.ds_codec.specs.Geometry.{Sizes}
 use Rattle.ds_screen.specs.Picture.{Picture}
@@ -23,8 +23,8 @@ use Rattle.tn_session.specs.Talk.{Talk, stands, IsMachineOf}
 use Rattle.tn_session.specs.TerminalLog.{TerminalRunning, begun_state, new_terminal_state, terminal_start, terminal_act}
 use Rattle.tn_session.specs.TerminalRuns.{TerminalRan, finish_of, end_of, report_of}
 
-abbrev state_with : EndCore → Picture → Noted → TerminalState
-state_with core picture noted = record {
+abbrev state_with : EndCore → Picture → List ℕ → Noted → TerminalState
+state_with core picture name noted = record {
   core = core;
   terminal = picture;
   inserts = false;
@@ -36,14 +36,17 @@ state_with core picture noted = record {
   refused = 0;
   ignored = 0;
   drops = false;
+  lu_name = name;
   noted = noted;
   kept = None;
 }
 
-pub begun_so : (core : EndCore) (device : Device) (picture : Picture) (geometry : Sizes) (noted : Noted) → picture ≡ new_picture geometry
-    → geometry ≡ sizes_of device.model → noted ≡ nothing_noted → state_with core picture noted ≡ begun_state core device
-begun_so core device picture geometry noted shown sized empty =
-    ap (λ (v : Picture). state_with core v noted) (shown ∙ ap new_picture sized) ∙ ap (λ (n : Noted). state_with core (new_picture (sizes_of device.model)) n) empty
+pub begun_so : (core : EndCore) (device : Device) (picture : Picture) (geometry : Sizes) (name : List ℕ) (noted : Noted) → picture ≡ new_picture geometry
+    → geometry ≡ sizes_of device.model → name ≡ [] → noted ≡ nothing_noted → state_with core picture name noted ≡ begun_state core device
+begun_so core device picture geometry name noted shown sized unnamed empty =
+    ap (λ (v : Picture). state_with core v name noted) (shown ∙ ap new_picture sized)
+    ∙ ap (λ (n : List ℕ). state_with core (new_picture (sizes_of device.model)) n noted) unnamed
+    ∙ ap (λ (n : Noted). state_with core (new_picture (sizes_of device.model)) [] n) empty
 
 finish_again : (how : Finish) → finish_of (end_of how) ≡ how
 finish_again finish.Finished = refl

@@ -1,8 +1,7 @@
 -- What a step of the terminal's core makes of its run.
-use Rattle.std.proofs.Common.{◌≡◌, ℕ, List, sym, ◌∙◌, ap, Ok, Err, None, Some}
+use Rattle.std.proofs.Common.{◌≡◌, ℕ, List, sym, ◌∙◌, ap, Ok, Err}
 use Rattle.std.specs.Prelude.{Option, Result}
 use Rattle.tn_wire.specs.Stream.{Told as Event, told_record, told_verb, told_sub, told_passed}
-use Rattle.tn_cores.specs.declared.session.Agreed.{Agreed}
 use Rattle.tn_cores.specs.declared.session.Told.{Told}
 use Rattle.tn_cores.specs.declared.session.SessionFault.{SessionFault}
 use Rattle.tn_cores.specs.Replies.{bytes_of}
@@ -16,7 +15,8 @@ use Rattle.tn_session.specs.declared.fault.RunFault.TheVariants as faults
 use Rattle.tn_session.specs.declared.terminal_state.TerminalState.{TerminalState}
 use Rattle.tn_session.specs.Runs.{Log, failed, going}
 use Rattle.tn_session.specs.Ran.{Cause, of_stream, of_memory, of_line, of_reads, of_end, of_events, IsOfEvents, session_cause, FailsAs}
-use Rattle.tn_session.specs.TerminalLog.{TerminalRunning, terminal_act, by_core, taken_record, with_core, heeding, heeded}
+use Rattle.tn_session.specs.LuNames.{core_grants, name_kept}
+use Rattle.tn_session.specs.TerminalLog.{TerminalRunning, terminal_act, by_core, taken_record, with_core, cored, heeding, heeded}
 use Rattle.tn_session.proofs.CoreFaults.{of_event}
 
 -- a core that refused did so by its table
@@ -70,13 +70,13 @@ record_act running new told out bytes takes = record_by running new told out byt
 same_told : {a b : Told} → ◌≡◌ {A = Result Told SessionFault} (Ok a) (Ok b) → a ≡ b
 same_told e = cc
 
-heeded_so : (running : TerminalRunning) (new : EndCore) (told : Told) (out : List ℕ) (step : Stepped EndCore)
+heeded_so : (running : TerminalRunning) (event : Event) (new : EndCore) (told : Told) (out : List ℕ) (step : Stepped EndCore)
     → ◌≡◌ {A = Result Told SessionFault} (Ok told) (Ok step.told) → new ≡ step.core → out ≡ bytes_of step.reply
-    → going (bytes_of step.reply) (heeded running step) ≡ going out (record running { state = heeding new told (record running.state { core = new }) })
-heeded_so running new told out step is after written =
-    ap (λ (z : List ℕ). going z (heeded running step)) (sym written)
-    ∙ ap (λ (core : EndCore). going out (record running { state = heeding core step.told (record running.state { core = core }) })) (sym after)
-    ∙ ap (λ (t : Told). going out (record running { state = heeding new t (record running.state { core = new }) })) (sym (same_told is))
+    → going (bytes_of step.reply) (heeded running event step) ≡ going out (record running { state = heeding new told (cored running.state event new) })
+heeded_so running event new told out step is after written =
+    ap (λ (z : List ℕ). going z (heeded running event step)) (sym written)
+    ∙ ap (λ (core : EndCore). going out (record running { state = heeding core step.told (cored running.state event core) })) (sym after)
+    ∙ ap (λ (t : Told). going out (record running { state = heeding new t (cored running.state event new) })) (sym (same_told is))
 
 -- an event that is no record
 abbrev pub IsOther : Event → Type 0
@@ -85,19 +85,26 @@ IsOther event = Unit {0}
 
 other_by : (running : TerminalRunning) (event : Event) (new : EndCore) (told : Told) (out : List ℕ) (x : Result (Stepped EndCore) SessionFault) → IsOther event
     → Takes x running.state.core (Ok told) new out
-    → by_core running event x ≡ going out (record running { state = heeding new told (record running.state { core = new }) })
+    → by_core running event x ≡ going out (record running { state = heeding new told (cored running.state event new) })
 other_by running (told_record bytes) new told out x other takes = absurd other
 other_by running event new told out (Err why) other (is, after, written) = absurd cc
-other_by running (told_verb verb option) new told out (Ok step) other (is, after, written) = heeded_so running new told out step is after written
-other_by running (told_sub option parameters) new told out (Ok step) other (is, after, written) = heeded_so running new told out step is after written
-other_by running (told_passed byte) new told out (Ok step) other (is, after, written) = heeded_so running new told out step is after written
+other_by running (told_verb verb option) new told out (Ok step) other (is, after, written) = heeded_so running (told_verb verb option) new told out step is after written
+other_by running (told_sub option parameters) new told out (Ok step) other (is, after, written) = heeded_so running (told_sub option parameters) new told out step is after written
+other_by running (told_passed byte) new told out (Ok step) other (is, after, written) = heeded_so running (told_passed byte) new told out step is after written
 
 -- what another event makes of the run: the state is heeded, and the reply is due
 pub other_does : (running : TerminalRunning) (event : Event) (core : EndCore) (told : Told) (out : List ℕ) (new : TerminalState) (due : List ℕ) → IsOther event
     → Takes (core_step running.state.core event) running.state.core (Ok told) core out
-    → new ≡ heeding core told (record running.state { core = core }) → due ≡ out
+    → new ≡ heeding core told (cored running.state event core) → due ≡ out
     → terminal_act running event ≡ going due (record running { state = new })
 other_does running event core told out new due other takes heeds is =
     other_by running event core told out (core_step running.state.core event) other takes
     ∙ ap (λ (s : TerminalState). going out (record running { state = s })) (sym heeds)
     ∙ ap (λ (z : List ℕ). going z (record running { state = new })) (sym is)
+
+-- the name that was granted is noted
+pub named_so : (state : TerminalState) (event : Event) (core : EndCore) (told : Told) (name : List ℕ) (granted : Option (List ℕ)) (new : TerminalState)
+    → granted ≡ core_grants state.core event → name ≡ name_kept state.lu_name granted
+    → new ≡ heeding core told (record state { core = core; lu_name = name }) → new ≡ heeding core told (cored state event core)
+named_so state event core told name granted new grants is heeds =
+    heeds ∙ ap (λ (n : List ℕ). heeding core told (record state { core = core; lu_name = n })) (is ∙ ap (name_kept state.lu_name) grants)

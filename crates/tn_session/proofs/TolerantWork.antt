@@ -1,6 +1,6 @@
 -- A tolerant terminal that takes bytes, and whose operator presses keys.
-use Rattle.std.proofs.Common.{◌≡◌, ℕ, Bool, true, false, not, ◌&&◌, List, [], ◌∷◌, ◌++◌, length, None, Some, Ok, Err, refl, sym, ◌∙◌, ap, subst, if◌then◌else◌, append_assoc}
-use Rattle.std.specs.Prelude.{Option, Result, OnOk, IfOk}
+use Rattle.std.proofs.Common.{◌≡◌, ℕ, Bool, true, false, List, [], ◌∷◌, ◌++◌, length, Ok, Err, refl, sym, ◌∙◌, ap, subst, if◌then◌else◌, append_assoc}
+use Rattle.std.specs.Prelude.{Option, Result, OnOk}
 use Rattle.std.proofs.lemmas.List.{append-nil}
 use Rattle.ds_codec.specs.Geometry.{Sizes}
 use Rattle.ds_screen.specs.Picture.{Picture}
@@ -12,17 +12,17 @@ use Rattle.tn_cores.specs.declared.session.Told.{Told as Meant}
 use Rattle.tn_cores.specs.declared.tolerant.TolerantCore.{TolerantCore}
 use Rattle.tn_session.specs.declared.arrived.Arrived.{Arrived}
 use Rattle.tn_session.specs.declared.end_core.EndCore.{EndCore}
-use Rattle.tn_session.specs.declared.end_core.EndCore.TheVariants.{Strict, Tolerant}
+use Rattle.tn_session.specs.declared.end_core.EndCore.TheVariants.{Tolerant}
 use Rattle.tn_session.specs.declared.fault.RunFault.{RunFault}
 use Rattle.tn_session.specs.declared.pressed.Pressed.{Pressed}
 use Rattle.tn_session.specs.declared.progress.Progress.{Progress}
-use Rattle.tn_session.specs.declared.progress.Progress.TheVariants.{More, Done}
+use Rattle.tn_session.specs.declared.progress.Progress.TheVariants.{More}
 use Rattle.tn_session.specs.declared.terminal_state.TerminalState.{TerminalState}
 use Rattle.tn_session.specs.Strikes.{Strike}
 use Rattle.tn_session.specs.Talk.{Talk, Adds, Takes}
 use Rattle.tn_session.specs.TerminalLog.{kept_anew, renewed, fitted, dropping, heeding}
-use Rattle.tn_session.specs.TerminalTalk.{IsNotOver, heard_act, Presses, TerminalTakes, TakesAs, TakesByte, Tolerates, GoesOnBy, Ends, begins_between, tolerates, takes_input_in}
-use Rattle.tn_session.specs.TolerantRuns.{Working, counted, PressesAll, PressesOn, TakesTurn, PressesAfter, is_over_with}
+use Rattle.tn_session.specs.TerminalTalk.{IsNotOver, heard_act, Presses, TerminalTakes, TakesAs, TakesByte, Tolerates, Ends, begins_between, tolerates, takes_input_in}
+use Rattle.tn_session.specs.TolerantRuns.{Working, counted, PressesAll, PressesOn}
 use Rattle.tn_session.proofs.Heard.{GoesOnSo, takes_on}
 
 -- ---- what an event leaves at a tolerant terminal

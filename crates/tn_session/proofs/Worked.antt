@@ -23,7 +23,7 @@ use Rattle.tn_session.specs.Acts.{Deed, came, pressed, worked_log, events_in, ke
 use Rattle.tn_session.specs.Runs.{Course, goes, finishes, fails, Log, going, finished, failed, log_on, log_of}
 use Rattle.tn_session.specs.Strikes.{Strike, strike_aid, Struck, struck_by}
 use Rattle.tn_session.specs.TerminalLog as log
-use Rattle.tn_session.specs.TerminalLog.{TerminalRunning, Doing, Typing, is_waiting, typing, before, then_typed, standing, typed_key, received_data, taken_data, taken_typed, taken_headed, strictly_taken, taken_record, passed_over, positive, tolerated_data, tolerated_fields, field_obeyed, then_obeyed, fields_obeyed, responded, obeyed, Fielding, tolerated_typed, tolerated_headed, tolerated, one_passed, one_ignored, noting, dropped, heeding, with_core, stepped, by_core, terminal_act}
+use Rattle.tn_session.specs.TerminalLog.{TerminalRunning, Doing, Typing, is_waiting, typing, before, then_typed, standing, typed_key, received_data, taken_data, taken_typed, taken_headed, strictly_taken, taken_record, passed_over, positive, tolerated_data, tolerated_fields, field_obeyed, then_obeyed, fields_obeyed, responded, obeyed, Fielding, tolerated_typed, tolerated_headed, tolerated, one_passed, one_ignored, noting, dropped, heeding, with_core, cored, stepped, by_core, terminal_act}
 use Rattle.tn_session.specs.Sent.{data_header}
 use Rattle.tn_session.specs.TerminalTalk.{unkeyed, heard_act, worked_under, worked}
 
@@ -38,7 +38,7 @@ core_replied agreed state done = refl
 core_replied agreed state inhibited = refl
 core_replied agreed state ignored = refl
 
-typed_core : (agreed : Agreed) (state : TerminalState) (key : Strike) → (typed_key agreed state key).state.core ≡ state.core
+pub typed_core : (agreed : Agreed) (state : TerminalState) (key : Strike) → (typed_key agreed state key).state.core ≡ state.core
 typed_core agreed state key =
     let did : Struck = struck_by key (log.operator_at state) in
     core_replied agreed (log.after_key state (strike_aid key) did) did.turn.reply
@@ -49,7 +49,7 @@ record_replied agreed header state (answered bytes) = refl
 record_replied agreed header state nothing = refl
 record_replied agreed header state (refused why) = refl
 
-received_core : (agreed : Agreed) (header : Header) (state : TerminalState) (bytes : List ℕ) → (received_data agreed header state bytes).state.core ≡ state.core
+pub received_core : (agreed : Agreed) (header : Header) (state : TerminalState) (bytes : List ℕ) → (received_data agreed header state bytes).state.core ≡ state.core
 received_core agreed header state bytes = record_replied agreed header (log.after_record state bytes (received state.terminal bytes)) (received state.terminal bytes).reply
 
 field_core : (agreed : Agreed) (state : TerminalState) (field : Field) → (field_obeyed agreed state field).state.core ≡ state.core
@@ -71,7 +71,7 @@ responded_core : (agreed : Agreed) (header : Header) (did : Fielding) (why : Opt
 responded_core agreed header did None = refl
 responded_core agreed header did (Some why) = refl
 
-obeyed_core : (agreed : Agreed) (header : Header) (state : TerminalState) (fields : List Field) → (obeyed agreed header state fields).state.core ≡ state.core
+pub obeyed_core : (agreed : Agreed) (header : Header) (state : TerminalState) (fields : List Field) → (obeyed agreed header state fields).state.core ≡ state.core
 obeyed_core agreed header state fields =
     responded_core agreed header (fields_obeyed agreed state fields) (fields_obeyed agreed state fields).refused ∙ fields_core agreed state fields
 
@@ -251,9 +251,9 @@ stepped_follows : (keys : List Strike) (state : TerminalState) (event : Told) (s
     → Follows keys (stepped (run_of state []) event step) (stepped (run_of state keys) event step)
 stepped_follows keys state (told_record bytes) step =
     record_follows keys (record state { core = step.core }) (core_agreed step.core) bytes refl
-stepped_follows keys state (told_verb verb option) step = going_follows keys _ (heeding step.core step.told (record state { core = step.core }))
-stepped_follows keys state (told_sub option parameters) step = going_follows keys _ (heeding step.core step.told (record state { core = step.core }))
-stepped_follows keys state (told_passed byte) step = going_follows keys _ (heeding step.core step.told (record state { core = step.core }))
+stepped_follows keys state (told_verb verb option) step = going_follows keys _ (heeding step.core step.told (cored state (told_verb verb option) step.core))
+stepped_follows keys state (told_sub option parameters) step = going_follows keys _ (heeding step.core step.told (cored state (told_sub option parameters) step.core))
+stepped_follows keys state (told_passed byte) step = going_follows keys _ (heeding step.core step.told (cored state (told_passed byte) step.core))
 
 core_follows : (keys : List Strike) (state : TerminalState) (event : Told) (step : Result (Stepped EndCore) SessionFault)
     → Follows keys (by_core (run_of state []) event step) (by_core (run_of state keys) event step)

@@ -1,7 +1,6 @@
 -- The core of a terminal's session: the strict one, or the tolerant.
 use Rattle.std.specs.Prelude.{Bool, true, false, Option, Result, Ok, Err}
 use Rattle.tn_wire.specs.Stream.{Told as Event}
-use Rattle.tn_cores.specs.declared.device.Device.{Device}
 use Rattle.tn_cores.specs.declared.session.Agreed.{Agreed}
 use Rattle.tn_cores.specs.declared.session.SessionFault.{SessionFault}
 use Rattle.tn_cores.specs.Steps.{Stepped, terminal_step}

@@ -1,6 +1,7 @@
 pub mod Sent
 pub mod Runs
 pub mod EndCores
+pub mod LuNames
 pub mod Noted
 pub mod Kept
 pub mod KeptView

@@ -32,6 +32,7 @@ use Rattle.tn_session.specs.declared.end_core.EndCore.TheVariants.{Strict, Toler
 use Rattle.tn_session.specs.EndCores.{core_step, core_agreed, is_tolerant}
 use Rattle.tn_session.specs.declared.fault.RunFault.TheVariants as faults
 use Rattle.tn_session.specs.declared.terminal_state.TerminalState.{TerminalState}
+use Rattle.tn_session.specs.LuNames.{name_after}
 use Rattle.tn_session.specs.Kept.{Keeping, nothing_kept, keep_record, keep_key}
 use Rattle.tn_session.specs.Noted.{nothing_noted, note_bytes}
 use Rattle.tn_session.specs.Runs.{Log, going, finished, failed}
@@ -56,6 +57,7 @@ begun_state core device = record {
   refused = 0;
   ignored = 0;
   drops = false;
+  lu_name = [];
   noted = nothing_noted;
   kept = None;
 }
@@ -372,13 +374,17 @@ abbrev pub heeding : EndCore → Meant → TerminalState → TerminalState
 heeding (Strict core) told state = state
 heeding (Tolerant core) told state = fitted core.core.device (dropping told state)
 
-abbrev pub heeded : TerminalRunning → Stepped EndCore → TerminalRunning
-heeded running step = record running { state = heeding step.core step.told (record running.state { core = step.core }) }
+-- the core is this after an event, and the name that it granted is noted
+abbrev pub cored : TerminalState → Told → EndCore → TerminalState
+cored state event core = record state { core = core; lu_name = name_after state.core event state.lu_name }
+
+abbrev pub heeded : TerminalRunning → Told → Stepped EndCore → TerminalRunning
+heeded running event step = record running { state = heeding step.core step.told (cored running.state event step.core) }
 
 -- what the session's core makes of an event; a record is the terminal's
 abbrev pub stepped : TerminalRunning → Told → Stepped EndCore → Log TerminalRunning
 stepped running (told_record bytes) step = taken_record (with_core running step.core) (core_agreed step.core) bytes
-stepped running event step = going (bytes_of step.reply) (heeded running step)
+stepped running event step = going (bytes_of step.reply) (heeded running event step)
 
 abbrev pub by_core : TerminalRunning → Told → Result (Stepped EndCore) SessionFault → Log TerminalRunning
 by_core running event (Ok step) = stepped running event step

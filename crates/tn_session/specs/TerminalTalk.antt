@@ -14,6 +14,7 @@ use Rattle.tn_session.specs.declared.pressed.Pressed.TheVariants as keyed
 use Rattle.tn_session.specs.declared.terminal_state.TerminalState.{TerminalState}
 use Rattle.tn_session.specs.EndCores.{core_agreed, is_tolerant}
 use Rattle.tn_session.specs.Kept.{Kept, Keeping}
+use Rattle.tn_session.specs.LuNames.{name_under}
 use Rattle.tn_session.specs.OneLog.{waits, is_over, has_failed, is_at_fault}
 use Rattle.tn_session.specs.Runs.{Course, goes, finishes, fails, Log}
 use Rattle.tn_session.specs.Strikes.{Strike, struck_by}
@@ -124,6 +125,11 @@ OfWaiting part talk value = Unit {0}
 abbrev pub agreed_in : Talk TerminalState → Option Agreed
 agreed_in (stands (waits state left)) = core_agreed state.core
 agreed_in talk = None
+
+-- the name of the logical unit, which a session has that is ready by TN3270E
+abbrev pub lu_name_in : Talk TerminalState → List ℕ
+lu_name_in (stands (waits state left)) = name_under (core_agreed state.core) state.lu_name
+lu_name_in talk = []
 
 -- the records of the screen that is shown; none past the limit
 abbrev pub records_kept : Option Keeping → Option (List Kept)

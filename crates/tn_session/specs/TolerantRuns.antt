@@ -19,7 +19,7 @@ use Rattle.tn_session.specs.Ran.{PassedOver}
 use Rattle.tn_session.specs.Strikes.{Strike}
 use Rattle.tn_session.specs.Talk.{Talk}
 use Rattle.tn_session.specs.TerminalLog.{one_more}
-use Rattle.tn_session.specs.TerminalTalk.{Worked, Presses, TerminalTakes, takes_input_in, tolerant_worked, counts_of, since, no_arrival, OfWaiting}
+use Rattle.tn_session.specs.TerminalTalk.{Presses, TerminalTakes, takes_input_in, tolerant_worked, counts_of, since, no_arrival, OfWaiting}
 use Rattle.tn_session.specs.Wire.{WireState}
 
 -- how the work of a run stands: the session, the keys that are left, and how many were inhibited

@@ -1,9 +1,10 @@
 //! The core of a terminal's session.
 
-ghost use Rattle.std.specs.Prelude.{◌≡◌};
+ghost use Rattle.std.specs.Prelude.{◌≡◌, option_map};
 ghost use Rattle.tn_wire.specs.Calls.{told_of};
 ghost use Rattle.tn_cores.specs.Steps.{Takes};
 ghost use Rattle.tn_session.specs.EndCores.{core_step, core_agreed, is_tolerant};
+ghost use Rattle.tn_session.specs.LuNames.{core_grants};
 
 use tn_cores::{Agreed, Out, SessionFault, TermCore, Told, TolerantCore};
 use tn_wire::Event;
@@ -26,6 +27,16 @@ impl EndCore {
         match self {
             EndCore::Strict(core) => core.step(event, out),
             EndCore::Tolerant(core) => Ok(core.step(event, out)),
+        }
+    }
+
+    /// The name of the logical unit that an event grants before it is taken.
+    pub(crate) fn granted_lu_name<'a>(&self, event: &Event<'a>) -> Option<&'a [u8]>
+        ensures { option_map (λ name. name.now) result ≡ core_grants self.now (told_of event.now) }
+    {
+        match self {
+            EndCore::Strict(core) => core.granted_lu_name(event),
+            EndCore::Tolerant(core) => core.granted_lu_name(event),
         }
     }
 

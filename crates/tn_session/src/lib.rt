@@ -15,6 +15,7 @@ mod host_session;
 mod kept;
 mod keystroke;
 mod laws;
+mod lu_name;
 mod machine;
 mod noted;
 mod outcome;

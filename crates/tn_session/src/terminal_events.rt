@@ -282,6 +282,7 @@ pub(crate) fn take_event_of<K: Keystroke>(
         (told_of event.now)) result
         (record { state = state.new; keys = map K.strike keys.new.now }) due.new.items }
 {
+    let granted = state.core.granted_lu_name(event);
     let mut reply = Out::new();
     let told = match state.core.step(event, &mut reply) {
         Ok(told) => told,
@@ -290,6 +291,7 @@ pub(crate) fn take_event_of<K: Keystroke>(
     match event {
         Event::Record(bytes) => take_record(alloc, due, state, keys, bytes),
         Event::Verb(..) | Event::Sub(..) | Event::Passed(..) => {
+            state.lu_name.note(granted);
             state.heed(alloc, told)?;
             due.extend_from_slice(&reply)?;
             Ok(Turn::Goes)

@@ -5,7 +5,7 @@ ghost use Rattle.tn_session.specs.declared.progress.Progress.TheVariants.{More};
 ghost use Rattle.tn_session.specs.KeptView.{kept_view};
 ghost use Rattle.tn_session.specs.Strikes.{by_key, by_stroke};
 ghost use Rattle.tn_session.specs.Talk.{Adds};
-ghost use Rattle.tn_session.specs.TerminalTalk.{Presses, new_worked, tolerant_worked, counts_of, since, OfWaiting, agreed_in, records_kept};
+ghost use Rattle.tn_session.specs.TerminalTalk.{Presses, new_worked, tolerant_worked, counts_of, since, OfWaiting, agreed_in, lu_name_in, records_kept};
 ghost use Rattle.tn_session.specs.TerminalTalk.{heard_act, TerminalTakes, Tolerates, TakesByte, tolerates, takes_input, takes_input_in};
 
 use crate::arrived::Arrived;
@@ -278,6 +278,17 @@ impl TerminalSession {
         ensures { result ≡ agreed_in self.now.talk }
     {
         agreed(&self.session)
+    }
+
+    /// The name of the logical unit that the host granted, while the session is ready by TN3270E: at most its first 32 bytes. Empty
+    /// in a classic session, after a fault, and where the host named none.
+    pub fn lu_name(&self) -> &[u8]
+        ensures { result.now ≡ lu_name_in self.now.talk }
+    {
+        match self.session.listening() {
+            Some(state) => state.lu_name(),
+            None => &[],
+        }
     }
 
     /// Whether the screen takes input: the session is ready, the screen has a field, the keyboard doesn't wait for the host,

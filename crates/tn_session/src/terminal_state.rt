@@ -2,13 +2,16 @@
 
 ghost use Rattle.std.specs.Prelude.{◌≡◌, Some, IfOk, OnOk};
 ghost use Rattle.tn_cores.specs.Devices.{alternate_of, is_size};
+ghost use Rattle.tn_session.specs.EndCores.{core_agreed};
 ghost use Rattle.tn_session.specs.Kept.{nothing_kept};
+ghost use Rattle.tn_session.specs.LuNames.{name_under};
 ghost use Rattle.tn_session.specs.TerminalLog.{begun_state, new_terminal_state, tolerant_terminal, kept_anew, renewed, fitted, dropping, heeding};
 ghost use Rattle.tn_session.specs.TerminalTalk.{counts_of};
 
 use crate::arrived::Arrived;
 use crate::end_core::EndCore;
 use crate::kept::KeptRecords;
+use crate::lu_name::LuName;
 use crate::noted::NotedText;
 use ds_codec::Size;
 use ds_screen::PlaneCells;
@@ -41,6 +44,8 @@ pub(crate) struct TerminalState {
     pub(crate) ignored: u64,
     /// The record that ends next is to be dropped.
     pub(crate) drops: bool,
+    /// The name of the logical unit that the host granted last.
+    pub(crate) lu_name: LuName,
     /// The text that a tolerant terminal was sent.
     pub(crate) noted: NotedText,
     /// The records of the screen, where they are kept.
@@ -92,6 +97,7 @@ impl TerminalState {
             refused: 0,
             ignored: 0,
             drops: false,
+            lu_name: LuName::new(),
             noted: NotedText::new(alloc),
             kept: None,
         })
@@ -104,6 +110,16 @@ impl TerminalState {
         let mut state = self;
         state.kept = Some(KeptRecords::new(alloc));
         state
+    }
+
+    /// The name of the logical unit, while records pass by TN3270E.
+    pub(crate) fn lu_name(&self) -> &[u8]
+        ensures { result.now ≡ name_under (core_agreed self.now.core) self.now.lu_name }
+    {
+        match self.core.agreed() {
+            Some(agreed) if agreed.enhanced => self.lu_name.bytes(),
+            _ => &[],
+        }
     }
 
     /// What it counts.

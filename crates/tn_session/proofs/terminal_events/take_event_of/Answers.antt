@@ -8,7 +8,7 @@ use Rattle.tn_session.specs.EndCores.{core_step}
 use Rattle.tn_session.specs.Ran.{Does}
 use Rattle.tn_session.specs.Runs.{Log}
 use Rattle.tn_session.specs.TerminalLog.{TerminalRunning, terminal_act}
-use Rattle.tn_session.proofs.TerminalSteps.{refused_act, record_act, IsOther, other_does}
+use Rattle.tn_session.proofs.TerminalSteps.{refused_act, record_act, IsOther, other_does, named_so}
 use Rattle.tn_session.proofs.terminal_events.take_event_of.Goals as goal
 
 pub returns-in-Err : goal.returns-in-Err
@@ -36,5 +36,6 @@ pub returns-in_ok-extend_from_slice-in-Verb : goal.returns-in_ok-extend_from_sli
 returns-in_ok-extend_from_slice-in-Verb g c =
     other_does (record { state = c.args.state.now; keys = map g.K.Keystroke.strike c.args.keys.now.now }) (told_of c.args.event.now) c.step.new.self c.in-Ok.told
     c.step.new.out.items c.heed.new.self c.extend_from_slice.new.self.items
-    (is_other c.args.event.now c.in-Verb.is) c.in-Ok.ensures c.in_ok-heed-in-Verb.ensures
+    (is_other c.args.event.now c.in-Verb.is) c.in-Ok.ensures
+    (named_so c.args.state.now (told_of c.args.event.now) c.step.new.self c.in-Ok.told c.note.new.self _ c.heed.new.self c.granted_lu_name-granted.ensures c.note.ensures c.in_ok-heed-in-Verb.ensures)
     (c.in_ok-extend_from_slice-in-Verb.ensures.items ∙ ap (λ z. z ++ c.deref.result.now) c.requires.empty ∙ c.deref.ensures.0)

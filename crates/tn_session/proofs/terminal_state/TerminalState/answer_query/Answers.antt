@@ -1,4 +1,4 @@
-use Rattle.std.proofs.Common.{◌≡◌, ◌∙◌, ◌++◌, ap}
+use Rattle.std.proofs.Common.{◌∙◌, ◌++◌, ap}
 use Rattle.ds_screen.specs.Picture.{Picture}
 use Rattle.ds_codec.specs.Geometry.{Sizes}
 use Rattle.ds_structured.specs.Fields.{wanted_seen}

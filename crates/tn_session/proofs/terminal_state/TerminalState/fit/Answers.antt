@@ -1,5 +1,4 @@
 use Rattle.std.proofs.Common.{sym, ◌∙◌}
-use Rattle.tn_session.specs.TerminalLog.{renewed}
 use Rattle.tn_session.proofs.TolerantWork.{fit_so}
 use Rattle.tn_session.proofs.terminal_state.TerminalState.fit.Goals as goal
 
