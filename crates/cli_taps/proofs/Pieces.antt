@@ -26,12 +26,12 @@ pub told_more : (number : ℕ) (side : Side) (old : Relayed) (listening : Listen
 told_more number Terminal old listening told scratch count new text after reads other listens is = record {
   pieces = is.pieces ++ (record { side = Terminal; bytes = take count scratch }) ∷ [];
   host = stream_more Host is.pieces _ ∙ append-nil _ ∙ is.host ∙ sym (ap (λ w. w.read) other);
-  terminal = stream_more Terminal is.pieces _ ∙ ap (λ z. z ++ take count scratch) is.terminal ∙ sym (ap (λ w. w.read) reads.3);
+  terminal = stream_more Terminal is.pieces _ ∙ ap (λ z. z ++ take count scratch) is.terminal ∙ sym (ap (λ w. w.read) reads.0.3);
   tells = listen_more _ is.pieces told listening _ text after is.tells listens;
 }
 told_more number Host old listening told scratch count new text after reads other listens is = record {
   pieces = is.pieces ++ (record { side = Host; bytes = take count scratch }) ∷ [];
-  host = stream_more Host is.pieces _ ∙ ap (λ z. z ++ take count scratch) is.host ∙ sym (ap (λ w. w.read) reads.3);
+  host = stream_more Host is.pieces _ ∙ ap (λ z. z ++ take count scratch) is.host ∙ sym (ap (λ w. w.read) reads.0.3);
   terminal = stream_more Terminal is.pieces _ ∙ append-nil _ ∙ is.terminal ∙ sym (ap (λ w. w.read) other);
   tells = listen_more _ is.pieces told listening _ text after is.tells listens;
 }

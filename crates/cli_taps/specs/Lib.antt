@@ -1,3 +1,4 @@
 pub mod Text
 pub mod Listening
 pub mod Taps
+pub mod Rounds

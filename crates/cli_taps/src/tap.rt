@@ -1,6 +1,6 @@
 //! A tap between a terminal and a host.
 
-ghost use Rattle.std.specs.Prelude.{◌≡◌, ◌++◌, ℕ, List, [], true, false, IfOk};
+ghost use Rattle.std.specs.Prelude.{◌≡◌, ◌++◌, ℕ, List, [], true, false, length, IfOk};
 ghost use Rattle.tn_relay.specs.Relayed.{AreFaithful, Reads, TellsEnd, Writes, nothing_passed, way_from, way_to};
 ghost use Rattle.cli_taps.specs.Listening.{Listens, listening_first};
 ghost use Rattle.cli_taps.specs.Taps.{TellsAll};
@@ -83,9 +83,11 @@ impl<T: Line, H: Line> Tap<T, H> {
     /// Where room for the bytes of both ways, or for two records of each side, was refused.
     pub fn new(alloc: Global, number: u64, terminal: T, host: H) -> Result<Tap<T, H>, AllocError>
         requires terminal { (T.received terminal ≡ []) × (T.sent terminal ≡ [])
-            × (T.told_end terminal ≡ false) }
+            × (T.told_end terminal ≡ false)
+            × (T.read_answers terminal ≡ []) × (T.write_answers terminal ≡ []) }
         requires host { (H.received host ≡ []) × (H.sent host ≡ [])
-            × (H.told_end host ≡ false) }
+            × (H.told_end host ≡ false)
+            × (H.read_answers host ≡ []) × (H.write_answers host ≡ []) }
         ensures { IfOk result (λ tap. tap ≡ record {
           number = number;
           relayed = nothing_passed;
@@ -131,6 +133,7 @@ impl<T: Line, H: Line> Tap<T, H> {
 
     /// Reads a side once, as far as there is room for it, and adds what that tells.
     pub fn read(&mut self, alloc: Global, side: Side, scratch: &mut [u8], out: &mut Vec<u8>) -> Gave
+        ensures room { length scratch.new ≡ length scratch.old }
         ensures reads { Reads (way_from side self.old.relayed) scratch.new result
             (way_from side self.new.relayed) }
         ensures other { way_to side self.new.relayed ≡ way_to side self.old.relayed }

@@ -1,6 +1,6 @@
 //! A line that doesn't wait.
 
-ghost use Rattle.std.specs.Prelude.{◌≡◌, ℕ, List, Bool, true, ◌<◌, length};
+ghost use Rattle.std.specs.Prelude.{◌≡◌, ℕ, List, Bool, true, ◌<◌, [], ◌∷◌, ◌++◌, length};
 ghost use Rattle.tn_relay.specs.Lines.{Gives, Takes};
 
 /// What a read of a line came to.
@@ -25,9 +25,12 @@ pub enum Took {
     Failed,
 }
 
-/// A line that doesn't wait. Contracts see all that was read of it and written to it, and whether it was told that nothing more will
-/// be written.
+/// A line that doesn't wait. Contracts see all that was read of it and written to it, whether it was told that nothing more will be
+/// written, and what it answered each time that it was asked.
 pub trait Line: Drop {
+    ghost use Rattle.tn_relay.specs.declared.line.Gave.{Gave};
+    ghost use Rattle.tn_relay.specs.declared.line.Took.{Took};
+
     /// The bytes that reads gave.
     ghost received: { Self → List ℕ };
 
@@ -37,10 +40,18 @@ pub trait Line: Drop {
     /// Whether the end was told.
     ghost told_end: { Self → Bool };
 
+    /// What each read came to.
+    ghost read_answers: { Self → List Gave };
+
+    /// What each write came to.
+    ghost write_answers: { Self → List Took };
+
     /// One read into a buffer.
     fn read(&mut self, piece: &mut [u8]) -> Gave
         requires { 0 < length piece.old }
         ensures gives { Gives (received self.old) (received self.new) piece.new result }
+        ensures asked { read_answers self.new ≡ read_answers self.old ++ result ∷ [] }
+        ensures writes { write_answers self.new ≡ write_answers self.old }
         ensures room { length piece.new ≡ length piece.old }
         ensures sent { sent self.new ≡ sent self.old }
         ensures told { told_end self.new ≡ told_end self.old };
@@ -49,6 +60,8 @@ pub trait Line: Drop {
     fn write(&mut self, bytes: &[u8]) -> Took
         requires { 0 < length bytes.now }
         ensures takes { Takes (sent self.old) (sent self.new) bytes.now result }
+        ensures asked { write_answers self.new ≡ write_answers self.old ++ result ∷ [] }
+        ensures reads { read_answers self.new ≡ read_answers self.old }
         ensures received { received self.new ≡ received self.old }
         ensures told { told_end self.new ≡ told_end self.old };
 
@@ -56,5 +69,7 @@ pub trait Line: Drop {
     fn tell_end(&mut self)
         ensures told { told_end self.new ≡ true }
         ensures received { received self.new ≡ received self.old }
-        ensures sent { sent self.new ≡ sent self.old };
+        ensures sent { sent self.new ≡ sent self.old }
+        ensures reads { read_answers self.new ≡ read_answers self.old }
+        ensures writes { write_answers self.new ≡ write_answers self.old };
 }

@@ -18,14 +18,15 @@ pub(crate) struct Pipe {
 }
 
 impl Model for Pipe {
-    ghost use Rattle.std.specs.Prelude.{◌≤◌, ◌-◌, drop, vec_len, vec_capacity};
+    ghost use Rattle.std.specs.Prelude.{◌≡◌, ◌≤◌, ◌-◌, drop, vec_len, vec_capacity};
     ghost use Rattle.tn_relay.specs.Relayed.{Held};
 
     ghost Value = { Held };
 
     ghost view = { λ p. record { bytes = drop p.gone p.bytes.items; room = 16384 - vec_len p.bytes; is_ended = p.is_ended } };
 
-    ghost invariant = { λ p. (p.gone ≤ vec_len p.bytes) × (16384 ≤ vec_capacity p.bytes) × (vec_len p.bytes ≤ 16384) };
+    ghost invariant = { λ p. (p.gone ≤ vec_len p.bytes) × (p.gone ≡ vec_len p.bytes → vec_len p.bytes ≡ 0)
+        × (16384 ≤ vec_capacity p.bytes) × (vec_len p.bytes ≤ 16384) };
 }
 
 impl Pipe {
@@ -65,6 +66,7 @@ impl Pipe {
     pub(crate) fn take(&mut self, bytes: &[u8])
         requires room { length bytes.now ≤ self.old.room }
         ensures bytes { self.new.bytes ≡ self.old.bytes ++ bytes.now }
+        ensures room { self.new.room ≡ self.old.room - length bytes.now }
         ensures ended { self.new.is_ended ≡ self.old.is_ended }
     {
         self.bytes.extend_from_slice(bytes).unwrap();
@@ -74,6 +76,8 @@ impl Pipe {
     pub(crate) fn give(&mut self, count: usize)
         requires bytes { count ≤ length self.old.bytes }
         ensures bytes { self.new.bytes ≡ drop count self.old.bytes }
+        ensures room { self.old.room ≤ self.new.room }
+        ensures empty { self.new.bytes ≡ [] → self.new.room ≡ 16384 }
         ensures ended { self.new.is_ended ≡ self.old.is_ended }
     {
         self.gone += count;
