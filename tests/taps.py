@@ -306,8 +306,54 @@ def it_can_be_ended():
     tell("ended by a signal, both sides see it", (b"", b""), (read_all(terminal)[:0], read_all(host)[:0]))
 
 
+# The bytes of a host that asks what the terminal is, and shows a screen with colors; and of the terminal that answers.
+QUERY = bytes.fromhex("0000000000F3000501FFFF02") + EOR
+QUERY_REPLY = bytes.fromhex("000000000088000E81810000020050001801000A") + EOR
+COLORS = bytes.fromhex("0000000001F5C3") + bytes.fromhex("11405D2902C0F042F2C1C2") + bytes.fromhex("11C3F82903C04041F242F4") + EOR
+COLORS_ANSWER = bytes.fromhex("00000000017DC3F911C3F9C1") + EOR
+
+
+def colored(terminal, host):
+    """A session with a structured query and colors: what each end gets."""
+    got = {}
+
+    def play():
+        got["host"] = b""
+        for wanted, due in ((len(QUERY_REPLY), QUERY), (len(COLORS_ANSWER), COLORS)):
+            host.sendall(due)
+            got["host"] += read_some(host, wanted)
+        host.shutdown(socket.SHUT_WR)
+        got["host"] += read_all(host)
+
+    player = threading.Thread(target=play)
+    player.start()
+    found = read_some(terminal, len(QUERY))
+    terminal.sendall(QUERY_REPLY)
+    found += read_some(terminal, len(COLORS))
+    terminal.sendall(COLORS_ANSWER)
+    terminal.shutdown(socket.SHUT_WR)
+    found += read_all(terminal)
+    player.join(LONGEST)
+    for it in (terminal, host):
+        it.close()
+    return found, got["host"]
+
+
+def a_query_and_colors_pass():
+    listener = socket.create_server(("127.0.0.1", 0))
+    terminal = socket.create_connection(listener.getsockname(), LONGEST)
+    host, _ = listener.accept()
+    for it in (terminal, host):
+        it.settimeout(LONGEST)
+    without = colored(terminal, host)
+    listener.close()
+    tap = Tap(1)
+    tell("a query and colors, as without a tap", without, colored(*tap.pair()))
+    tell("a query and colors, the status", 0, tap.end()[2])
+
+
 def main():
-    for part in (bytes_pass, many_pass, sessions_are_told, faults_are_told, ends_are_handed_on, a_deaf_side_stops_the_other, a_host_that_refuses, it_can_be_ended):
+    for part in (bytes_pass, many_pass, sessions_are_told, a_query_and_colors_pass, faults_are_told, ends_are_handed_on, a_deaf_side_stops_the_other, a_host_that_refuses, it_can_be_ended):
         try:
             part()
         except OSError as error:

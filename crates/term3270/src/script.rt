@@ -142,7 +142,7 @@ fn page_of(
 }
 
 /// Adds bytes to a history.
-pub(crate) fn add_bytes(history: &mut History<u8>, bytes: &[u8])
+fn add_bytes(history: &mut History<u8>, bytes: &[u8])
     ensures { history.new.items ≡ history.old.items ++ bytes.now }
 {
     'bytes: for byte in bytes {

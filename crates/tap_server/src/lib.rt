@@ -1,0 +1,9 @@
+//! Taps over TCP: a port, a host behind it, and the pairs of sockets that came of it, all on one thread.
+#![tactic(auto)]
+
+mod pair;
+mod printing;
+mod server;
+mod socket;
+
+pub use server::{Outside, Taps, run_taps};
