@@ -12,6 +12,7 @@ from typing import Iterator
 Step = tuple[str, bytes | float]
 
 RECORD_END = b"\xff\xef"
+CONNECT = b"\x01TERM3270"
 NEGOTIATED = b"\xff\xfd\x19\xff\xfb\x19\xff\xfd\x00\xff\xfb\x00"
 
 
@@ -52,9 +53,9 @@ def records_in(stream: bytes) -> Iterator[tuple[bytes, bytes]]:
 
 
 class Host(threading.Thread):
-    """A host of one terminal. With `most` it closes once it has sent so many bytes."""
+    """A host of one terminal. With `most` it closes once it has sent so many bytes. `granted` is what it says after the device's name."""
 
-    def __init__(self, text: str, most: int | None = None) -> None:
+    def __init__(self, text: str, most: int | None = None, granted: bytes = CONNECT) -> None:
         super().__init__(daemon=True)
         words, self.steps = steps_of(text)
         self.classic = "classic" in words
@@ -65,6 +66,7 @@ class Host(threading.Thread):
         self.answers: list[bytes] = []
         self.sent_bytes = 0
         self.most = most
+        self.granted = granted
         if "refuse" in words:
             self.listener.close()
             self.listener = None
@@ -120,7 +122,7 @@ class Host(threading.Thread):
         self.take(b"\xff\xfb\x28")
         self.send(b"\xff\xfa\x28\x08\x02\xff\xf0")
         device = self.up_to(b"\xff\xf0")[5:].partition(b"\x01")[0]
-        self.send(b"\xff\xfa\x28\x02\x04" + device + b"\x01TERM3270\xff\xf0")
+        self.send(b"\xff\xfa\x28\x02\x04" + device + self.granted + b"\xff\xf0")
         asked = set(self.up_to(b"\xff\xf0")[5:])
         granted = bytes(asked & {2})
         if asked <= {2}:
@@ -180,8 +182,8 @@ class Host(threading.Thread):
             self.listener.close()
 
 
-def serve(text: str, most: int | None = None) -> Host:
-    host = Host(text, most)
+def serve(text: str, most: int | None = None, granted: bytes = CONNECT) -> Host:
+    host = Host(text, most, granted)
     host.start()
     return host
 

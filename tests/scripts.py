@@ -145,18 +145,23 @@ def first_difference(expected: str, had: str) -> str:
     return f"{len(ours)} lines, not {len(theirs)}"
 
 
-# What is answered otherwise in a case that was recorded, and why: the name of the logical unit isn't kept.
-KNOWN: dict[str, tuple[str, str]] = {"query": ("data: TERM3270\n", "data: \n")}
+def want_case(name: str, said: str, sent: str) -> None:
+    for suffix, had in ((".out", said), (".sent", sent)):
+        expected = read_case(name, suffix)
+        want(had == expected, f"{name}{suffix}: {first_difference(expected, had)}")
 
 
 def replay(program: Program, name: str) -> None:
     said, sent, status = play(program, name)
-    for suffix, had in ((".out", said), (".sent", sent)):
-        expected = read_case(name, suffix)
-        if program.is_ours and name in KNOWN:
-            expected = expected.replace(*KNOWN[name])
-        want(had == expected, f"{name}{suffix}: {first_difference(expected, had)}")
+    want_case(name, said, sent)
     want(status == 0, f"{name}: its status is {status}")
+
+
+def replay_judged(program: Program, folder: str, name: str) -> None:
+    """A case whose screens are judged: the tool and the host see none of it, whatever is found."""
+    said, sent, status = play(Program(program.words + ["--layouts", folder], True), name)
+    want_case(name, said, sent)
+    want(status in (0, 1), f"{name}: its status is {status}")
 
 
 # ---- a client in the manner of py3270
@@ -492,6 +497,48 @@ def check_of_nothing(program: Program) -> None:
     want(driver.end() == (b"", 0), "more at the end, or another status")
 
 
+def cases_judged(program: Program) -> None:
+    """Each case again, with layouts: the answers and what is sent are those of a run without."""
+    with tempfile.TemporaryDirectory() as folder, ThreadPoolExecutor(8) as at_once:
+        write_file(folder, "signon.toml", SIGNON_LAYOUT)
+        write_file(folder, "menu.toml", MENU_LAYOUT)
+        for done in [at_once.submit(replay_judged, program, folder, name) for name in case_names()]:
+            done.result()
+
+
+# ---- names of logical units
+
+# What DEVICE-TYPE IS has after the device's name, and what is told of it.
+GRANTS: list[tuple[bytes, str]] = [
+    (b"\x01TERM3270", "TERM3270"),
+    (b"\x01lower", "lower"),
+    (b"\x01A B", "A B"),
+    (b"\x01", ""),
+    (b"", ""),
+    (b"\x01" + b"ABCDEFGHIJ" * 5, "ABCDEFGHIJABCDEFGHIJABCDEFGHIJAB"),
+]
+HOSTILE_GRANTS: list[tuple[bytes, str]] = [
+    (b"\x01A\nB\x07C\x7f\xc1\xff\xffz", "A?B?C???z"),
+    (b"\x01AB\x01CD", "AB?CD"),
+]
+
+
+def lu_names(program: Program) -> None:
+    """The name that the host granted is told, and none in a classic session, where it granted none, and once it is gone."""
+    for granted, told in GRANTS + (HOSTILE_GRANTS if program.is_ours else []):
+        host = serve(SIGNON, granted=granted)
+        driver = Driver(program)
+        want(driver.ask("Query(LuName)")[0] == [""], "a name before a connection")
+        driver.ask(f"Connect({host.address})")
+        want(driver.ask("Query(LuName)")[0] == [told], f"after {granted!r}: not {told}")
+        driver.ask("Disconnect")
+        want(driver.ask("Query(LuName)")[0] == [""], "a name after the connection")
+        driver.end()
+    _host, driver = connected(program, "classic\n" + SIGNON)
+    want(driver.ask("Query(LuName)")[0] == [""], "a name in a classic session")
+    driver.end()
+
+
 # ---- the words of tools
 
 
@@ -512,8 +559,10 @@ OTHERS: list[tuple[str, Callable[[Program], None], bool]] = [
     ("closing-hosts", closing_hosts, False),
     ("side-by-side", side_by_side, False),
     ("closed-output", closed_output, False),
+    ("lu-names", lu_names, False),
     ("wrapper", wrapper, False),
     ("pages", pages, True),
+    ("cases-judged", cases_judged, True),
     ("checks", checks, True),
     ("check-of-nothing", check_of_nothing, True),
     ("hostile-lines", hostile_lines, True),

@@ -24,7 +24,7 @@ use Rattle.script_screens.specs.Lines.{data_line, data_lines, Said, Says, failed
 use Rattle.script_screens.specs.Pieces.{fault_words}
 use Rattle.script_screens.specs.Snap.{snap_fault_words}
 use Rattle.script_screens.proofs.Whole.{and_true, join, decimal_whole}
-use Rattle.cli_scripts.specs.Answers.{printed_text, syntax_words, syntax_text, AreData}
+use Rattle.cli_scripts.specs.Answers.{printed_byte, printed_text, printed_name, syntax_words, syntax_text, AreData}
 
 -- ---- texts
 
@@ -59,6 +59,14 @@ printed_other byte false is = ap not (ne_eqb byte 10 (λ ten. omega (arith, ltb-
 pub printed_whole : (text : List ℕ) → is_whole (printed_text text) ≡ true
 printed_whole [] = refl
 printed_whole (byte ∷ text) = and_true _ _ (printed_other byte (nat_lt byte 0x20) refl) (printed_whole text)
+
+name_other : (byte : ℕ) (test : Bool) → not ((cond test (printed_byte byte) 0x3F) == 10) ≡ true
+name_other byte true = printed_other byte (nat_lt byte 0x20) refl
+name_other byte false = refl
+
+pub lu_name_whole : (name : List ℕ) → is_whole (printed_name name) ≡ true
+lu_name_whole [] = refl
+lu_name_whole (byte ∷ name) = and_true _ _ (name_other byte (nat_lt byte 0x7F)) (lu_name_whole name)
 
 pub printed_data : (text : List ℕ) → AreData (data_line (printed_text text))
 printed_data text = one_line (printed_text text) (printed_whole text)

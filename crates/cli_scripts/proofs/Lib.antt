@@ -1,6 +1,8 @@
 mod DataLines
+mod QueryTold
 mod Telling
 mod DeskSteps
+mod DeedLaws
 mod Presses
 mod WorkLaws
 mod JudgedLaws

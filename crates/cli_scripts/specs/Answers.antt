@@ -16,6 +16,13 @@ printed_byte byte = if nat_lt byte 0x20 then 0x3F else byte
 abbrev pub printed_text : List ℕ → List ℕ
 printed_text text = map printed_byte text
 
+-- what is printed for a byte of a logical unit's name, which a host gave: what is no printable character of ASCII is `?`
+abbrev pub name_byte : ℕ → ℕ
+name_byte byte = if nat_lt byte 0x7F then printed_byte byte else 0x3F
+
+abbrev pub printed_name : List ℕ → List ℕ
+printed_name name = map name_byte name
+
 abbrev pub syntax_words : SyntaxWhy → List ℕ
 syntax_words NoName = codes "Action name must begin with an alphanumeric character"
 syntax_words BadName = codes "Syntax error in action name"

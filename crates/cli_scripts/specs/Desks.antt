@@ -1,12 +1,19 @@
 -- The terminal that a script works, and what is known of its line.
 use Rattle.std.specs.Prelude.{◌≡◌, ℕ, Bool, true, false, List, [], ◌++◌, Option, Some, None}
+use Rattle.ds_screen.specs.Picture.{Picture}
 use Rattle.ds_screen.specs.declared.lock.Lock.{Lock}
 use Rattle.ds_screen.specs.declared.lock.Lock.TheVariants.{Free, Waiting, Error}
 use Rattle.script_screens.specs.declared.connection.Protocol.{Protocol}
+use Rattle.script_screens.specs.declared.lines.Outcome.{Outcome}
+use Rattle.script_screens.specs.declared.query.Query.{Query}
+use Rattle.script_screens.specs.Lines.{Says}
+use Rattle.script_screens.specs.Query.{Named, said_of_query}
 use Rattle.script_screens.specs.Status.{Link}
 use Rattle.tn_cores.specs.declared.device.Device.{Device}
 use Rattle.tn_session.specs.declared.terminal_state.TerminalState.{TerminalState}
 use Rattle.tn_session.specs.Talk.{Talk}
+use Rattle.tn_session.specs.TerminalTalk.{lu_name_in}
+use Rattle.cli_scripts.specs.Answers.{printed_name}
 use Rattle.cli_scripts.specs.declared.deed.Deed.{Deed}
 use Rattle.cli_scripts.specs.Deeds.{DidSo, new_talk}
 use Rattle.cli_scripts.specs.SentOn.{SentOn}
@@ -15,9 +22,11 @@ pub record NamedHost : Type 0 where
   pub name : List ℕ
   pub port : ℕ
 
-abbrev pub link_of_host : Option NamedHost → Protocol → Option Link
-link_of_host None protocol = None
-link_of_host (Some host) protocol = Some (record { host = host.name; port = host.port; protocol = protocol; lu_name = [] })
+-- a connection to a host, where the logical unit has this name
+abbrev pub link_of_host : Option NamedHost → Protocol → List ℕ → Option Link
+link_of_host None protocol lu_name = None
+link_of_host (Some host) protocol lu_name =
+    Some (record { host = host.name; port = host.port; protocol = protocol; lu_name = lu_name })
 
 -- The session, the host while it is connected, all that was done at it and was heard of hosts, and the bytes that were due: those that were
 -- handed out, and those that weren't. Where screens on which keys send are collected to be judged, so are those: the ones that were handed
@@ -58,6 +67,16 @@ new_desk device = desk_of device false
 -- that are collected are those on which the keys among it sent, each as it was before its key.
 abbrev pub DidAll : Worked → Type 0
 DidAll w = DidSo w.device w.deeds w.heard (w.gone ++ w.due) w.talk w.collects (w.judged ++ w.unjudged)
+
+-- this is known of its connection, where the logical unit's name is told so
+abbrev pub IsLinkOf : Worked → List ℕ → Option Link → Type 0
+IsLinkOf w lu_name link = (protocol : Protocol) × (link ≡ link_of_host w.host protocol lu_name)
+
+-- Query of these words says this of a terminal
+abbrev pub TellsQuery : Worked → Query → List (List ℕ) → List ℕ → List ℕ → Outcome → Type 0
+TellsQuery w query words before after outcome =
+    (v : Picture) × (link : Option Link) × (device : Named) × IsLinkOf w (printed_name (lu_name_in w.talk)) link
+    × Says before after outcome (said_of_query v link device query words)
 
 -- all that was due was handed out
 abbrev pub handed_due : Worked → Worked

@@ -1,5 +1,6 @@
 pub mod Acts
 pub mod Answers
+pub mod DeedLaws
 pub mod Deeds
 pub mod Desks
 pub mod Judged

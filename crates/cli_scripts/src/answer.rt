@@ -3,8 +3,10 @@
 ghost use Rattle.std.specs.Prelude.{◌≡◌, ◌++◌, [], true, map, IfOk, OnOk, codes};
 ghost use Rattle.script_screens.specs.Laws.{LinkIsWhole, is_whole};
 ghost use Rattle.script_screens.specs.Lines.{data_line, failed, Says};
+ghost use Rattle.script_screens.specs.Query.{said_of_query};
 ghost use Rattle.script_screens.specs.Status.{link_seen};
-ghost use Rattle.cli_scripts.specs.Answers.{printed_byte, printed_text, syntax_words, syntax_text, last_line, AreData, IsAnswer};
+ghost use Rattle.cli_scripts.specs.Desks.{TellsQuery};
+ghost use Rattle.cli_scripts.specs.Answers.{printed_byte, printed_text, name_byte, printed_name, syntax_words, syntax_text, last_line, AreData, IsAnswer};
 
 use crate::desk::Desk;
 use crate::kept::KeptScreen;
@@ -25,6 +27,28 @@ fn printed_byte(byte: u8) -> u8
     ensures { result ≡ printed_byte byte }
 {
     if byte < 0x20 { 0x3F } else { byte }
+}
+
+/// What is printed for a byte of a logical unit's name.
+fn name_byte(byte: u8) -> u8
+    ensures { result ≡ name_byte byte }
+{
+    if byte < 0x7F {
+        printed_byte(byte)
+    } else {
+        0x3F
+    }
+}
+
+/// A logical unit's name as it is told: each byte that is no printable character of ASCII is `?`.
+fn printed_name(alloc: Global, name: &[u8]) -> Result<Vec<u8>, AllocError>
+    ensures { IfOk result (λ told. told.items ≡ printed_name name.now) }
+{
+    let mut told = Vec::new(alloc);
+    'bytes: for byte in name {
+        told.push(name_byte(*byte))?;
+    }
+    Ok(told)
 }
 
 /// Adds a text, without controls.
@@ -103,7 +127,7 @@ impl Saying {
     ghost use Rattle.script_screens.specs.Reading.{said_of_reading};
     ghost use Rattle.script_screens.specs.Snap.{said_of_kept, snap_fault_words};
     ghost use Rattle.script_screens.specs.Pieces.{fault_words};
-    ghost use Rattle.cli_scripts.specs.Desks.{link_of_host};
+    ghost use Rattle.cli_scripts.specs.Desks.{link_of_host, TellsQuery};
 
     /// Nothing yet.
     pub(crate) fn new(alloc: Global) -> Saying
@@ -199,7 +223,7 @@ impl Saying {
         arguments: &[Vec<u8>],
     ) -> Result<Outcome, AllocError>
         ensures { IfOk result (λ outcome. Says self.old self.new outcome
-            (said_of_kept code_page kept.now.screen (link_of_host kept.now.host kept.now.protocol)
+            (said_of_kept code_page kept.now.screen (link_of_host kept.now.host kept.now.protocol [])
             kept.now.model asked (map (λ argument. argument.items) arguments.now))) }
     {
         let mut text = Vec::new(alloc);
@@ -240,7 +264,10 @@ impl Saying {
         desk: &Desk,
         query: Query,
         arguments: &[Vec<u8>],
-    ) -> Result<Outcome, AllocError> {
+    ) -> Result<Outcome, AllocError>
+        ensures { IfOk result (λ outcome. TellsQuery desk.now query
+            (map (λ argument. argument.items) arguments.now) self.old self.new outcome) }
+    {
         let mut text = Vec::new(alloc);
         let outcome = push_told(alloc, &mut text, desk, query, arguments)?;
         self.add(&text)?;
@@ -290,7 +317,11 @@ fn push_asked(
     requires begins { text.old.items ≡ [] }
     requires link { LinkIsWhole (link_seen connection) }
     requires name { is_whole name.now ≡ true }
-    ensures { OnOk result (AreData text.new.items) }
+    ensures data { OnOk result (AreData text.new.items) }
+    ensures said { IfOk result (λ outcome. Says text.old.items text.new.items outcome
+        (said_of_query screen.now (link_seen connection.entry)
+        (record { name = name.now; version = codes "Takvorn 1.0.0" }) query
+        (map (λ argument. argument.items) arguments.now))) }
 {
     lines_law();
     let device = Device {
@@ -309,10 +340,13 @@ fn push_told(
     arguments: &[Vec<u8>],
 ) -> Result<Outcome, AllocError>
     requires { text.old.items ≡ [] }
-    ensures { OnOk result (AreData text.new.items) }
+    ensures data { OnOk result (AreData text.new.items) }
+    ensures told { IfOk result (λ outcome. TellsQuery desk.now query
+        (map (λ argument. argument.items) arguments.now) text.old.items text.new.items outcome) }
 {
+    let lu_name = printed_name(alloc, desk.lu_name())?;
     let name = desk.device().name();
-    let connection = desk.connection();
+    let connection = desk.connection_of(&lu_name);
     push_asked(
         alloc,
         text,

@@ -2,13 +2,13 @@
 
 ghost use Rattle.std.specs.Prelude.{◌≡◌, ◌++◌, [], ◌∷◌, length, map, nat_lt, not, ◌&&◌, option_map, replicate, Some, None, is_some, true, false, IfOk, OnOk};
 ghost use Rattle.std.specs.List.{flat_map};
-ghost use Rattle.script_screens.specs.Laws.{LinkIsWhole};
+ghost use Rattle.script_screens.specs.Laws.{LinkIsWhole, is_whole};
 ghost use Rattle.script_screens.specs.Status.{link_seen};
 ghost use Rattle.script_keys.specs.Runs.{keys_of_run, keys_of};
 ghost use Rattle.tn_session.specs.KeptView.{kept_view};
-ghost use Rattle.tn_session.specs.TerminalTalk.{OfWaiting, tolerant_worked, records_kept, agreed_in, takes_input_in};
+ghost use Rattle.tn_session.specs.TerminalTalk.{OfWaiting, tolerant_worked, records_kept, agreed_in, lu_name_in, takes_input_in};
 ghost use Rattle.cli_scripts.specs.declared.deed.Deed.TheVariants.{Begun, Heard, Pressed as PressedKey};
-ghost use Rattle.cli_scripts.specs.Desks.{DidAll, KeepsScreens, handed_due, handed_screens, desk_of, is_error, is_waiting, link_of_host};
+ghost use Rattle.cli_scripts.specs.Desks.{DidAll, KeepsScreens, handed_due, handed_screens, desk_of, is_error, is_waiting, IsLinkOf};
 
 use crate::answer::add_bytes;
 use crate::deed::Deed;
@@ -448,10 +448,26 @@ impl Desk {
         &self.host
     }
 
-    /// What is known of the connection.
+    /// The name of the logical unit that the host granted.
+    pub(crate) fn lu_name(&self) -> &[u8]
+        ensures { result.now ≡ lu_name_in self.now.talk }
+    {
+        self.session.lu_name()
+    }
+
+    /// What is known of the connection, the logical unit's name left aside.
     pub(crate) fn connection(&self) -> Option<Connection<'_>>
         ensures { LinkIsWhole (link_seen result) }
     {
-        connection_to(&self.host, self.protocol())
+        self.connection_of(&[])
+    }
+
+    /// What is known of the connection, where the logical unit's name is to be told so.
+    pub(crate) fn connection_of<'a>(&'a self, lu_name: &'a [u8]) -> Option<Connection<'a>>
+        requires { is_whole lu_name.now ≡ true }
+        ensures whole { LinkIsWhole (link_seen result) }
+        ensures value { IsLinkOf self.now lu_name.now (link_seen result) }
+    {
+        connection_to(&self.host, self.protocol(), lu_name)
     }
 }

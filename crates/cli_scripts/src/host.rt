@@ -1,7 +1,7 @@
 //! Hosts by their names.
 
-ghost use Rattle.std.specs.Prelude.{◌≡◌, IfOk, OnOk};
-ghost use Rattle.script_screens.specs.Laws.{LinkIsWhole};
+ghost use Rattle.std.specs.Prelude.{◌≡◌, true, IfOk, OnOk};
+ghost use Rattle.script_screens.specs.Laws.{LinkIsWhole, is_whole};
 ghost use Rattle.script_screens.specs.Status.{link_seen};
 ghost use Rattle.cli_scripts.specs.Answers.{printed_text};
 ghost use Rattle.cli_scripts.specs.Desks.{link_of_host};
@@ -71,17 +71,22 @@ impl Host {
     }
 }
 
-/// What is known of the connection to a host, where there is one.
-pub(crate) fn connection_to(host: &Option<Host>, protocol: Protocol) -> Option<Connection<'_>>
-    ensures value { link_seen result ≡ link_of_host host.now protocol }
-    ensures whole { LinkIsWhole (link_of_host host.now protocol) }
+/// What is known of the connection to a host, where there is one. The logical unit's name is as it is to be told.
+pub(crate) fn connection_to<'a>(
+    host: &'a Option<Host>,
+    protocol: Protocol,
+    lu_name: &'a [u8],
+) -> Option<Connection<'a>>
+    requires { is_whole lu_name.now ≡ true }
+    ensures value { link_seen result ≡ link_of_host host.now protocol lu_name.now }
+    ensures whole { LinkIsWhole (link_of_host host.now protocol lu_name.now) }
 {
     match host {
         Some(host) => Some(Connection {
             host: host.name(),
             port: host.port(),
             protocol,
-            lu_name: &[],
+            lu_name,
         }),
         None => None,
     }

@@ -1,6 +1,6 @@
 //! Screens that Snap keeps.
 
-ghost use Rattle.std.specs.Prelude.{◌≡◌, IfOk, option_map};
+ghost use Rattle.std.specs.Prelude.{◌≡◌, [], IfOk, option_map};
 ghost use Rattle.script_screens.specs.Laws.{LinkIsWhole};
 ghost use Rattle.script_screens.specs.Status.{link_seen};
 ghost use Rattle.cli_scripts.specs.Desks.{link_of_host};
@@ -42,9 +42,9 @@ impl KeptScreen {
     }
 
     pub(crate) fn connection(&self) -> Option<Connection<'_>>
-        ensures value { link_seen result ≡ link_of_host self.now.host self.now.protocol }
-        ensures whole { LinkIsWhole (link_of_host self.now.host self.now.protocol) }
+        ensures value { link_seen result ≡ link_of_host self.now.host self.now.protocol [] }
+        ensures whole { LinkIsWhole (link_of_host self.now.host self.now.protocol []) }
     {
-        connection_to(&self.host, self.protocol)
+        connection_to(&self.host, self.protocol, &[])
     }
 }

@@ -11,6 +11,7 @@ mod files;
 mod host;
 mod kept;
 mod keys;
+mod laws;
 mod machine;
 mod reading;
 mod run;
@@ -24,6 +25,7 @@ mod world;
 
 pub use came::{Came, Need, Wants};
 pub use deed::Deed;
+pub use laws::deeds_law;
 pub use machine::Machine;
 pub use run::run_script;
 pub use sent_screen::SentScreen;

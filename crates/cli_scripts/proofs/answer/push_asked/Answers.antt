@@ -4,8 +4,8 @@ use Rattle.script_screens.specs.Status.{link_seen}
 use Rattle.cli_scripts.proofs.DataLines.{told_data}
 use Rattle.cli_scripts.proofs.answer.push_asked.Goals as goal
 
-pub returns : goal.returns
-returns c =
+pub returns-clause-data : goal.returns-clause-data
+returns-clause-data c =
     let named : Named = record { name = c.args.name.now; version = codes "Takvorn 1.0.0" } in
     let arguments = map (λ argument. argument.items) c.args.arguments.now in
     let link = link_seen c.args.connection in
