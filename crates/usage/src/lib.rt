@@ -42,6 +42,7 @@ mod of_script_requests;
 mod of_script_screens;
 mod of_session_hub;
 mod of_tn_cores;
+mod of_tn_dialogue;
 mod of_tn_relay;
 mod of_tn_session;
 mod of_tn_traces;
