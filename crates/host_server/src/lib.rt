@@ -4,6 +4,7 @@
 mod asked;
 mod one_line;
 mod server;
+mod tally;
 
 pub use asked::Asked;
 pub use server::{Server, serve_all};

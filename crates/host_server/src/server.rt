@@ -1,16 +1,21 @@
 //! Many terminals at once: a listener, the lines that came of it, and the hub that they are of. Nothing but the wait for the next
 //! event waits.
 
+ghost use Rattle.std.specs.Prelude.{◌≡◌, IfOk};
+ghost use Rattle.host_server.specs.Serving.{serving, is_done, Serves, EndsSo, ServesAll};
+
 use crate::asked::Asked;
 use crate::one_line::work_line;
+use crate::tally::Tally;
 use cli_commands::{Status, TakesBytes};
-use cli_hosts::{Hosted, Hub, Settled, host_limits, open_host, settle};
+use cli_hosts::{Hosted, Hub, host_limits, open_host, settle};
 use cli_sessions::Output;
 use mio::net::{TcpListener, TcpStream};
 use mio::{Events, Interest, Poll, Token};
 use scr_layout::Layout;
 use std::alloc::{AllocError, Global};
 use std::io;
+use std::marker::Model;
 use std::net::{Net, ToSocketAddrs};
 use std::time::{Clock, Duration, Instant};
 
@@ -26,26 +31,6 @@ const SWEEP: u64 = 250;
 /// The bytes of one read.
 const MOST_READ: usize = 4_096;
 
-/// What became of the terminals that came.
-#[derive(Clone, Copy)]
-struct Tally {
-    settled: u64,
-    answered: u64,
-    has_failed: bool,
-    has_starved: bool,
-}
-
-impl Tally {
-    fn count(&mut self, settled: Settled) {
-        self.settled = self.settled.saturating_add(1);
-        match settled {
-            Settled::Answered => self.answered = self.answered.saturating_add(1),
-            Settled::Failed => self.has_failed = true,
-            Settled::Starved => self.has_starved = true,
-        }
-    }
-}
-
 /// A port, and the terminals that came to it.
 #[derive(Drop)]
 pub struct Server<'a> {
@@ -60,7 +45,22 @@ pub struct Server<'a> {
     lines: Vec<Option<TcpStream>>,
     open: u16,
     asked: Asked,
+    /// What became of the terminals that came and went.
     tally: Tally,
+    /// Whether a terminal could not be given a session.
+    has_refused: bool,
+}
+
+impl<'a> Model for Server<'a> {
+    ghost use Rattle.host_server.specs.Serving.{Serving};
+
+    ghost Value = { Serving };
+
+    ghost view = { λ s. record {
+      entries = s.layout.now.entries;
+      asked = s.asked;
+      tally = s.tally;
+    } };
 }
 
 /// Listens at the first address of a place that can be had.
@@ -104,8 +104,19 @@ fn keep(
     Ok(())
 }
 
+/// The line of a token goes.
+fn drop_line(lines: &mut [Option<TcpStream>], token: usize) {
+    if let Some(line) = lines.get_mut(token) {
+        *line = None;
+    }
+}
+
 impl<'a> Server<'a> {
     /// Listens at a place, to serve a screen.
+    ///
+    /// # Errors
+    ///
+    /// Where none of the place's addresses can be listened at.
     pub fn at<R: Net>(
         rt: &R,
         alloc: Global,
@@ -114,7 +125,9 @@ impl<'a> Server<'a> {
         layout: &'a Layout,
         records: &'a [&'a [u8]],
         asked: Asked,
-    ) -> io::Result<Server<'a>> {
+    ) -> io::Result<Server<'a>>
+        ensures { IfOk result (λ server. server ≡ serving layout.now.entries asked) }
+    {
         let poll = Poll::new(rt)?;
         let mut listener = listen(rt, host, port)?;
         poll.registry()
@@ -130,12 +143,8 @@ impl<'a> Server<'a> {
             lines: Vec::new(alloc),
             open: 0,
             asked,
-            tally: Tally {
-                settled: 0,
-                answered: 0,
-                has_failed: false,
-                has_starved: false,
-            },
+            tally: Tally::new(),
+            has_refused: false,
         })
     }
 
@@ -148,9 +157,10 @@ impl<'a> Server<'a> {
     }
 
     /// Whether all terminals came and went, or enough answered.
-    fn is_done(&self) -> bool {
-        let answers = u64::from(self.asked.answers);
-        self.tally.settled >= self.most() || (answers > 0 && self.tally.answered >= answers)
+    fn is_done(&self) -> bool
+        ensures { result ≡ is_done self.now }
+    {
+        self.tally.is_done(self.asked)
     }
 
     /// Whether another terminal is served beside those that are there.
@@ -159,12 +169,14 @@ impl<'a> Server<'a> {
     }
 
     /// A terminal came.
-    fn open(&mut self, alloc: Global, now: u64, mut stream: TcpStream) {
+    fn open(&mut self, alloc: Global, now: u64, mut stream: TcpStream)
+        ensures { self.new ≡ self.old }
+    {
         if self.hub.came() >= self.most() {
             return;
         }
         let Ok(token) = open_host(alloc, &mut self.hub, self.layout, self.records, now) else {
-            self.tally.has_starved = true;
+            self.has_refused = true;
             return;
         };
         self.open = self.open.saturating_add(1);
@@ -175,10 +187,12 @@ impl<'a> Server<'a> {
         }
     }
 
-    /// Accepts the terminals that wait, as long as there is room.
-    fn accept_all(&mut self, alloc: Global, now: u64) {
+    /// Accepts the terminals that wait, where any may, as long as there is room.
+    fn accept_all(&mut self, alloc: Global, now: u64)
+        ensures { self.new ≡ self.old }
+    {
         for _ in 0..MOST_EVENTS {
-            if !self.has_room() {
+            if !self.may_accept || !self.has_room() {
                 return;
             }
             match self.listener.accept() {
@@ -194,7 +208,9 @@ impl<'a> Server<'a> {
     }
 
     /// Works a line as far as it goes now.
-    fn work(&mut self, alloc: Global, token: usize, now: u64, buffer: &mut [u8]) {
+    fn work(&mut self, alloc: Global, token: usize, now: u64, buffer: &mut [u8])
+        ensures { self.new ≡ self.old }
+    {
         let Some(Some(stream)) = self.lines.get_mut(token) else {
             return;
         };
@@ -211,12 +227,12 @@ impl<'a> Server<'a> {
         alloc: Global,
         token: usize,
         output: &mut Output<W>,
-    ) -> Result<(), Status> {
+    ) -> Result<(), Status>
+        ensures { Serves self.old self.new output.old output.new result }
+    {
         let settled = settle(alloc, &mut self.hub, self.layout, token, output)?;
         if let Some(settled) = settled {
-            if let Some(line) = self.lines.get_mut(token) {
-                *line = None;
-            }
+            drop_line(self.lines.as_mut_slice(), token);
             self.open = self.open.saturating_sub(1);
             self.tally.count(settled);
         }
@@ -229,13 +245,17 @@ impl<'a> Server<'a> {
         alloc: Global,
         now: u64,
         output: &mut Output<W>,
-    ) -> Result<(), Status> {
+    ) -> Result<(), Status>
+        ensures { Serves self.old self.new output.old output.new result }
+    {
         self.hub.tick(now);
         for token in 0..self.lines.len() {
             if self.is_done() {
                 break;
             }
-            self.settle(alloc, token, output)?;
+            if let Err(status) = self.settle(alloc, token, output) {
+                return Err(status);
+            }
         }
         Ok(())
     }
@@ -248,7 +268,9 @@ impl<'a> Server<'a> {
         now: u64,
         buffer: &mut [u8],
         output: &mut Output<W>,
-    ) -> Result<(), Status> {
+    ) -> Result<(), Status>
+        ensures { Serves self.old self.new output.old output.new result }
+    {
         for event in events {
             match event.token() {
                 LISTENER => self.may_accept = true,
@@ -257,25 +279,42 @@ impl<'a> Server<'a> {
                     if self.is_done() {
                         break;
                     }
-                    self.settle(alloc, token, output)?;
+                    if let Err(status) = self.settle(alloc, token, output) {
+                        return Err(status);
+                    }
                 }
             }
         }
         Ok(())
     }
 
-    /// How the command ends: well where enough answered, whoever else came.
-    fn status(&self) -> Status {
-        let answers = u64::from(self.asked.answers);
-        if answers > 0 && self.tally.answered >= answers {
-            Status::Done
-        } else if self.tally.has_starved {
-            Status::NoMemory
-        } else if self.tally.has_failed {
-            Status::Failed
-        } else {
-            Status::Done
+    /// Does what events ask for; looks at the time where it is to; and accepts who waits.
+    fn turn<W: TakesBytes>(
+        &mut self,
+        alloc: Global,
+        events: &Events<Global>,
+        now: u64,
+        looks: bool,
+        buffer: &mut [u8],
+        output: &mut Output<W>,
+    ) -> Result<(), Status>
+        ensures { Serves self.old self.new output.old output.new result }
+    {
+        if let Err(status) = self.take_events(alloc, events, now, buffer, output) {
+            return Err(status);
         }
+        self.accept_all(alloc, now);
+        if looks {
+            return self.sweep(alloc, now, output);
+        }
+        Ok(())
+    }
+
+    /// How the command ends.
+    fn status(&self) -> Status
+        ensures { EndsSo self.now result }
+    {
+        self.tally.status(self.asked, self.has_refused)
     }
 }
 
@@ -285,36 +324,59 @@ fn time<R: Clock>(rt: &R, begun: Instant) -> io::Result<u64> {
     Ok(u64::try_from(now.saturating_duration_since(begun).as_millis()).unwrap_or(u64::MAX))
 }
 
-/// Serves until all terminals came and went, or enough answered. An error is one of the wait itself.
+/// Waits for the next events, and tells the time.
+fn wait<R: Clock>(
+    rt: &R,
+    server: &mut Server<'_>,
+    events: &mut Events<Global>,
+    begun: Instant,
+) -> io::Result<u64>
+    ensures { server.new ≡ server.old }
+{
+    server
+        .poll
+        .poll(events, Some(Duration::from_millis(SWEEP)))?;
+    time(rt, begun)
+}
+
+/// Serves until all terminals came and went, or enough answered, and gives the status: well where enough answered, whoever else
+/// came; else whether memory was refused to a terminal, or one failed. What is written is the lines of terminals, whole; where a
+/// write of them fails, or memory for them is refused, that is the status, and a part of one terminal's may stand at the end.
+///
+/// # Errors
+///
+/// One of the wait itself, or of the clock.
 pub fn serve_all<R: Clock, W: TakesBytes>(
     rt: &R,
     alloc: Global,
     server: &mut Server<'_>,
     output: &mut Output<W>,
-) -> io::Result<Status> {
-    let mut events = Events::with_capacity(alloc, MOST_EVENTS)?;
+) -> io::Result<Status>
+    ensures { ServesAll server.old output.old output.new result }
+{
+    let Ok(mut events) = Events::with_capacity(alloc, MOST_EVENTS) else {
+        return Err(io::Error::from(io::ErrorKind::OutOfMemory));
+    };
     let mut buffer = [0; MOST_READ];
-    let begun = Instant::now(rt)?;
+    let begun = match Instant::now(rt) {
+        Ok(begun) => begun,
+        Err(error) => return Err(error),
+    };
     let mut swept = 0;
-    for _ in 0..u64::MAX {
+    'turns: for _ in 0..u64::MAX {
         if server.is_done() {
             break;
         }
-        server
-            .poll
-            .poll(&mut events, Some(Duration::from_millis(SWEEP)))?;
-        let now = time(rt, begun)?;
-        if let Err(status) = server.take_events(alloc, &events, now, &mut buffer, output) {
-            return Ok(status);
-        }
-        if now.saturating_sub(swept) >= SWEEP {
+        let now = match wait(rt, server, &mut events, begun) {
+            Ok(now) => now,
+            Err(error) => return Err(error),
+        };
+        let looks = now.saturating_sub(swept) >= SWEEP;
+        if looks {
             swept = now;
-            if let Err(status) = server.sweep(alloc, now, output) {
-                return Ok(status);
-            }
         }
-        if server.may_accept {
-            server.accept_all(alloc, now);
+        if let Err(status) = server.turn(alloc, &events, now, looks, &mut buffer, output) {
+            return Ok(status);
         }
     }
     Ok(server.status())

@@ -43,6 +43,7 @@ mod of_script_screens;
 mod of_session_hub;
 mod of_tap_server;
 mod of_tn_cores;
+mod of_tn_dialogue;
 mod of_tn_relay;
 mod of_tn_session;
 mod of_tn_traces;

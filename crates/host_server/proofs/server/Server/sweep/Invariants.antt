@@ -1,0 +1,5 @@
+use Rattle.host_server.specs.Serving.{Settled}
+use Rattle.host_server.proofs.server.Server.sweep.Given as goal
+
+abbrev pub invariant-loop-token : goal.invariant-loop-token
+invariant-loop-token g l = Settled l.fn.self l.self l.fn.output l.output
