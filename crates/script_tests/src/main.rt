@@ -5,12 +5,14 @@
 //!
 //! `screen 2x10 3x10` gives the sizes, `after RECORD; RECORD` the records of the screens that the lines below begin with, each on a new one,
 //! and `pressed KEY, KEY` keys after them. `turns RECORD;RECORD|RECORD` are the records that made a screen, with `|` where the operator
-//! sent, and after `not-kept` there are too many; `layout TEXT` is the layout that `check` takes, and `report json` the form of reports. Every other line is a verb and its
+//! sent, and after `not-kept` there are too many; `layout TEXT` is the layout that `check` takes, and `report json` the form of reports. `lu-name` takes
+//! bytes of a host. Every other line is a verb and its
 //! words, arguments parted by `|`. In texts `\n` is a line's end. Lines of `#` say what comes.
 #![tactic(auto)]
 
 mod checks;
 mod keys;
+mod lu_names;
 mod readings;
 mod setup;
 mod texts;
@@ -33,7 +35,8 @@ fn push_row(row: &mut Row, setup: &mut Setup, verb: &str, words: &str) {
     row.word(" > ");
     let is_verb = readings::push_answer(row, setup, verb, words)
         || checks::push_answer(row, setup, verb, words)
-        || keys::push_answer(row, setup, verb, words);
+        || keys::push_answer(row, setup, verb, words)
+        || lu_names::push_answer(row, verb, words);
     row.word_if(!is_verb, "no such verb");
 }
 
