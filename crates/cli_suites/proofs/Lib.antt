@@ -6,3 +6,4 @@ mod Plain
 mod Known
 mod Ruled
 mod PathLaws
+mod NameLaws

@@ -5,6 +5,7 @@ pub mod Values
 pub mod Tables
 pub mod Manifest
 pub mod Count
+pub mod LastLayout
 pub mod Answers
 pub mod Settled
 pub mod Text

@@ -1,6 +1,7 @@
 -- The manifest that a text says, or its first refusal.
-use Rattle.std.specs.Prelude.{ℕ, ◌+◌, Bool, true, false, not, ◌&&◌, ◌||◌, nat_eq, bytes_eq, codes, List, [], ◌∷◌, ◌++◌, ok_or, Result, Ok, Err, if◌then◌else◌}
+use Rattle.std.specs.Prelude.{String, ◌≡◌, ℕ, ◌+◌, Bool, true, false, not, ◌&&◌, ◌||◌, nat_eq, bytes_eq, codes, List, [], ◌∷◌, ◌++◌, ok_or, Result, Ok, Err, if◌then◌else◌}
 use Rattle.std.specs.List.{list_any, starts_with}
+use Rattle.std.specs.BTreeSet.{BTreeSet, contains_text}
 use Rattle.std.specs.Str.{is_utf8}
 use Rattle.toml.specs.Data.{Members}
 use Rattle.toml.specs.Parse.{parse_document}
@@ -34,6 +35,10 @@ manifest_seen manifest = record { jobs = manifest.jobs.items; accepted = manifes
 
 abbrev pub has_name : List ℕ → List Asked → Bool
 has_name name jobs = list_any (λ job. bytes_eq job.name name) jobs
+
+-- the set is that of their names
+abbrev pub AreNames : {Y : Type 0} → List Asked → BTreeSet (String Y) → Type 0
+AreNames jobs names = (name : List ℕ) → contains_text names name ≡ has_name name jobs
 
 -- one more, of a name that none before it has
 unfoldable pub with_job : JobTable → List Asked → Members → Result (List Asked) ManifestFault

@@ -9,8 +9,9 @@ ghost use Rattle.cli_suites.specs.Answers.{Reads, alone, answer_in, answer_of, a
 
 use crate::files::Files;
 use crate::job::{Job, Kind};
+use crate::last_layout::{LastLayout, check_remembering};
 use bms_map::Control;
-use cli_commands::{Answer, CommandError, Demos, Fault, Status, check_texts, lent, talk_texts};
+use cli_commands::{Answer, CommandError, Fault, Status, lent, talk_texts};
 use cli_findings::Pen;
 use cli_maps::{Asked, Report, check_map_text};
 use cli_reports::{TalkForm, explained_texts, talk_report_texts};
@@ -59,13 +60,18 @@ pub(crate) struct Inputs {
 }
 
 /// What `check` prints against the first of layouts.
-fn check_first(alloc: Global, layouts: &[&[u8]], records: &[u8]) -> Result<Answer, CommandError>
+fn check_first(
+    alloc: Global,
+    last: &mut Option<LastLayout>,
+    layouts: &[&[u8]],
+    records: &[u8],
+) -> Result<Answer, CommandError>
     ensures { Gives answer_seen result
         (check_first (map (λ text. text.now) layouts.now) records.now) }
 {
     match layouts {
         [] => talk_texts(alloc, layouts, records),
-        [layout, ..] => check_texts(alloc, layout, records, Demos::Omitted),
+        [layout, ..] => check_remembering(alloc, last, layout, records),
     }
 }
 
@@ -98,6 +104,7 @@ fn check_maps(alloc: Global, source: &[u8]) -> Result<Answer, CommandError>
 /// What the command of a kind prints of the texts of layouts and of records.
 fn answer_in(
     alloc: Global,
+    last: &mut Option<LastLayout>,
     detail: Detail,
     kind: Kind,
     layouts: &[&[u8]],
@@ -107,7 +114,7 @@ fn answer_in(
         (answer_in detail kind (map (λ text. text.now) layouts.now) records.now) }
 {
     match (kind, detail) {
-        (Kind::Screen, Detail::Omitted) => check_first(alloc, layouts, records),
+        (Kind::Screen, Detail::Omitted) => check_first(alloc, last, layouts, records),
         (Kind::Screen, Detail::Explained) => explain_first(alloc, layouts, records),
         (Kind::Dialogue, Detail::Omitted) => talk_texts(alloc, layouts, records),
         (Kind::Dialogue, Detail::Explained) => {
@@ -204,6 +211,7 @@ fn told(
 /// What is told of the files of a job.
 pub(crate) fn answer_of(
     alloc: Global,
+    last: &mut Option<LastLayout>,
     detail: Detail,
     job: &Job,
     inputs: &Inputs,
@@ -214,6 +222,7 @@ pub(crate) fn answer_of(
     let layouts = lent(alloc, inputs.layouts.as_slice())?;
     let answer = answer_in(
         alloc,
+        last,
         detail,
         job.kind,
         layouts.as_slice(),

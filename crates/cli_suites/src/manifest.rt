@@ -9,6 +9,7 @@ ghost use Rattle.cli_suites.specs.Manifest.{accepted_from, accepted_with, accept
 
 use crate::fault::{ManifestError, ManifestFault, ManifestKey, Why};
 use crate::job::{Accepted, Job, Kind};
+use crate::named_jobs::NamedJobs;
 use crate::tables::{JobTable, accepted_of, job_of, tables_at};
 use crate::values::with_only;
 use std::alloc::Global;
@@ -40,19 +41,17 @@ pub(crate) fn has_name(name: &str, jobs: &[Job]) -> bool
 fn with_job(
     alloc: Global,
     kind: JobTable,
-    before: Vec<Job>,
+    before: NamedJobs,
     table: &Table,
-) -> Result<Vec<Job>, ManifestError>
-    ensures { Gives (λ jobs. jobs.items) result
-        (with_job kind before.items (table_view table.now)) }
+) -> Result<NamedJobs, ManifestError>
+    ensures { Gives (λ jobs. jobs) result
+        (with_job kind before (table_view table.now)) }
 {
     let job = job_of(alloc, kind, table)?;
-    if has_name(job.name.as_str(), before.as_slice()) {
+    if before.has(job.name.as_str()) {
         return Err(ManifestError::Refused(ManifestFault::at_key(ManifestKey::Name, Why::Twice)));
     }
-    let mut jobs = before;
-    jobs.push(job)?;
-    Ok(jobs)
+    Ok(before.and(alloc, job)?)
 }
 
 /// The same, where a fault is one of the table of this number.
@@ -60,11 +59,11 @@ fn with_table(
     alloc: Global,
     kind: JobTable,
     index: usize,
-    before: Vec<Job>,
+    before: NamedJobs,
     table: &Table,
-) -> Result<Vec<Job>, ManifestError>
-    ensures { Gives (λ jobs. jobs.items) result (in_table (key_of kind) index
-        (with_job kind before.items (table_view table.now))) }
+) -> Result<NamedJobs, ManifestError>
+    ensures { Gives (λ jobs. jobs) result (in_table (key_of kind) index
+        (with_job kind before (table_view table.now))) }
 {
     match with_job(alloc, kind, before, table) {
         Ok(jobs) => Ok(jobs),
@@ -79,11 +78,11 @@ fn with_table(
 fn jobs_from(
     alloc: Global,
     kind: JobTable,
-    before: Vec<Job>,
+    before: NamedJobs,
     values: &[Value],
-) -> Result<Vec<Job>, ManifestError>
-    ensures { Gives (λ jobs. jobs.items) result
-        (jobs_from kind 0 before.items (tables_in (items_view values.now))) }
+) -> Result<NamedJobs, ManifestError>
+    ensures { Gives (λ jobs. jobs) result
+        (jobs_from kind 0 before (tables_in (items_view values.now))) }
 {
     let mut jobs = before;
     let mut index = 0usize;
@@ -101,11 +100,11 @@ fn jobs_from(
 fn jobs_at(
     alloc: Global,
     kind: JobTable,
-    before: Vec<Job>,
+    before: NamedJobs,
     top: &Table,
-) -> Result<Vec<Job>, ManifestError>
-    ensures { Gives (λ jobs. jobs.items) result
-        (jobs_at kind before.items (table_view top.now)) }
+) -> Result<NamedJobs, ManifestError>
+    ensures { Gives (λ jobs. jobs) result
+        (jobs_at kind before (table_view top.now)) }
 {
     let values = tables_at(kind.key(), top)?;
     jobs_from(alloc, kind, before, values)
@@ -257,9 +256,9 @@ fn declaration_of(alloc: Global, table: &Table) -> Result<Manifest, ManifestErro
     ensures { Gives manifest_seen result (declaration_of (table_view table.now)) }
 {
     let top = with_only(&TOP_KEYS, table)?;
-    let screens = jobs_at(alloc, JobTable::Screen, Vec::new(alloc), top)?;
+    let screens = jobs_at(alloc, JobTable::Screen, NamedJobs::new(alloc), top)?;
     let dialogues = jobs_at(alloc, JobTable::Dialogue, screens, top)?;
-    let jobs = jobs_at(alloc, JobTable::Map, dialogues, top)?;
+    let jobs = jobs_at(alloc, JobTable::Map, dialogues, top)?.into_jobs();
     let accepted = accepted_at(alloc, jobs.as_slice(), top)?;
     Ok(Manifest { jobs, accepted })
 }

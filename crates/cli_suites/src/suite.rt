@@ -12,6 +12,7 @@ use crate::folder::jobs_of_paths;
 use crate::job::{Accepted, Job};
 use crate::json::push_json_refusal;
 use crate::junit::push_junit_refusal;
+use crate::last_layout::LastLayout;
 use crate::manifest::{Manifest, has_name, manifest_in};
 use crate::report::{Form, Report, add, log_text, no_report, printed_report};
 use crate::settled::settle;
@@ -34,6 +35,7 @@ fn is_asked(only: Option<&str>, job: &Job) -> bool
 fn add_job<F: Files>(
     alloc: Global,
     files: &F,
+    last: &mut Option<LastLayout>,
     form: Form,
     accepted: &[Accepted],
     report: &mut Report,
@@ -42,7 +44,7 @@ fn add_job<F: Files>(
     ensures { IfSome (F.contents files.now) (λ held. OnOk result (report_seen report.new
         ≡ add_job form (F.base files.now) held accepted.now (report_seen report.old) job.now)) }
 {
-    let told = job_told(alloc, files, form, accepted, job)?;
+    let told = job_told(alloc, files, last, form, accepted, job)?;
     let name = job.name.as_str();
     let settled = settle(alloc, name, accepted, &told.answer)?;
     add(alloc, form, report, name, &settled, told.results)
@@ -52,6 +54,7 @@ fn add_job<F: Files>(
 fn after_job<F: Files>(
     alloc: Global,
     files: &F,
+    last: &mut Option<LastLayout>,
     form: Form,
     accepted: &[Accepted],
     only: Option<&str>,
@@ -63,7 +66,7 @@ fn after_job<F: Files>(
         (option_map (λ name. name.now) only.entry) (report_seen report.old) job.now)) }
 {
     if is_asked(only, job) {
-        add_job(alloc, files, form, accepted, report, job)
+        add_job(alloc, files, last, form, accepted, report, job)
     } else {
         Ok(())
     }
@@ -83,9 +86,19 @@ fn all_jobs<F: Files>(
         (option_map (λ name. name.now) only.entry) no_report jobs.now)) }
 {
     let mut report = no_report(alloc);
+    let mut last = None;
     for job in jobs {
         files.hear(report.totals.screens, jobs.len(), job.name.as_str());
-        after_job(alloc, files, form, accepted, only, &mut report, job)?;
+        after_job(
+            alloc,
+            files,
+            &mut last,
+            form,
+            accepted,
+            only,
+            &mut report,
+            job,
+        )?;
     }
     Ok(report)
 }

@@ -11,6 +11,7 @@ use crate::answers::{Detail, Inputs, ReadError, alone, answer_of, job_read, miss
 use crate::files::Files;
 use crate::found::{alone_results, answered_results, missing_results};
 use crate::job::{Accepted, Job, Kind};
+use crate::last_layout::LastLayout;
 use crate::report::Form;
 use cli_commands::{Answer, Status};
 use cli_findings::Results;
@@ -57,6 +58,7 @@ fn results_of(
 fn inputs_told<F: Files>(
     alloc: Global,
     files: &F,
+    last: &mut Option<LastLayout>,
     form: Form,
     accepted: &[Accepted],
     job: &Job,
@@ -65,7 +67,7 @@ fn inputs_told<F: Files>(
     ensures { IfOk result (λ told. told_seen told ≡ inputs_told form (F.base files.now)
         accepted.now job.now (inputs_seen inputs.now)) }
 {
-    let answer = answer_of(alloc, detail_of(form), job, inputs)?;
+    let answer = answer_of(alloc, last, detail_of(form), job, inputs)?;
     if matches!(answer.status, Status::BadInput) {
         files.refuse(
             alloc,
@@ -107,6 +109,7 @@ fn alone_told(alloc: Global, form: Form, base: &str, job: &Job) -> Result<Told, 
 fn read_told<F: Files>(
     alloc: Global,
     files: &F,
+    last: &mut Option<LastLayout>,
     form: Form,
     accepted: &[Accepted],
     job: &Job,
@@ -115,7 +118,7 @@ fn read_told<F: Files>(
         ≡ read_told form (F.base files.now) held accepted.now job.now)) }
 {
     match job_read(alloc, files, job) {
-        Ok(inputs) => inputs_told(alloc, files, form, accepted, job, &inputs),
+        Ok(inputs) => inputs_told(alloc, files, last, form, accepted, job, &inputs),
         Err(ReadError::Missing(path)) => {
             missing_told(alloc, form, files.folder(), path.as_str())
         }
@@ -127,6 +130,7 @@ fn read_told<F: Files>(
 pub(crate) fn job_told<F: Files>(
     alloc: Global,
     files: &F,
+    last: &mut Option<LastLayout>,
     form: Form,
     accepted: &[Accepted],
     job: &Job,
@@ -137,7 +141,7 @@ pub(crate) fn job_told<F: Files>(
     match job.kind {
         Kind::Alone => alone_told(alloc, form, files.folder(), job),
         Kind::Screen | Kind::Dialogue | Kind::Map => {
-            read_told(alloc, files, form, accepted, job)
+            read_told(alloc, files, last, form, accepted, job)
         }
     }
 }

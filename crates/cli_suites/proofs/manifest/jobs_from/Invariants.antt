@@ -7,6 +7,6 @@ use Rattle.cli_suites.proofs.manifest.jobs_from.Given as goal
 -- the jobs so far, with those of the values that are left, are those of all
 abbrev pub invariant-loop-value : goal.invariant-loop-value
 invariant-loop-value l = record {
-  jobs : jobs_from l.kind l.index l.jobs.items (tables_in (items_view (drop l.value-index l.values))) ≡ jobs_from l.fn.kind 0 l.fn.before.items (tables_in (items_view l.fn.values));
+  jobs : jobs_from l.kind l.index l.jobs (tables_in (items_view (drop l.value-index l.values))) ≡ jobs_from l.fn.kind 0 l.fn.before (tables_in (items_view l.fn.values));
   counted : l.index ≤ l.value-index;
 }
