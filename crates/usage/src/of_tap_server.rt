@@ -7,13 +7,13 @@ use std::net::{Net, SocketAddr};
 use tap_server::{Outside, Taps, run_taps};
 
 /// Taps one terminal of a host.
-fn tap_one<R: Net, W: Write, E: Write>(
-    rt: &R,
+fn tap_one<'a, R: Net, W: Write, E: Write>(
+    rt: &'a R,
     alloc: Global,
     listen: SocketAddr,
     host: SocketAddr,
-    output: &mut W,
-    errors: &mut E,
+    output: &'a mut W,
+    errors: &'a mut E,
 ) -> io::Result<()> {
     let mut taps = Taps::at(rt, alloc, listen, host)?;
     let mut outside = Outside {
