@@ -1,5 +1,5 @@
 -- The sentence of a line of a terminal's buffer that is refused.
-use Rattle.std.specs.Prelude.{ℕ, List, ◌++◌, codes, decimal, min, Option, option_map}
+use Rattle.std.specs.Prelude.{ℕ, List, ◌++◌, codes, decimal, Option, option_map}
 use Rattle.buffer_lines.specs.declared.flaw.Flaw.{Flaw}
 use Rattle.buffer_lines.specs.declared.flaw.Flaw.TheVariants.{NoCell, OtherCells, TooManyRows, OtherSize, NoTerminal, CursorOutside}
 use Rattle.cli_buffers.specs.declared.reason.BufferFlaw.{BufferFlaw}

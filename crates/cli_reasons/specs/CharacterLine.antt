@@ -1,5 +1,5 @@
 -- Why a line with characters is refused: the runs of a text, or a string of strokes.
-use Rattle.std.specs.Prelude.{ℕ, ◌+◌, min, not, nat_eq, nat_lt, Bool, List, codes, drop, length, position, slice_index, is_some, Option, Some, None, if◌then◌else◌}
+use Rattle.std.specs.Prelude.{ℕ, ◌+◌, not, nat_eq, nat_lt, Bool, List, codes, drop, length, position, slice_index, is_some, Option, Some, None, if◌then◌else◌}
 use Rattle.std.specs.List.{starts_with}
 use Rattle.std.specs.Option.{option_map_or}
 use Rattle.cli_characters.specs.declared.operand.Stop.{Stop}

@@ -1,5 +1,5 @@
 -- What a line does, as the commands take it.
-use Rattle.std.specs.Prelude.{ℕ, ◌%◌, ◌==◌, ◌&&◌, not, Bool, List, length, is_none, codes, slice_index, nat_eq, ◌+◌, ◌||◌, Option, Some, None, if◌then◌else◌}
+use Rattle.std.specs.Prelude.{ℕ, ◌%◌, ◌/◌, nat_le, ◌==◌, ◌&&◌, not, Bool, List, length, is_none, codes, slice_index, nat_eq, ◌+◌, ◌||◌, Option, Some, None, if◌then◌else◌}
 use Rattle.std.specs.List.{starts_with}
 use Rattle.cli_commands.specs.declared.input.sizes.SizeLine.{SizeLine}
 use Rattle.cli_commands.specs.declared.input.sizes.SizeLine.TheVariants as line
@@ -24,6 +24,10 @@ is_plain line = not (length line == 0) && (length line % 2 == 0 && digit_count l
 -- digits, an even number of them, and spaces
 abbrev pub is_spaced : List ℕ → Bool
 is_spaced line = is_none (first_other line) && digit_count line % 2 == 0
+
+-- how many bytes a line of digits and spaces spells, where it spells any
+abbrev pub spaced_bytes : List ℕ → Option ℕ
+spaced_bytes line = if is_spaced line && nat_le 2 (digit_count line) then Some (digit_count line / 2) else None
 
 -- a line of a trace that has bytes of a side
 abbrev pub is_session : List ℕ → Bool

@@ -1,5 +1,5 @@
 -- The sentence of a record that is refused, or cannot be written.
-use Rattle.std.specs.Prelude.{ℕ, ◌+◌, ◌-◌, ◌^◌, min, false, List, ◌++◌, codes, Option, Some, None}
+use Rattle.std.specs.Prelude.{ℕ, ◌+◌, ◌-◌, ◌^◌, min, false, List, ◌++◌, codes, Option, None}
 use Rattle.std.specs.Option.{option_map}
 use Rattle.ds_codec.specs.declared.refused.Why.{Why}
 use Rattle.ds_codec.specs.declared.refused.Why.TheVariants.{Empty, UnknownCommand, StructuredField, NoWcc, UnknownOrder, Truncated, ReservedAddress, BadType, BadCharacter, Trailing}

@@ -1,16 +1,37 @@
 //! The digits of a line.
 
-ghost use Rattle.std.specs.Prelude.{◌≡◌, ◌<◌, ◌≤◌, IfSome, count_by, length, position};
+ghost use Rattle.std.specs.Prelude.{◌≡◌, ◌==◌, ◌<◌, ◌≤◌, IfSome, count_by, length, position};
 ghost use Rattle.hex.specs.Hex.{is_hex_digit};
 ghost use Rattle.cli_reasons.specs.Digits.{is_other, first_no_digit, first_other, digit_count};
 
-use ds_codec::byte_of_digits;
+/// How far a byte is from the hexadecimal digits, of either case: 0 at a digit alone. It has no branch, so that many bytes are
+/// looked at together.
+#[inline(always)]
+fn excess(byte: u8) -> u8
+    ensures { (result == 0) ≡ is_hex_digit byte }
+{
+    let number = byte.wrapping_sub(b'0').saturating_sub(9);
+    let upper = byte.wrapping_sub(b'A').saturating_sub(5);
+    let lower = byte.wrapping_sub(b'a').saturating_sub(5);
+    number.min(upper).min(lower)
+}
 
 /// Whether a byte is a hexadecimal digit, of either case.
 pub(crate) fn is_digit(byte: u8) -> bool
     ensures { result ≡ is_hex_digit byte }
 {
-    byte_of_digits(byte, b'0').is_some()
+    excess(byte) == 0
+}
+
+/// Whether all bytes of a line are digits. It goes on after one that is none, so that many bytes are looked at together.
+pub(crate) fn are_digits(line: &[u8]) -> bool
+    ensures { result ≡ (digit_count line.now == length line.now) }
+{
+    let mut others: u8 = 0;
+    'bytes: for i in 0..line.len() {
+        others = others.max(excess(line[i]));
+    }
+    others == 0
 }
 
 /// Whether a byte may not stand in a line of digits: it is neither a digit nor a space.

@@ -1,16 +1,17 @@
 //! What a line does, as the commands take it.
 
 ghost use Rattle.std.specs.Prelude.{◌≡◌, ◌≤◌, ◌<◌, ◌+◌, ◌^◌, length};
-ghost use Rattle.cli_reasons.specs.Judged.{size_line, is_plain, is_session, is_spaced, judged_digits, stream_flaw};
+ghost use Rattle.cli_reasons.specs.Judged.{size_line, is_plain, is_session, is_spaced, judged_digits, spaced_bytes, stream_flaw};
 
 use crate::character_line::character_flaw;
-use crate::digits::{digit_count, first_other};
+use crate::digits::{are_digits, digit_count, first_other};
 use crate::flaw::{Flaw, Limit, Why};
 use crate::key_line::{Names, key_flaw};
 use crate::order_line::order_flaw;
 use crate::record_line::{SizesBy, record_flaw};
 use cli_characters::{plain_line, string_of};
 use cli_commands::{CommandError, Fault, Records, SizeLine, keys_in, records_in, strokes_in};
+use ds_keys::key_of_line;
 use order_lines::{Told, read_line};
 use std::alloc::{AllocError, Global};
 
@@ -54,14 +55,31 @@ fn size_line(sizes: SizesBy) -> SizeLine
 fn is_plain(line: &[u8]) -> bool
     ensures { result ≡ is_plain line.now }
 {
-    !line.is_empty() && line.len() % 2 == 0 && digit_count(line) == line.len()
+    !line.is_empty() && line.len() % 2 == 0 && are_digits(line)
 }
 
 /// Whether a line is digits, an even number of them, and spaces.
+#[tactic(auto, using(crate::proofs::Spaced::none_other))]
 pub(crate) fn is_spaced(line: &[u8]) -> bool
     ensures { result ≡ is_spaced line.now }
 {
+    if are_digits(line) {
+        return line.len() % 2 == 0;
+    }
     first_other(line).is_none() && digit_count(line) % 2 == 0
+}
+
+/// How many bytes a line of digits and spaces spells, where it spells any.
+fn spaced_bytes(line: &[u8]) -> Option<usize>
+    ensures { result ≡ spaced_bytes line.now }
+{
+    if !is_spaced(line) {
+        return None;
+    }
+    match digit_count(line) / 2 {
+        0 => None,
+        bytes => Some(bytes),
+    }
 }
 
 /// What the records that a line alone tells show of it.
@@ -81,6 +99,9 @@ pub(crate) fn judged_record(
 ) -> Result<Judged, CommandError> {
     if is_plain(line) {
         return Ok(Judged::Record(line.len() / 2));
+    }
+    if let Some(bytes) = spaced_bytes(line) {
+        return Ok(Judged::Record(bytes));
     }
     match records_in(alloc, line, size_line(sizes)) {
         Ok(told) => Ok(judged_by(&told, sizes)),
@@ -105,6 +126,14 @@ pub(crate) fn judged_turn(
     judged_record(alloc, sizes, line)
 }
 
+/// Whether a line names a key, which is a stroke too.
+fn is_key(line: &[u8]) -> bool {
+    match str::from_utf8(line) {
+        Ok(word) => key_of_line(word).is_some(),
+        Err(_) => false,
+    }
+}
+
 /// How many keys or strokes a line alone names.
 fn names_in(alloc: Global, names: Names, line: &[u8]) -> Result<usize, CommandError> {
     match names {
@@ -119,6 +148,9 @@ pub(crate) fn judged_name(
     names: Names,
     line: &[u8],
 ) -> Result<Judged, CommandError> {
+    if is_key(line) {
+        return Ok(Judged::Key);
+    }
     if names == Names::Strokes {
         if let Some(text) = string_of(alloc, line)? {
             return Ok(Judged::Characters(text.len()));
@@ -208,13 +240,23 @@ fn judged_digits(before: usize, digits: &[u8]) -> Judged
     }
 }
 
+/// How many spaces stand at the front.
+fn leading_spaces(bytes: &[u8]) -> usize
+    ensures { result ≤ length bytes.now }
+{
+    match bytes.iter().position(|byte| *byte != b' ') {
+        Some(place) => place,
+        None => bytes.len(),
+    }
+}
+
 /// How many bytes stand before the digits of a line of a trace: a side, an offset and spaces.
 fn offset_len(line: &[u8]) -> usize
     requires { 4 ≤ length line.now }
     ensures { result ≤ length line.now }
 {
     match line[4..].iter().position(|byte| *byte == b' ') {
-        Some(place) => 4 + place,
+        Some(place) => 4 + place + leading_spaces(&line[4 + place..]),
         None => line.len(),
     }
 }

@@ -7,6 +7,7 @@ mod commands;
 mod drafts;
 mod file;
 mod help;
+mod last_files;
 mod manners;
 mod many;
 mod prompt;

@@ -1,16 +1,22 @@
 //! `suite`: the files of a manifest, or those of a folder.
 
 use crate::commands::output;
-use crate::file::FileAt;
-use crate::stream::Named;
+use crate::last_files::LastFiles;
 use crate::walk::paths_below;
-use cli_commands::{Answer, CommandError, Status, Watched, failure, finish, read_text};
+use cli_commands::{Answer, CommandError, Status, failure, finish};
 use cli_reasons::{Ear, Lines};
 use cli_suites::{Files, Form, Job, Kind, suite_folder, suite_text};
 use std::alloc::{AllocError, Global};
+use std::cell::RefCell;
 use std::fs::metadata;
-use std::io;
-use std::io::IsTerminal;
+use std::io::{IsTerminal, Read};
+use std::{fs, io};
+
+/// The bytes of an input, and one more, by which a longer one shows that it is too long.
+const MOST_BYTES: u64 = 16_777_217;
+
+/// Room for a screen's records or a layout, so that most files are read at once.
+const ROOM: usize = 16_384;
 
 /// Files of the disk, by paths from a folder.
 #[derive(Drop)]
@@ -22,21 +28,25 @@ struct Disk<'a> {
     base: &'a str,
     /// Whether it is shown how far the suite has come.
     is_shown: bool,
+    last: RefCell<LastFiles>,
+}
+
+/// What a file holds, up to one byte more than an input can have.
+fn text_at(rt: &HostRuntime, path: &str) -> io::Result<Vec<u8>> {
+    let mut text = Vec::with_capacity(rt.alloc(), ROOM)?;
+    fs::open(rt, path)?.take(MOST_BYTES).read_to_end(&mut text)?;
+    Ok(text)
 }
 
 /// The bytes of a file of the disk, up to one more than an input can have. That it can't be read is said.
 fn read_file(rt: &HostRuntime, path: &str) -> Result<Vec<u8>, CommandError> {
-    let stream = FileAt {
-        rt,
-        path,
-        file: None,
-    };
-    let mut file = Watched::new(Named {
-        rt,
-        name: path,
-        stream,
-    });
-    read_text(rt.alloc(), &mut file)
+    match text_at(rt, path) {
+        Ok(text) => Ok(text),
+        Err(error) => {
+            let _ = eprintln!(rt; "term3270: {path}: {error}");
+            Err(CommandError::from(error))
+        }
+    }
 }
 
 impl Files for Disk<'_> {
@@ -64,10 +74,17 @@ impl Files for Disk<'_> {
     }
 
     fn read(&self, alloc: Global, path: &str) -> Result<Option<Vec<u8>>, AllocError> {
+        let found = self.find(alloc, path)?;
+        if found.is_some() {
+            return Ok(found);
+        }
         let whole = self.whole(alloc, path)?;
         self.clear();
         match read_file(self.rt, whole.as_str()) {
-            Ok(bytes) => Ok(Some(bytes)),
+            Ok(bytes) => {
+                self.keep(alloc, path, bytes.as_slice())?;
+                Ok(Some(bytes))
+            }
             Err(CommandError::OutOfMemory) => Err(AllocError),
             Err(CommandError::ReadFailed | CommandError::Fault(_)) => Ok(None),
         }
@@ -98,6 +115,22 @@ fn heard(alloc: Global, lines: Lines, name: &str, text: &[u8]) -> Option<String>
 }
 
 impl Disk<'_> {
+    /// The bytes of a file that was read just before.
+    fn find(&self, alloc: Global, path: &str) -> Result<Option<Vec<u8>>, AllocError> {
+        match self.last.try_borrow_mut() {
+            Ok(mut last) => last.find(alloc, path),
+            Err(_) => Ok(None),
+        }
+    }
+
+    /// Keeps the bytes of a file for the jobs that come.
+    fn keep(&self, alloc: Global, path: &str, bytes: &[u8]) -> Result<(), AllocError> {
+        match self.last.try_borrow_mut() {
+            Ok(mut last) => last.keep(alloc, path, bytes),
+            Err(_) => Ok(()),
+        }
+    }
+
     /// The path of a file from where the program was started.
     fn whole(&self, alloc: Global, path: &str) -> Result<String, AllocError> {
         let base = self.base;
@@ -170,6 +203,7 @@ fn folder_answer(
         start: path,
         base: "",
         is_shown: rt.stderr().is_terminal(),
+        last: RefCell::new(LastFiles::new(rt.alloc())),
     };
     let answer = suite_folder(rt.alloc(), &disk, form, only, paths.as_slice())?;
     disk.clear();
@@ -189,6 +223,7 @@ fn manifest_answer(
         start: path,
         base: folder_of(path),
         is_shown: rt.stderr().is_terminal(),
+        last: RefCell::new(LastFiles::new(rt.alloc())),
     };
     let answer = suite_text(rt.alloc(), &disk, form, only, manifest.as_slice())?;
     disk.clear();
