@@ -1,0 +1,8 @@
+mod Items
+mod Filled
+mod Cells
+mod Draws
+mod Parts
+mod Stays
+mod One
+mod Leaves
