@@ -108,8 +108,7 @@ impl<T: Line, H: Line> Tap<T, H> {
 
     /// One read of a side, one write to the other, and the end where it is due.
     fn pass(&mut self, alloc: Global, side: Side, scratch: &mut [u8], out: &mut Vec<u8>) -> Passed
-        requires { 0 < length scratch.old }
-        ensures passes { Passes (way_from side self.old.relayed) result
+        ensures passes { 0 < length scratch.old → Passes (way_from side self.old.relayed) result
             (way_from side self.new.relayed) }
         ensures other { way_to side self.new.relayed ≡ way_to side self.old.relayed }
         ensures room { length scratch.new ≡ length scratch.old }
@@ -124,8 +123,7 @@ impl<T: Line, H: Line> Tap<T, H> {
 
     /// Passes each way once.
     fn round(&mut self, alloc: Global, scratch: &mut [u8], out: &mut Vec<u8>) -> Turn
-        requires { 0 < length scratch.old }
-        ensures ends { EndsRound result self.new.relayed }
+        ensures ends { 0 < length scratch.old → EndsRound result self.new.relayed }
         ensures room { length scratch.new ≡ length scratch.old }
         ensures tells { (text : List ℕ) × (out.new.items ≡ out.old.items ++ text)
             × (self.new.told ≡ self.old.told ++ text) }
@@ -138,8 +136,7 @@ impl<T: Line, H: Line> Tap<T, H> {
     /// Passes bytes both ways until neither goes on, or others should have their turn; and adds what is told of them. It waits only where
     /// both lines were just asked and had nothing, and ends only where both ways are over.
     pub fn go_on(&mut self, alloc: Global, scratch: &mut [u8], out: &mut Vec<u8>) -> Turn
-        requires { 0 < length scratch.old }
-        ensures ends { EndsRound result self.new.relayed }
+        ensures ends { 0 < length scratch.old → EndsRound result self.new.relayed }
         ensures tells { (text : List ℕ) × (out.new.items ≡ out.old.items ++ text)
             × (self.new.told ≡ self.old.told ++ text) }
     {

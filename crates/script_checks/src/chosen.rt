@@ -89,7 +89,7 @@ fn better<'a>(best: Option<&'a Named>, one: &'a Named) -> &'a Named
 }
 
 /// The layout that a screen is taken for, if any matches: the one with the most entries; of several with as many the first by name.
-pub(crate) fn choose<'a>(screen: &Screen<PlaneCells>, all: &'a [Named]) -> Option<&'a Named>
+pub fn choose<'a>(screen: &Screen<PlaneCells>, all: &'a [Named]) -> Option<&'a Named>
     ensures { one_seen result ≡ chosen screen.now (map named_view all.now) }
 {
     let mut best: Option<&'a Named> = None;

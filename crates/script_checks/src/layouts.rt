@@ -10,9 +10,9 @@ use std::marker::Model;
 
 /// A layout, and the name of its file.
 #[derive(Debug, Drop)]
-pub(crate) struct Named {
-    pub(crate) name: Vec<u8>,
-    pub(crate) layout: Layout,
+pub struct Named {
+    pub name: Vec<u8>,
+    pub layout: Layout,
 }
 
 /// Layouts for a device, each with the name of its file.

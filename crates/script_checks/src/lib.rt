@@ -13,11 +13,13 @@ mod read;
 mod told;
 
 pub use check::push_check;
+pub use chosen::choose;
 pub use form::ReportFormat;
 pub use judge::Judge;
 pub use law::{chosen_law, lines_law, texts_law, yes_law};
-pub use layouts::Layouts;
+pub use layouts::{Layouts, Named};
 pub use read::{LayoutRefusal, LayoutText};
+pub use told::{Told, Verdict, kept_told};
 
 #[cfg(test)]
 mod tests {

@@ -21,7 +21,7 @@ use tn_session::KeptRecord;
 
 /// What is said of a screen.
 #[derive(Clone, Copy, Debug, PartialEq, Eq)]
-pub(crate) enum Verdict {
+pub enum Verdict {
     /// No layout matches.
     NoLayout,
     /// Its records aren't kept, as there were too many.
@@ -32,7 +32,7 @@ pub(crate) enum Verdict {
 
 /// What is told of a screen.
 #[derive(Drop)]
-pub(crate) struct Told {
+pub struct Told {
     /// The name of its layout's file; empty where there is none.
     pub name: Vec<u8>,
     pub verdict: Verdict,
@@ -133,8 +133,16 @@ fn stop_told(
     }
 }
 
-/// What is told of a screen that is taken for a layout.
-fn kept_told(alloc: Global, one: &Named, turns: Option<&[KeptRecord]>) -> Result<Told, AllocError>
+/// What is told of a screen that is taken for a layout, by the records that made it; none where there were too many.
+///
+/// # Errors
+///
+/// Where a request for memory was refused.
+pub fn kept_told(
+    alloc: Global,
+    one: &Named,
+    turns: Option<&[KeptRecord]>,
+) -> Result<Told, AllocError>
     ensures { IfOk result (λ told. told_seen told
         ≡ kept_told (named_view one.now) (turns_seen turns.entry)) }
 {
