@@ -112,13 +112,14 @@ origins=$(call origins signon.toml | sed -n '30p;31p;260p;$=' | tr '\n' ',')
 [ $left_out = 0 ] || echo "$left_out golden cases left out, which are about the command line or a missing file"
 
 # ---- terminals that a program holds
-build terminal tests/terminal.c || bad "a C program that holds terminals isn't built"
+build terminal tests/terminal.c && build terminal_refused tests/terminal_refused.c -fno-builtin || bad "a C program that holds terminals isn't built"
 each_terminal() { # PROGRAM ..: with these words before it
   if "$@" > "$work/stdout" 2> "$work/stderr"; then good; else bad "terminals: $*: $(tail -n 5 "$work/stderr")"; fi
 }
 each_terminal "$work/terminal" both 71 20000
 each_terminal "$work/terminal" threads
 each_terminal "$work/terminal" changed
+each_terminal "$work/terminal_refused"
 if has valgrind "terminals under valgrind"; then
   each_terminal valgrind -q --leak-check=full --error-exitcode=120 "$work/terminal" both 5 20
   each_terminal valgrind -q --leak-check=full --error-exitcode=120 "$work/terminal" changed
