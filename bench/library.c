@@ -1,5 +1,5 @@
-/* Times takvorn_show and takvorn_check: library LAYOUT RECORDS COUNT. It prints the least of seven runs of so many calls, in
- * microseconds a call, for each of the two. */
+/* Times takvorn_show and takvorn_check, and a key and a record of a full screen of 60 fields at a terminal that is held: library LAYOUT RECORDS
+ * COUNT. It prints the least of seven runs of so many calls, in microseconds a call, for each of the four. */
 #define _POSIX_C_SOURCE 200809L
 #include "takvorn.h"
 #include <stdio.h>
@@ -11,6 +11,26 @@ static size_t layout_length, records_length, needed;
 
 static int show(void) { return takvorn_show(records, records_length, out, sizeof out, &needed); }
 static int check(void) { return takvorn_check(layout, layout_length, records, records_length, false, out, sizeof out, &needed); }
+
+/* A terminal of 24x80 that shows that screen. */
+static uint8_t state[8192], full[2048], pressed;
+static size_t state_length, full_length;
+static takvorn_effect effect;
+
+static int key(void) { return takvorn_terminal_press(state, state_length, TAKVORN_TYPE, 0xC1, &pressed); }
+static int record(void) { return takvorn_terminal_apply(state, state_length, full, full_length, &effect); }
+
+static void hold(void) {
+  full[full_length++] = 0xF5;
+  full[full_length++] = 0xC3;
+  for (int field = 0; field < 60; field++) {
+    full[full_length++] = 0x1D;
+    full[full_length++] = field % 2 ? 0x40 : 0x60;
+    for (int at = 1; at < 32; at++) full[full_length++] = 0xC1;
+  }
+  state_length = takvorn_terminal_size(24, 80, 24, 80, false);
+  if (takvorn_terminal_new(24, 80, 24, 80, false, state, state_length) || record()) exit(1);
+}
 
 static size_t contents(const char *name, uint8_t *bytes, size_t room) {
   FILE *file = fopen(name, "rb");
@@ -39,6 +59,10 @@ int main(int count, char **words) {
   layout_length = contents(words[1], layout, sizeof layout);
   records_length = contents(words[2], records, sizeof records);
   long calls = atol(words[3]);
-  printf("%.1f %.1f\n", least(show, calls), least(check, calls));
+  hold();
+  double records_taken = least(record, calls);
+  if (takvorn_terminal_press(state, state_length, TAKVORN_TAB, 0, &pressed)) return 1;
+  double keys_taken = least(key, calls);
+  printf("%.1f %.1f %.1f %.1f\n", least(show, calls), least(check, calls), keys_taken, records_taken);
   return 0;
 }

@@ -141,6 +141,115 @@ int32_t takvorn_map(const uint8_t *source, size_t source_length, const uint8_t *
 int32_t takvorn_check_map(const uint8_t *source, size_t source_length, const uint8_t *name, size_t name_length, bool freekb,
                           bool frset, uint8_t *out, size_t out_length, size_t *needed);
 
+/*
+ * A terminal that a program holds. Its whole state is bytes of the caller's: a copy of them is a snapshot, two terminals that show and keep the
+ * same have equal bytes, and nothing has to be freed. takvorn_terminal_size tells how many bytes there are; takvorn_terminal_new makes them the
+ * state of a new terminal, and the other calls read them or make them the next state. They can be stored and sent: they begin with the version
+ * of their form, which is 1, and do not depend on the machine.
+ *
+ * Every call looks at all of the state first. Where the bytes are no state (changed, of another version, or of another length) it is
+ * TAKVORN_BAD_INPUT; where a request for memory was refused, TAKVORN_NO_MEMORY. Both leave the state and what the call tells as they were, but
+ * for `*needed`, which is then 0. `state` overlaps nothing else that is passed. Nothing stays allocated after a call. Positions count from 0 row
+ * by row.
+ */
+
+/* The keyboard. */
+enum { TAKVORN_FREE = 0, TAKVORN_WAITING = 1, TAKVORN_IN_ERROR = 2 };
+
+/* What a terminal keeps beside its cells: the size in use, the cursor's position, the keyboard, and the attention identifier of the last key
+ * that sent, 60 where there is none. */
+typedef struct takvorn_status {
+  uint16_t rows;
+  uint16_t columns;
+  uint32_t cursor;
+  uint8_t lock;
+  uint8_t aid;
+} takvorn_status;
+
+/* What becomes of a record. */
+enum {
+  TAKVORN_SHOWN = 0,
+  /* A read, which the other calls answer; the state is as it was. */
+  TAKVORN_READ_BUFFER = 1,
+  TAKVORN_READ_MODIFIED = 2,
+  TAKVORN_READ_MODIFIED_ALL = 3,
+  TAKVORN_NO_OPERATION = 4,
+  TAKVORN_REFUSED = 5
+};
+
+/* Of a record that is shown, whether it sounds the alarm and restores the keyboard; of one that is refused its number, as `letter` O and `number` 6,
+ * and its place, a byte of the record. What does not apply is false or 0. */
+typedef struct takvorn_effect {
+  uint8_t kind;
+  bool alarm;
+  bool restored;
+  uint8_t letter;
+  uint8_t number;
+  size_t at;
+} takvorn_effect;
+
+/* Keys. TAKVORN_TYPE types a code, 40 to FE; TAKVORN_ATTENTION is the key of an attention identifier: Enter 7D, PF1 to PF9 F1 to F9, PF10 to PF12 7A
+ * to 7C, PF13 to PF21 C1 to C9, PF22 to PF24 4A to 4C, PA1 6C, PA2 6E, PA3 6B, Clear 6D. The code of other keys has no effect. */
+enum {
+  TAKVORN_TYPE = 0,
+  TAKVORN_LEFT = 1,
+  TAKVORN_RIGHT = 2,
+  TAKVORN_UP = 3,
+  TAKVORN_DOWN = 4,
+  TAKVORN_TAB = 5,
+  TAKVORN_BACK_TAB = 6,
+  TAKVORN_NEW_LINE = 7,
+  TAKVORN_HOME = 8,
+  TAKVORN_ERASE_EOF = 9,
+  TAKVORN_ERASE_INPUT = 10,
+  TAKVORN_DELETE = 11,
+  TAKVORN_RESET = 12,
+  TAKVORN_ATTENTION = 13
+};
+
+/* What a key does: it is done; it can't act here, so that the keyboard is in error; it is ignored; or the terminal sends, which
+ * takvorn_terminal_answer tells. */
+enum { TAKVORN_KEY_DONE = 0, TAKVORN_KEY_INHIBITED = 1, TAKVORN_KEY_IGNORED = 2, TAKVORN_KEY_SENT = 3 };
+
+/* What stands at a position: a character by its code, one of the alternate set, or a field attribute by its six bits (20 protected, 10 numeric, 0C
+ * display, 01 modified). */
+enum { TAKVORN_CHARACTER = 0, TAKVORN_ALTERNATE_CHARACTER = 1, TAKVORN_ATTRIBUTE = 2 };
+
+typedef struct takvorn_cell {
+  uint8_t kind;
+  uint8_t code;
+} takvorn_cell;
+
+/* How many bytes the state of a terminal has, of these sizes, the default and the alternate one; with `wide` addresses are of 16 bits. 0 where there
+ * is no such terminal: a size has 1 to 255 rows, 2 to 255 columns and at most 16,384 positions, with `wide` 65,025. */
+size_t takvorn_terminal_size(uint16_t rows, uint16_t columns, uint16_t alternate_rows, uint16_t alternate_columns, bool wide);
+
+/* Makes bytes the state of a new terminal: nulls of the default size, the cursor at 0, the keyboard waiting for a record. TAKVORN_BAD_INPUT where
+ * there is no such terminal or `state_length` is another than takvorn_terminal_size tells. */
+int32_t takvorn_terminal_new(uint16_t rows, uint16_t columns, uint16_t alternate_rows, uint16_t alternate_columns, bool wide,
+                             uint8_t *state, size_t state_length);
+
+/* Applies a record. TAKVORN_FINDINGS where it is refused: the state is as it was, and `*effect` has the number and the place. */
+int32_t takvorn_terminal_apply(uint8_t *state, size_t state_length, const uint8_t *record, size_t record_length,
+                               takvorn_effect *effect);
+
+/* Presses a key. TAKVORN_BAD_INPUT also where there is no such key. */
+int32_t takvorn_terminal_press(uint8_t *state, size_t state_length, uint8_t key, uint8_t code, uint8_t *pressed);
+
+/* What the terminal answers to Read Modified, and sends after a key that sends; with `all` to Read Modified All. The answer is written to `out` as
+ * texts are, and `*needed` is the number of its bytes. */
+int32_t takvorn_terminal_answer(const uint8_t *state, size_t state_length, bool all, uint8_t *out, size_t out_length,
+                                size_t *needed);
+
+/* What it answers to Read Buffer. */
+int32_t takvorn_terminal_buffer(const uint8_t *state, size_t state_length, uint8_t *out, size_t out_length, size_t *needed);
+
+/* The cells of the size in use, as the bytes of so many takvorn_cell: `*needed` is twice their number. */
+int32_t takvorn_terminal_cells(const uint8_t *state, size_t state_length, uint8_t *out, size_t out_length, size_t *needed);
+
+/* What it keeps beside its cells. */
+int32_t takvorn_terminal_status(const uint8_t *state, size_t state_length, takvorn_status *status);
+
 #ifdef __cplusplus
 }
 #endif

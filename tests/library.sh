@@ -37,7 +37,7 @@ build library tests/library.c && build refusing tests/library.c -DREFUSES -fno-b
 grep -o 'takvorn_[a-z_]*(' "$root/include/takvorn.h" | tr -d '(' | sort > "$work/declared"
 nm -D --defined-only "$root/out/libtakvorn.so" | awk '{ print $3 }' | sort > "$work/shown"
 nm -g --defined-only "$root/out/libtakvorn.a" | awk '$3 ~ /^takvorn_/ { print $3 }' | sort > "$work/exported"
-sed -n 's/.*extern "C" fn \(takvorn_[a-z_]*\).*/\1/p' "$root/crates/takvorn_c/src/lib.rt" | sort > "$work/written"
+cat "$root"/crates/takvorn_c/src/*.rt | sed -n 's/.*extern "C" fn \(takvorn_[a-z_]*\).*/\1/p' | sort > "$work/written"
 for names in shown exported written; do
   if cmp -s "$work/declared" "$work/$names"; then good; else
     bad "the header declares other functions than are $names:"
@@ -110,6 +110,20 @@ origins=$(call origins signon.toml | sed -n '30p;31p;260p;$=' | tr '\n' ',')
 [ "$origins" = '0 5,0 7,-,1920,' ] && good || bad "the orders by position: $origins"
 
 [ $left_out = 0 ] || echo "$left_out golden cases left out, which are about the command line or a missing file"
+
+# ---- terminals that a program holds
+build terminal tests/terminal.c && build terminal_refused tests/terminal_refused.c -fno-builtin || bad "a C program that holds terminals isn't built"
+each_terminal() { # PROGRAM ..: with these words before it
+  if "$@" > "$work/stdout" 2> "$work/stderr"; then good; else bad "terminals: $*: $(tail -n 5 "$work/stderr")"; fi
+}
+each_terminal "$work/terminal" both 71 20000
+each_terminal "$work/terminal" threads
+each_terminal "$work/terminal" changed
+each_terminal "$work/terminal_refused"
+if has valgrind "terminals under valgrind"; then
+  each_terminal valgrind -q --leak-check=full --error-exitcode=120 "$work/terminal" both 5 20
+  each_terminal valgrind -q --leak-check=full --error-exitcode=120 "$work/terminal" changed
+fi
 
 # ---- as a system has it
 if [ ! -x "$program" ]; then echo "the program isn't built: what is installed left out"

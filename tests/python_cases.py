@@ -29,6 +29,40 @@ def is_pressed(keys, text, printed):
     return lines == printed.splitlines()
 
 
+def held_by(text):
+    """A terminal that is kept, of the sizes and with the records of a text."""
+    lines = [line.strip() for line in text.splitlines()]
+    lines = [line for line in lines if line and not line.startswith("#")]
+    sizes, wide = [(24, 80)], False
+    if lines and lines[0].startswith("size"):
+        words = lines.pop(0).split()[1:]
+        wide = words[-1] == "16"
+        sizes = [tuple(map(int, word.split("x"))) for word in words if "x" in word]
+    terminal = takvorn.Terminal(sizes[0], sizes[-1], wide)
+    for line in lines:
+        terminal.apply(bytes.fromhex(line))
+    return terminal
+
+
+def is_held(keys, text, printed):
+    """The same keys at a terminal that is kept, each also after its state was copied."""
+    terminal, lines = held_by(text), []
+    for key in keys.splitlines():
+        if not key or key.startswith("#"):
+            continue
+        terminal = terminal.copy()
+        it = terminal.press(key)
+        lines.append(f"sent {it.sent.hex().upper()}" if it.did == "sent" else f"{it.did} {it.cursor}")
+    return lines == printed.splitlines()
+
+
+def is_kept(text, printed):
+    told, screen = json.loads(printed), held_by(text).screen
+    places = [(it["at"], it["place"], it["length"], it["codes"]) for it in told["fields"]]
+    mine = [(it.at, it.place, it.length, it.codes.hex().upper()) for it in screen.fields]
+    return (screen.rows, screen.columns, screen.cursor, screen.keyboard, mine) == (told["rows"], told["columns"], told["cursor"], told["keyboard"], places)
+
+
 def is_checked(case, text, printed):
     *told, _ = map(json.loads, printed.splitlines())
     found = takvorn.check((case / words_of(case)[-1]).read_bytes(), text)
@@ -59,9 +93,11 @@ def tried():
         status = (case / "status").read_text().strip() if (case / "status").exists() else "0"
         if words == ["show", "--format", "json"] and status == "0":
             yield case, lambda case=case, text=text, printed=printed: is_shown(case, text, printed)
+            yield case, lambda text=text, printed=printed: is_kept(text, printed)
         elif kind == "press" and len(words) == 2 and keys:
             if status == "0":
                 yield case, lambda keys=keys[0], text=text, printed=printed: is_pressed(keys, text, printed)
+                yield case, lambda keys=keys[0], text=text, printed=printed: is_held(keys, text, printed)
             elif status == "2" and printed:
                 call = lambda keys=keys[0], text=text: takvorn.press(text, keys)
                 yield case, lambda call=call, printed=printed: is_refused(call, printed)

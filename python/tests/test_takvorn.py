@@ -116,3 +116,62 @@ def test_refusals(call, words, places):
 
 def test_the_fixture(screen):
     assert screen(SMALL).text[0].strip() == "NAME"
+
+
+def test_a_terminal_is_kept():
+    terminal = takvorn.Terminal()
+    assert terminal.status == takvorn.Status(24, 80, 0, "waiting", 0x60)
+    assert terminal.apply(SMALL) == takvorn.Effect("shown", alarm=False, restored=True)
+    before = terminal.copy()
+    assert terminal.press("type C1") == takvorn.Pressed("done", cursor=7)
+    assert terminal != before
+    assert terminal.press("enter") == takvorn.Pressed("sent", sent=bytes.fromhex("7D40C71140C6C1"))
+    assert terminal.status == takvorn.Status(24, 80, 7, "waiting", 0x7D)
+    assert terminal.screen.text[0][:9] == " NAME A  "
+    assert (before.status.cursor, before.status.keyboard) == (6, "free")
+    assert before.cells[:2] == (takvorn.Cell("attribute", 0x20), takvorn.Cell("character", 0xD5))
+    assert takvorn.Terminal.of(before.state) == before
+    assert before.press("type C1") == takvorn.Pressed("done", cursor=7)
+
+
+def test_a_terminal_answers_reads():
+    terminal = takvorn.Terminal(default=(2, 10), alternate=(2, 12))
+    terminal.apply(bytes.fromhex("F5C21D40C113"))
+    assert terminal.apply(bytes.fromhex("F6")) == takvorn.Effect("read modified", alarm=False, restored=False)
+    assert terminal.answer() == bytes.fromhex("6040C2")
+    assert terminal.buffer() == bytes.fromhex("6040C21D40C1") + bytes(18)
+    terminal.apply(bytes.fromhex("7EC2"))
+    assert (terminal.status.rows, terminal.status.columns, len(terminal.cells)) == (2, 12, 24)
+
+
+def test_a_refused_record_leaves_a_terminal_as_it_was():
+    terminal = takvorn.Terminal()
+    terminal.apply(SMALL)
+    before = terminal.state
+    with pytest.raises(takvorn.Refused) as refused:
+        terminal.apply(bytes.fromhex("F5C3C11D"))
+    assert (refused.value.number, refused.value.byte, terminal.state) == ("O6", 3, before)
+    with pytest.raises(takvorn.Refused) as refused:
+        terminal.apply(bytes.fromhex("F1C3115E40"))
+    assert (refused.value.number, refused.value.byte) == ("A1", 2)
+
+
+def test_bytes_that_are_no_state():
+    state = takvorn.Terminal().state
+    for bytes_changed in (b"", state[1:], state + b"\0", b"\2" + state[1:], state[:-1] + b"\1"):
+        with pytest.raises(ValueError):
+            takvorn.Terminal.of(bytes_changed)
+    for sizes in ((0, 80), (24, 1), (256, 80), (200, 200)):
+        with pytest.raises(ValueError):
+            takvorn.Terminal(sizes)
+    with pytest.raises(ValueError):
+        takvorn.Terminal().press("f1")
+
+
+def test_a_terminal_is_checked():
+    terminal = takvorn.Terminal()
+    terminal.apply(bytes.fromhex("".join(SIGNON.split("\n")[1].split())))
+    assert terminal.check(LAYOUT) == []
+    terminal.apply(bytes.fromhex("F1C011C44B40"))
+    (finding,) = terminal.check(LAYOUT)
+    assert (finding.number, finding.length) == (11, 69)

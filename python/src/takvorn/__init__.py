@@ -23,9 +23,12 @@ from ._finding import Finding
 from ._records import Records
 from ._refused import Refused
 from ._screen import Field, Screen, drawing, show
+from ._terminal import Cell, Effect, Status, Terminal
 
 __all__ = [
     "Answer",
+    "Cell",
+    "Effect",
     "Field",
     "Finding",
     "Layout",
@@ -34,6 +37,8 @@ __all__ = [
     "Records",
     "Refused",
     "Screen",
+    "Status",
+    "Terminal",
     "bind",
     "check",
     "check_map",

@@ -22,7 +22,7 @@ def _path() -> str:
     return str(beside) if beside.exists() else "libtakvorn.so.1"
 
 
-_library = ctypes.CDLL(_path())
+library = ctypes.CDLL(_path())
 
 
 def _words(given: Input) -> "list[Any]":
@@ -38,7 +38,7 @@ def _words(given: Input) -> "list[Any]":
 def call(name: str, *inputs: Input) -> "tuple[int, bytes]":
     """The status and the whole text of the function takvorn_NAME. Where memory was refused MemoryError is raised."""
     words = [word for given in inputs for word in _words(given)]
-    function = getattr(_library, "takvorn_" + name)
+    function = getattr(library, "takvorn_" + name)
     function.restype = ctypes.c_int32
     room = 4096
     while True:

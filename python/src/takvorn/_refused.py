@@ -26,3 +26,19 @@ class Refused(ValueError):
         self.record: Optional[int] = at.get("record")
         self.byte: Optional[int] = at.get("byte")
         self.layout: Optional[int] = at.get("layout")
+
+    @classmethod
+    def at_byte(cls, letter: int, number: int, at: int) -> "Refused":
+        """A record is refused: the letter and the number of the refusal, and its byte."""
+        return cls(f"refused at {at}: {chr(letter)}{number} {_RECORD_NAMES[letter, number]}")
+
+
+_RECORD_NAMES = {
+    **{
+        (ord("O"), at): name
+        for at, name in enumerate(
+            "Empty UnknownCommand StructuredField NoWcc UnknownOrder Truncated ReservedAddress BadType BadCharacter Trailing".split(), 1
+        )
+    },
+    **{(ord("A"), at): name for at, name in enumerate("AddressOutside NoFieldHere NotAWrite".split(), 1)},
+}
