@@ -25,7 +25,7 @@ _term3270_values() { # OPTION
     suite--format) _term3270_offer -W 'text json junit sarif' ;;
     script--code-page) _term3270_offer -W 'bracket 037' ;;
     script--report-format) _term3270_offer -W 'text json junit' ;;
-    script--layouts) compopt -o filenames 2> /dev/null; _term3270_offer -d ;;
+    script--layouts | tap--layouts | tap--out) compopt -o filenames 2> /dev/null; _term3270_offer -d ;;
     script--report) _term3270_files ;;
     records--from) _term3270_offer -W 'trace stream buffer' ;;
     attach--device | script--device)
@@ -69,7 +69,7 @@ _term3270_options() {
     serve) options='--port --count --at-once --answers --idle --listen' ;;
     attach) options='--strokes --port --device --tolerant --expect --timeout' ;;
     script) options='--device --code-page --layouts --report --report-format' ;;
-    tap) options='--port --listen-port --listen --count' ;;
+    tap) options='--port --listen-port --listen --count --layouts --out' ;;
     map) options='--map --layout --freekb --frset' ;;
     help) return ;;
   esac

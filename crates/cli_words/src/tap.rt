@@ -4,7 +4,7 @@ ghost use Rattle.std.specs.Prelude.{◌≡◌};
 ghost use Rattle.clap.specs.Words.{found_of, rows_of};
 ghost use Rattle.cli_words.specs.Tap.{IsTap};
 
-use crate::asked::{number_in, text_in};
+use crate::asked::{number_in, path_in, text_in};
 use clap::ArgMatches;
 
 /// What is asked of `tap`.
@@ -18,6 +18,10 @@ pub struct TapAsked<'a> {
     pub listen_port: u16,
     /// How many terminals are tapped; 0 is any number.
     pub count: u16,
+    /// The folder of the layouts by which screens are judged.
+    pub layouts: Option<&'a str>,
+    /// The folder where new screens are left.
+    pub out: Option<&'a str>,
 }
 
 /// What the words of `tap` ask for.
@@ -30,5 +34,7 @@ pub(crate) fn tap_of<'a>(words: &ArgMatches<'a>) -> TapAsked<'a>
         listen: text_in(words, "listen"),
         listen_port: number_in(words, "listen-port"),
         count: number_in(words, "count"),
+        layouts: path_in(words, "layouts"),
+        out: path_in(words, "out"),
     }
 }

@@ -6,4 +6,4 @@ mod printing;
 mod server;
 mod socket;
 
-pub use server::{Outside, Taps, run_taps};
+pub use server::{LeavesScreens, Outside, Taps, run_taps};

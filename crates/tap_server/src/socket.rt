@@ -15,7 +15,9 @@ use tn_session::History;
 pub(crate) struct Socket {
     stream: TcpStream,
     has_told_end: bool,
-    /// Why reads ended, where they failed.
+    /// Whether a byte was read or written.
+    has_passed: bool,
+    /// Why reads ended, where they failed; or why a first write failed.
     failure: Option<io::Error>,
     received: History<u8>,
     sent: History<u8>,
@@ -52,6 +54,7 @@ impl Socket {
         Socket {
             stream,
             has_told_end: false,
+            has_passed: false,
             failure: None,
             received: History::new(),
             sent: History::new(),
@@ -60,7 +63,12 @@ impl Socket {
         }
     }
 
-    /// Why reads ended, where they failed.
+    /// Whether it failed before a byte was read or written.
+    pub(crate) fn is_unreached(&self) -> bool {
+        !self.has_passed && self.failure.is_some()
+    }
+
+    /// Why reads ended, where they failed; or why a first write failed.
     pub(crate) fn failure(&self) -> Option<&io::Error> {
         self.failure.as_ref()
     }
@@ -76,6 +84,7 @@ impl Socket {
     {
         match self.stream.read(piece) {
             Ok(count) if 0 < count && count <= piece.len() => {
+                self.has_passed = true;
                 add_bytes(&mut self.received, &piece[..count]);
                 Gave::Bytes(count)
             }
@@ -98,11 +107,19 @@ impl Socket {
     {
         match self.stream.write(bytes) {
             Ok(count) if 0 < count && count <= bytes.len() => {
+                self.has_passed = true;
                 add_bytes(&mut self.sent, &bytes[..count]);
                 Took::Bytes(count)
             }
             Err(error) if waits(&error) => Took::Nothing,
-            _ => Took::Failed,
+            Err(error) => {
+                // A host that refuses tells so once, to whichever call comes first.
+                if !self.has_passed {
+                    self.failure = Some(error);
+                }
+                Took::Failed
+            }
+            Ok(_) => Took::Failed,
         }
     }
 }

@@ -560,6 +560,16 @@ const SESSIONS: &[Described<'_>] = &[
                 takes: Takes::UpTo("N", 65535),
                 help: "End after so many terminals: 1 to 65535; without it, go on until it is ended",
             },
+            Argument {
+                name: "layouts",
+                takes: Takes::Value("FOLDER"),
+                help: "Judge each screen that the terminal answers, by the layout of this folder that it matches",
+            },
+            Argument {
+                name: "out",
+                takes: Takes::Value("FOLDER"),
+                help: "Leave each new screen in this folder, as screen-N.hex and its draft screen-N.toml",
+            },
         ],
     },
 ];

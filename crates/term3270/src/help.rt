@@ -272,10 +272,12 @@ Statuses:
 pub(crate) const TAP: &str = "Output:
   '# terminal K connected' and '# terminal K ended'; between them what 'records --turns' prints of the host's
   side, with K in place of a line of a trace, and each record of the terminal as '# answer HEX'. Other commands
-  read it: talk, show, draft, convert.
+  read it: talk, show, draft, convert. With --layouts after each answer '# screen NAME: yes' of NAME.toml or its
+  findings, and '# NAME TEXT' for each field of the answer; '# screen unknown' where no layout matches.
 
 Example:
   $ term3270 tap mainframe --port 23 --listen-port 3271 --count 1 > session.hex
 
 Statuses:
-  0 done, 2 a fault of the command line, 3 a port or a host can't be had, or a write failed, 4 out of memory";
+  0 done, 2 a fault of the command line, or a layout is refused, 3 a port or a host can't be had, a layout can't be read, or a
+  write failed, 4 out of memory";

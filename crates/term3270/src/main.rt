@@ -19,6 +19,7 @@ mod sessions;
 mod stream;
 mod suite;
 mod tap;
+mod tap_folders;
 mod tcp;
 mod tolerant;
 mod walk;
@@ -139,7 +140,7 @@ fn tapped(rt: &HostRuntime, asked: TapAsked<'_>) -> Status {
         host: bare_host(asked.host),
         port: asked.port,
     };
-    tap::tap(rt, listen, host, asked.count)
+    tap::tap(rt, listen, host, asked)
 }
 
 /// Runs a command over the net; none where another command is asked for.

@@ -25,7 +25,7 @@ fn push_name(alloc: Global, entry: &DirEntry, names: &mut Vec<String>) -> io::Re
 }
 
 /// The names of the layouts' files of a folder, in rising order of their bytes.
-fn names_in(rt: &HostRuntime, folder: &str) -> io::Result<Vec<String>> {
+pub(crate) fn names_in(rt: &HostRuntime, folder: &str) -> io::Result<Vec<String>> {
     let mut names = Vec::new(rt.alloc());
     'entries: for entry in read_dir(rt, folder)? {
         push_name(rt.alloc(), &entry?, &mut names)?;
@@ -35,7 +35,7 @@ fn names_in(rt: &HostRuntime, folder: &str) -> io::Result<Vec<String>> {
 }
 
 /// The path of a file of a folder.
-fn path_in(alloc: Global, folder: &str, name: &str) -> Result<String, AllocError> {
+pub(crate) fn path_in(alloc: Global, folder: &str, name: &str) -> Result<String, AllocError> {
     if folder.ends_with('/') {
         format!(in alloc; "{folder}{name}")
     } else {
@@ -44,14 +44,14 @@ fn path_in(alloc: Global, folder: &str, name: &str) -> Result<String, AllocError
 }
 
 /// What a file holds, up to one byte more than a layout can have.
-fn text_at(rt: &HostRuntime, path: &str) -> io::Result<Vec<u8>> {
+pub(crate) fn text_at(rt: &HostRuntime, path: &str) -> io::Result<Vec<u8>> {
     let mut text = Vec::new(rt.alloc());
     fs::open(rt, path)?.take(MOST_BYTES).read_to_end(&mut text)?;
     Ok(text)
 }
 
 /// The status of an error that is said with its path.
-fn failed(rt: &HostRuntime, path: &str, error: &io::Error) -> Status {
+pub(crate) fn failed(rt: &HostRuntime, path: &str, error: &io::Error) -> Status {
     let _ = eprintln!(rt; "term3270: {path}: {error}");
     match error.kind() {
         io::ErrorKind::OutOfMemory => Status::NoMemory,

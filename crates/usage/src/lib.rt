@@ -41,6 +41,7 @@ mod of_script_lines;
 mod of_script_requests;
 mod of_script_screens;
 mod of_session_hub;
+mod of_tap_screens;
 mod of_tap_server;
 mod of_tn_cores;
 mod of_tn_dialogue;

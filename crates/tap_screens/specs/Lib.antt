@@ -1,0 +1,13 @@
+pub mod Lines
+pub mod LineView
+pub mod Text
+pub mod Made
+pub mod Sketch
+pub mod Bound
+pub mod Judged
+pub mod Watching
+pub mod Album
+pub mod Folder
+pub mod FolderView
+pub mod Taps
+pub mod TapView
