@@ -4,6 +4,7 @@
 mod of_bms_map;
 mod of_bms_source;
 mod of_buffer_lines;
+mod of_cli_applications;
 mod of_cli_binds;
 mod of_cli_buffers;
 mod of_cli_characters;

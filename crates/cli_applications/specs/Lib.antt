@@ -1,0 +1,5 @@
+pub mod Attention
+pub mod Fault
+pub mod Results
+pub mod Values
+pub mod Manifest
