@@ -74,7 +74,14 @@ fn refused_effect(refused: Refused) -> Effect
 
 /// An effect without a refusal.
 fn without_refusal(kind: u8, alarm: bool, restored: bool) -> Effect
-    ensures { result ≡ record { kind = kind; alarm = alarm; restored = restored; letter = 0; number = 0; at = 0 } }
+    ensures { result ≡ record {
+      kind = kind;
+      alarm = alarm;
+      restored = restored;
+      letter = 0;
+      number = 0;
+      at = 0;
+    } }
 {
     Effect {
         kind,

@@ -53,7 +53,8 @@ pub fn modified_left(
     out: &mut [u8],
     needed: &mut usize,
 ) -> u8
-    ensures { LeavesBytes (λ v. bytes_sent v all) state.now out.old out.new needed.new (pos result) }
+    ensures { LeavesBytes (λ v. bytes_sent v all) state.now
+        out.old out.new needed.new (pos result) }
 {
     let found = read_modified(alloc, state, all);
     leave(found, out, needed)
@@ -69,7 +70,8 @@ pub fn buffer_left(alloc: Global, state: &[u8], out: &mut [u8], needed: &mut usi
 
 /// Leaves two bytes for each cell.
 pub fn cells_left(alloc: Global, state: &[u8], out: &mut [u8], needed: &mut usize) -> u8
-    ensures { LeavesBytes (λ v. cell_pairs v.cells) state.now out.old out.new needed.new (pos result) }
+    ensures { LeavesBytes (λ v. cell_pairs v.cells) state.now
+        out.old out.new needed.new (pos result) }
 {
     let found = read_cells(alloc, state);
     leave(found, out, needed)

@@ -9,6 +9,7 @@ mod of_cli_binds;
 mod of_cli_buffers;
 mod of_cli_characters;
 mod of_cli_commands;
+mod of_cli_dialogues;
 mod of_cli_drafts;
 mod of_cli_findings;
 mod of_cli_hosts;
