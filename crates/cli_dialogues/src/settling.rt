@@ -102,7 +102,8 @@ pub fn settle_dialogue<'a, W: TakesBytes>(
     token: usize,
     output: &mut Output<W>,
 ) -> Result<Option<Settled>, Status>
-    ensures left { Steps DialogueTakes hub.old.limits (At token Leaves) hub.old.seats hub.new.seats }
+    ensures left { Steps DialogueTakes hub.old.limits (At token Leaves)
+        hub.old.seats hub.new.seats }
     ensures others { (hub.new.limits ≡ hub.old.limits) × (hub.new.came ≡ hub.old.came) }
     ensures printed { SettlesDialogue application.now (ended_in (seat_at token hub.old.seats))
         output.old output.new result }
