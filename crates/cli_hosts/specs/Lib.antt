@@ -3,3 +3,5 @@ pub mod Writing
 pub mod Words
 pub mod Printed
 pub mod Alone
+pub mod Hosts
+pub mod Screens

@@ -64,7 +64,7 @@ pub(crate) fn answered_text(
 }
 
 /// The fault of the session of the terminal of this number.
-pub(crate) fn fault_text(alloc: Global, number: u64, why: RunFault) -> Result<String, AllocError>
+pub fn fault_text(alloc: Global, number: u64, why: RunFault) -> Result<String, AllocError>
     ensures { IfOk result (λ text. string_bytes text ≡ fault_line number why) }
 {
     let fault = fault_number(why);
@@ -84,7 +84,7 @@ fn limit_number(end: End) -> &'static str
 }
 
 /// The limit that ended the terminal of this number.
-pub(crate) fn limit_text(alloc: Global, number: u64, end: End) -> Result<String, AllocError>
+pub fn limit_text(alloc: Global, number: u64, end: End) -> Result<String, AllocError>
     ensures { IfOk result (λ text. string_bytes text ≡ limit_line number end) }
 {
     let fault = limit_number(end);
@@ -92,14 +92,14 @@ pub(crate) fn limit_text(alloc: Global, number: u64, end: End) -> Result<String,
 }
 
 /// That memory was refused to the terminal of this number.
-pub(crate) fn starved_text(alloc: Global, number: u64) -> Result<String, AllocError>
+pub fn starved_text(alloc: Global, number: u64) -> Result<String, AllocError>
     ensures { IfOk result (λ text. string_bytes text ≡ starved_line number) }
 {
     format!(in alloc; "terminal {number} out of memory\n")
 }
 
 /// Writes a text and flushes: whether every byte was taken.
-pub(crate) fn print<W: TakesBytes>(alloc: Global, output: &mut Output<W>, text: String) -> bool
+pub fn print<W: TakesBytes>(alloc: Global, output: &mut Output<W>, text: String) -> bool
     ensures { Writes output.old output.new (string_bytes text) result }
 {
     let status = Status::Done;

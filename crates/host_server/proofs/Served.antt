@@ -6,97 +6,120 @@ use Rattle.cli_commands.specs.declared.status.Status.{Status}
 use Rattle.cli_commands.specs.declared.status.Status.TheVariants.{Done, Findings, BadInput, Failed as HasFailed, NoMemory}
 use Rattle.cli_sessions.proofs.Serving.{appends_none}
 use Rattle.cli_sessions.specs.Printing.{Printing, IsPrinted}
-use Rattle.scr_layout.specs.Entry.{Declared}
-use Rattle.session_hub.specs.declared.hub.Ended.{Ended}
 use Rattle.cli_hosts.specs.declared.settling.Settled.{Settled as Outcome}
-use Rattle.cli_hosts.specs.Hosting.{Hosting}
-use Rattle.cli_hosts.specs.Words.{Word, word_lines, word_ended, settled_of, Settles}
-use Rattle.cli_hosts.specs.Printed.{told_text, PrintsTerminals, PrintsFront, PrintsMore}
-use Rattle.cli_hosts.proofs.Printed.{prints_front_then}
+use Rattle.cli_hosts.specs.Hosts.{Told, TellsOne}
 use Rattle.host_server.specs.declared.tally.Tally.{Tally}
 use Rattle.host_server.specs.Tallies.{counted, tally_after}
-use Rattle.host_server.specs.Serving.{Serving, Settled, Stops, Serves}
+use Rattle.host_server.specs.Serving.{Serving, Keeps, Went, texts_of, outcomes_of, AreTold, PrintsTerminals, PrintsFront, Telling, Settled, Stops, Serves}
 
-tally_more : (tally : Tally) (first others : List (ℕ × Word)) → tally_after tally (first ++ others) ≡ tally_after (tally_after tally first) others
+tally_more : (tally : Tally) (first others : List Went) → tally_after tally (outcomes_of (first ++ others)) ≡ tally_after (tally_after tally (outcomes_of first)) (outcomes_of others)
 tally_more tally [] others = refl
-tally_more tally (one ∷ first) others = tally_more (counted tally (settled_of one.1)) first others
+tally_more tally (one ∷ first) others = tally_more (counted tally one.outcome) first others
 
-told_more : (entries : List Declared) (first others : List (ℕ × Word)) → told_text entries (first ++ others) ≡ told_text entries first ++ told_text entries others
-told_more entries [] others = refl
-told_more entries (one ∷ first) others =
-    ap (λ t. word_lines entries one.0 one.1 ++ t) (told_more entries first others)
-    ∙ sym (append_assoc (word_lines entries one.0 one.1) (told_text entries first) (told_text entries others))
+texts_more : (first others : List Went) → texts_of (first ++ others) ≡ texts_of first ++ texts_of others
+texts_more [] others = refl
+texts_more (one ∷ first) others = ap (λ t. one.text ++ t) (texts_more first others) ∙ sym (append_assoc one.text (texts_of first) (texts_of others))
 
-pub settled_none : (server : Serving) (at : Printing) → Settled server server at at
-settled_none server at = record { told = []; written = (appends_none at.written, refl); is = refl }
+told_more : (IsTold : Told) (first others : List Went) → AreTold IsTold first → AreTold IsTold others → AreTold IsTold (first ++ others)
+told_more IsTold [] others a b = b
+told_more IsTold (one ∷ first) others a b = (a.0, told_more IsTold first others a.1 b)
 
--- the lines are of the same layout
-lines_on : (entries other : List Declared) (before after : Printing) (told : List (ℕ × Word)) → other ≡ entries
-    → IsPrinted before after (told_text other told) true → IsPrinted before after (told_text entries told) true
-lines_on entries other before after told same printed = subst (λ s. IsPrinted before after (told_text s told) true) same printed
+-- what is served is the same
+told_on : {C : Type 0} (IsTold : Telling C) (content other : C) (went : List Went) → other ≡ content → AreTold (IsTold other) went → AreTold (IsTold content) went
+told_on IsTold content other went same told = subst (λ c. AreTold (IsTold c) went) same told
 
-pub settled_then : (old mid new : Serving) (before between after : Printing) → Settled old mid before between → Settled mid new between after → Settled old new before after
-settled_then old mid new before between after a b =
-    let same : mid.entries ≡ old.entries = ap (λ (s : Serving). s.entries) a.is in
-    let more : IsPrinted between after (told_text old.entries b.told) true = lines_on old.entries mid.entries between after b.told same b.written in
-    record {
-      told = a.told ++ b.told;
-      written = (
-        subst (Appends before.written after.written) (sym (told_more old.entries a.told b.told))
-            (appends_more before.written between.written after.written (told_text old.entries a.told) (told_text old.entries b.told) a.written.0 more.0),
-        more.1 ∙ a.written.1,
-      );
-      is = b.is ∙ ap (λ (s : Serving). record s { tally = tally_after s.tally b.told }) a.is ∙ ap (λ (t : Tally). record old { tally = t }) (sym (tally_more old.tally a.told b.told));
-    }
+written_more : (before between after : Printing) (first others : List Went) → IsPrinted before between (texts_of first) true → IsPrinted between after (texts_of others) true
+    → IsPrinted before after (texts_of (first ++ others)) true
+written_more before between after first others a b = (
+  subst (Appends before.written after.written) (sym (texts_more first others))
+      (appends_more before.written between.written after.written (texts_of first) (texts_of others) a.0 b.0),
+  b.1 ∙ a.1,
+)
 
-pub prints_settled : (old new : Serving) (before after : Printing) → Settled old new before after → PrintsTerminals old.entries before after
-prints_settled old new before after a = record { told = a.told; written = a.written }
+pub settled_none : {H C : Type 0} (content : H → C) (IsTold : Telling C) (server : Serving H) (at : Printing) → Settled content IsTold server server at at
+settled_none content IsTold server at = record { went = []; told = tt; written = (appends_none at.written, refl); content = refl; asked = refl; tally = refl }
 
-pub stops_then : (old mid : Serving) (before between after : Printing) (status : Status) → Settled old mid before between → Stops mid between after status → Stops old before after status
-stops_then old mid before between after status a b = (
-  prints_front_then old.entries before between after (prints_settled old mid before between a)
-      (subst (λ s. PrintsFront s between after) (ap (λ (s : Serving). s.entries) a.is) b.0),
+pub settled_then : {H C : Type 0} (content : H → C) (IsTold : Telling C) (old mid new : Serving H) (before between after : Printing)
+    → Settled content IsTold old mid before between → Settled content IsTold mid new between after → Settled content IsTold old new before after
+settled_then content IsTold old mid new before between after a b = record {
+  went = a.went ++ b.went;
+  told = told_more (IsTold (content old.hosts)) a.went b.went a.told (told_on IsTold (content old.hosts) (content mid.hosts) b.went a.content b.told);
+  written = written_more before between after a.went b.went a.written b.written;
+  content = b.content ∙ a.content;
+  asked = b.asked ∙ a.asked;
+  tally = b.tally ∙ ap (λ t. tally_after t (outcomes_of b.went)) a.tally ∙ sym (tally_more old.tally a.went b.went);
+}
+
+pub prints_settled : {H C : Type 0} (content : H → C) (IsTold : Telling C) (old new : Serving H) (before after : Printing)
+    → Settled content IsTold old new before after → PrintsTerminals (IsTold (content old.hosts)) before after
+prints_settled content IsTold old new before after a = record { went = a.went; told = a.told; written = a.written }
+
+prints_then : (IsTold : Told) (before between after : Printing) → PrintsTerminals IsTold before between → PrintsTerminals IsTold between after → PrintsTerminals IsTold before after
+prints_then IsTold before between after a b = record {
+  went = a.went ++ b.went;
+  told = told_more IsTold a.went b.went a.told b.told;
+  written = written_more before between after a.went b.went a.written b.written;
+}
+
+front_then : (IsTold : Told) (before between after : Printing) → PrintsTerminals IsTold before between → PrintsFront IsTold between after → PrintsFront IsTold before after
+front_then IsTold before between after a b = record { middle = b.middle; whole = prints_then IsTold before between b.middle a b.whole; last = b.last }
+
+pub stops_then : {H C : Type 0} (content : H → C) (IsTold : Telling C) (old mid : Serving H) (before between after : Printing) (status : Status)
+    → Settled content IsTold old mid before between → Stops (IsTold (content mid.hosts)) between after status → Stops (IsTold (content old.hosts)) before after status
+stops_then content IsTold old mid before between after status a b = (
+  front_then (IsTold (content old.hosts)) before between after (prints_settled content IsTold old mid before between a)
+      (subst (λ c. PrintsFront (IsTold c) between after) a.content b.0),
   b.1,
 )
 
 -- one terminal
-pub settles_one : (server : Serving) (ended : Option (Ended Hosting)) (before after : Printing) (outcome : Outcome)
-    → Settles server.entries ended before after (Ok (Some outcome)) → Settled server (record server { tally = counted server.tally outcome }) before after
-settles_one server (Some ended) before after outcome (written, is) = record {
-  told = (ended.number, word_ended ended) ∷ [];
-  written = (subst (Appends before.written after.written) (sym (append-nil (word_lines server.entries ended.number (word_ended ended)))) written.0, written.1);
-  is = ap (λ (o : Outcome). record server { tally = counted server.tally o }) is;
+pub settles_one : {H C : Type 0} (content : H → C) (IsTold : Telling C) (old new : Serving H) (before after : Printing) (outcome : Outcome)
+    → content new.hosts ≡ content old.hosts → new.asked ≡ old.asked → new.tally ≡ counted old.tally outcome
+    → TellsOne (IsTold (content old.hosts)) before after (Ok (Some outcome)) → Settled content IsTold old new before after
+settles_one content IsTold old new before after outcome same asked tally (number, text, told, written) = record {
+  went = record { number = number; outcome = outcome; text = text } ∷ [];
+  told = (told, tt);
+  written = (subst (Appends before.written after.written) (sym (append-nil text)) written.0, written.1);
+  content = same;
+  asked = asked;
+  tally = tally;
 }
-settles_one server None before after outcome (is, same) = absurd cc
 
-pub settles_nothing : (server : Serving) (ended : Option (Ended Hosting)) (before after : Printing)
-    → Settles server.entries ended before after (Ok None) → Settled server server before after
-settles_nothing server None before after (is, same) = subst (Settled server server before) (sym same) (settled_none server before)
-settles_nothing server (Some ended) before after settles = absurd settles
+pub settles_nothing : {H C : Type 0} (content : H → C) (IsTold : Telling C) (old new : Serving H) (before after : Printing)
+    → content new.hosts ≡ content old.hosts → new.asked ≡ old.asked → new.tally ≡ old.tally
+    → TellsOne (IsTold (content old.hosts)) before after (Ok None) → Settled content IsTold old new before after
+settles_nothing content IsTold old new before after same asked tally is = record {
+  went = [];
+  told = tt;
+  written = subst (λ p. IsPrinted before p [] true) (sym is) (appends_none before.written, refl);
+  content = same;
+  asked = asked;
+  tally = tally;
+}
 
-pub settles_stops : (server : Serving) (ended : Option (Ended Hosting)) (before after : Printing) (status : Status)
-    → Settles server.entries ended before after (Err status) → PrintsFront server.entries before after → Stops server before after status
-settles_stops server None before after status (is, same) front = absurd cc
-settles_stops server (Some ended) before after NoMemory settles front = (front, inr refl)
-settles_stops server (Some ended) before after HasFailed settles front = (front, inl refl)
-settles_stops server (Some ended) before after Done settles front = absurd settles
-settles_stops server (Some ended) before after Findings settles front = absurd settles
-settles_stops server (Some ended) before after BadInput settles front = absurd settles
+none_printed : (IsTold : Told) (at : Printing) → PrintsTerminals IsTold at at
+none_printed IsTold at = record { went = []; told = tt; written = (appends_none at.written, refl) }
 
--- the same, where it is counted
-pub settles_some : (old server : Serving) (ended : Option (Ended Hosting)) (before after : Printing) (found : Option Outcome) (outcome : Outcome) (tally : Tally)
-    → server ≡ old → found ≡ Some outcome → tally ≡ counted server.tally outcome → Settles server.entries ended before after (Ok found)
-    → Settled old (record server { tally = tally }) before after
-settles_some old server ended before after found outcome tally same some is settles =
-    subst (λ s. Settled s (record server { tally = tally }) before after) same
-    (subst (λ t. Settled server (record server { tally = t }) before after) (sym is)
-    (settles_one server ended before after outcome (subst (λ f. Settles server.entries ended before after (Ok f)) some settles)))
+pub settles_stops : (IsTold : Told) (before after : Printing) (status : Status) → TellsOne IsTold before after (Err status) → Stops IsTold before after status
+settles_stops IsTold before after NoMemory same = (record { middle = before; whole = none_printed IsTold before; last = inl same }, inr refl)
+settles_stops IsTold before after HasFailed part = (record { middle = before; whole = none_printed IsTold before; last = inr part }, inl refl)
+settles_stops IsTold before after Done settles = absurd settles
+settles_stops IsTold before after Findings settles = absurd settles
+settles_stops IsTold before after BadInput settles = absurd settles
 
--- a server that is the same
-pub settled_same : (old mid new : Serving) (before after : Printing) → new ≡ mid → Settled old mid before after → Settled old new before after
-settled_same old mid new before after same a = subst (λ s. Settled old s before after) (sym same) a
+-- a server that keeps what it serves
+pub settled_kept : {H C : Type 0} (content : H → C) (IsTold : Telling C) (old mid new : Serving H) (before after : Printing)
+    → Keeps content mid new → Settled content IsTold old mid before after → Settled content IsTold old new before after
+settled_kept content IsTold old mid new before after same a = record {
+  went = a.went;
+  told = a.told;
+  written = a.written;
+  content = same.content ∙ a.content;
+  asked = same.asked ∙ a.asked;
+  tally = same.tally ∙ a.tally;
+}
 
-pub serves_then : {A : Type 0} (old mid new : Serving) (before between after : Printing) (result : Result A Status) → Settled old mid before between
-    → Serves mid new between after result → Serves old new before after result
-serves_then old mid new before between after (Ok done) a b = settled_then old mid new before between after a b
-serves_then old mid new before between after (Err status) a b = stops_then old mid before between after status a b
+pub serves_then : {H C A : Type 0} (content : H → C) (IsTold : Telling C) (old mid new : Serving H) (before between after : Printing) (result : Result A Status)
+    → Settled content IsTold old mid before between → Serves content IsTold mid new between after result → Serves content IsTold old new before after result
+serves_then content IsTold old mid new before between after (Ok done) a b = settled_then content IsTold old mid new before between after a b
+serves_then content IsTold old mid new before between after (Err status) a b = stops_then content IsTold old mid before between after status a b

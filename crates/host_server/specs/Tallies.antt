@@ -4,7 +4,6 @@ use Rattle.cli_commands.specs.declared.status.Status.{Status}
 use Rattle.cli_commands.specs.declared.status.Status.TheVariants as statuses
 use Rattle.cli_hosts.specs.declared.settling.Settled.{Settled}
 use Rattle.cli_hosts.specs.declared.settling.Settled.TheVariants.{Answered, Failed, Starved}
-use Rattle.cli_hosts.specs.Words.{Word, settled_of}
 use Rattle.host_server.specs.declared.asked.Asked.{Asked}
 use Rattle.host_server.specs.declared.tally.Tally.{Tally}
 
@@ -21,9 +20,9 @@ counted tally Failed = record tally { settled = one_more tally.settled; has_fail
 counted tally Starved = record tally { settled = one_more tally.settled; has_starved = true }
 
 -- terminals in turn
-abbrev pub tally_after : Tally → List (ℕ × Word) → Tally
+abbrev pub tally_after : Tally → List Settled → Tally
 tally_after tally [] = tally
-tally_after tally (one ∷ told) = tally_after (counted tally (settled_of one.1)) told
+tally_after tally (settled ∷ others) = tally_after (counted tally settled) others
 
 abbrev pub has_answers : Asked → Tally → Bool
 has_answers asked tally = nat_lt 0 asked.answers && nat_le asked.answers tally.answered

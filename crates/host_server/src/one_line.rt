@@ -1,6 +1,8 @@
 //! One terminal's line: its stream, as far as it goes without a wait.
 
-use cli_hosts::{Hosted, Hub, Stand};
+ghost use Rattle.std.specs.Prelude.{◌≡◌};
+
+use cli_hosts::{Hosts, Stand};
 use mio::net::TcpStream;
 use std::alloc::Global;
 use std::io::{ErrorKind, Read, Write};
@@ -19,15 +21,17 @@ enum Wrote {
 }
 
 /// Writes what is due to the terminal of a token, once.
-fn write_due(stream: &mut TcpStream, hub: &mut Hub<Hosted<'_>>, token: usize) -> Wrote {
-    let due = hub.due(token);
+fn write_due<H: Hosts>(stream: &mut TcpStream, hosts: &mut H, token: usize) -> Wrote
+    ensures { H.content hosts.new ≡ H.content hosts.old }
+{
+    let due = hosts.due(token);
     if due.is_empty() {
         return Wrote::Waits;
     }
     match stream.write(due) {
         Ok(0) => Wrote::Failed,
         Ok(count) => {
-            hub.send(token, count);
+            hosts.send(token, count);
             Wrote::Some
         }
         Err(error) => match error.kind() {
@@ -49,28 +53,30 @@ enum Came {
 }
 
 /// Reads what came of the terminal of a token, once.
-fn read_some(
+fn read_some<H: Hosts>(
     alloc: Global,
     stream: &mut TcpStream,
-    hub: &mut Hub<Hosted<'_>>,
+    hosts: &mut H,
     token: usize,
     now: u64,
     buffer: &mut [u8],
-) -> Came {
+) -> Came
+    ensures { H.content hosts.new ≡ H.content hosts.old }
+{
     match stream.read(buffer) {
         Ok(0) => {
-            hub.close(token);
+            hosts.close(token);
             Came::Ended
         }
         Ok(count) => {
-            hub.hear(alloc, token, now, &buffer[..count]);
+            hosts.hear(alloc, token, now, &buffer[..count]);
             Came::Some
         }
         Err(error) => match error.kind() {
             ErrorKind::WouldBlock => Came::Nothing,
             ErrorKind::Interrupted => Came::Some,
             _ => {
-                hub.break_off(token);
+                hosts.break_off(token);
                 Came::Ended
             }
         },
@@ -78,33 +84,35 @@ fn read_some(
 }
 
 /// Whether the session of a token goes on, so that more is read.
-fn goes(hub: &Hub<Hosted<'_>>, token: usize) -> bool {
-    matches!(hub.stand(token), Some(Stand::Goes))
+fn goes<H: Hosts>(hosts: &H, token: usize) -> bool {
+    matches!(hosts.stand(token), Some(Stand::Goes))
 }
 
 /// Writes and reads the line of a token until it would block, or has ended: whether it may have more to do, and is to be looked
 /// at again.
-pub(crate) fn work_line(
+pub(crate) fn work_line<H: Hosts>(
     alloc: Global,
     stream: &mut TcpStream,
-    hub: &mut Hub<Hosted<'_>>,
+    hosts: &mut H,
     token: usize,
     now: u64,
     buffer: &mut [u8],
-) -> bool {
+) -> bool
+    ensures { H.content hosts.new ≡ H.content hosts.old }
+{
     for _ in 0..MOST_STEPS {
-        match write_due(stream, hub, token) {
+        match write_due(stream, hosts, token) {
             Wrote::Some => continue,
             Wrote::Waits => {}
             Wrote::Failed => {
-                hub.break_off(token);
+                hosts.break_off(token);
                 return false;
             }
         }
-        if !goes(hub, token) {
+        if !goes(hosts, token) {
             return false;
         }
-        match read_some(alloc, stream, hub, token, now, buffer) {
+        match read_some(alloc, stream, hosts, token, now, buffer) {
             Came::Some => {}
             Came::Nothing | Came::Ended => return false,
         }

@@ -2,17 +2,16 @@
 //! event waits.
 
 ghost use Rattle.std.specs.Prelude.{◌≡◌, IfOk};
-ghost use Rattle.host_server.specs.Serving.{serving, is_done, Serves, EndsSo, ServesAll};
+ghost use Rattle.host_server.specs.Serving.{serving, is_done, Keeps, Serves, EndsSo, ServesAll};
 
 use crate::asked::Asked;
 use crate::one_line::work_line;
 use crate::tally::Tally;
 use cli_commands::{Status, TakesBytes};
-use cli_hosts::{Hosted, Hub, host_limits, open_host, settle};
+use cli_hosts::Hosts;
 use cli_sessions::Output;
 use mio::net::{TcpListener, TcpStream};
 use mio::{Events, Interest, Poll, Token};
-use scr_layout::Layout;
 use std::alloc::{AllocError, Global};
 use std::io;
 use std::marker::Model;
@@ -33,14 +32,12 @@ const MOST_READ: usize = 4_096;
 
 /// A port, and the terminals that came to it.
 #[derive(Drop)]
-pub struct Server<'a> {
+pub struct Server<H: Hosts> {
     poll: Poll,
     listener: TcpListener,
     /// Whether a terminal may wait that was not accepted.
     may_accept: bool,
-    hub: Hub<Hosted<'a>>,
-    layout: &'a Layout,
-    records: &'a [&'a [u8]],
+    hosts: H,
     /// The lines by token.
     lines: Vec<Option<TcpStream>>,
     open: u16,
@@ -51,13 +48,13 @@ pub struct Server<'a> {
     has_refused: bool,
 }
 
-impl<'a> Model for Server<'a> {
+impl<H: Hosts> Model for Server<H> {
     ghost use Rattle.host_server.specs.Serving.{Serving};
 
-    ghost Value = { Serving };
+    ghost Value = { Serving H };
 
     ghost view = { λ s. record {
-      entries = s.layout.now.entries;
+      hosts = s.hosts;
       asked = s.asked;
       tally = s.tally;
     } };
@@ -111,8 +108,8 @@ fn drop_line(lines: &mut [Option<TcpStream>], token: usize) {
     }
 }
 
-impl<'a> Server<'a> {
-    /// Listens at a place, to serve a screen.
+impl<H: Hosts> Server<H> {
+    /// Listens at a place, for hosts to whom no terminal came.
     ///
     /// # Errors
     ///
@@ -122,24 +119,20 @@ impl<'a> Server<'a> {
         alloc: Global,
         host: &str,
         port: u16,
-        layout: &'a Layout,
-        records: &'a [&'a [u8]],
+        hosts: H,
         asked: Asked,
-    ) -> io::Result<Server<'a>>
-        ensures { IfOk result (λ server. server ≡ serving layout.now.entries asked) }
+    ) -> io::Result<Server<H>>
+        ensures { IfOk result (λ server. server ≡ serving hosts asked) }
     {
         let poll = Poll::new(rt)?;
         let mut listener = listen(rt, host, port)?;
         poll.registry()
             .register(&mut listener, LISTENER, Interest::READABLE)?;
-        let patience = u64::from(asked.idle) * 1_000;
         Ok(Server {
             poll,
             listener,
             may_accept: false,
-            hub: Hub::new(alloc, host_limits(records, patience)),
-            layout,
-            records,
+            hosts,
             lines: Vec::new(alloc),
             open: 0,
             asked,
@@ -165,17 +158,17 @@ impl<'a> Server<'a> {
 
     /// Whether another terminal is served beside those that are there.
     fn has_room(&self) -> bool {
-        self.open < self.asked.at_once.max(1) && self.hub.came() < self.most()
+        self.open < self.asked.at_once.max(1) && self.hosts.came() < self.most()
     }
 
     /// A terminal came.
     fn open(&mut self, alloc: Global, now: u64, mut stream: TcpStream)
-        ensures { self.new ≡ self.old }
+        ensures { Keeps H.content self.old self.new }
     {
-        if self.hub.came() >= self.most() {
+        if self.hosts.came() >= self.most() {
             return;
         }
-        let Ok(token) = open_host(alloc, &mut self.hub, self.layout, self.records, now) else {
+        let Some(token) = self.hosts.open(alloc, now) else {
             self.has_refused = true;
             return;
         };
@@ -183,13 +176,13 @@ impl<'a> Server<'a> {
         let is_kept = register(&self.poll, &mut stream, token)
             && keep(&mut self.lines, token, stream).is_ok();
         if !is_kept {
-            self.hub.break_off(token);
+            self.hosts.break_off(token);
         }
     }
 
     /// Accepts the terminals that wait, where any may, as long as there is room.
     fn accept_all(&mut self, alloc: Global, now: u64)
-        ensures { self.new ≡ self.old }
+        ensures { Keeps H.content self.old self.new }
     {
         for _ in 0..MOST_EVENTS {
             if !self.may_accept || !self.has_room() {
@@ -209,15 +202,15 @@ impl<'a> Server<'a> {
 
     /// Works a line as far as it goes now.
     fn work(&mut self, alloc: Global, token: usize, now: u64, buffer: &mut [u8])
-        ensures { self.new ≡ self.old }
+        ensures { Keeps H.content self.old self.new }
     {
         let Some(Some(stream)) = self.lines.get_mut(token) else {
             return;
         };
-        if work_line(alloc, stream, &mut self.hub, token, now, buffer)
+        if work_line(alloc, stream, &mut self.hosts, token, now, buffer)
             && !register_again(&self.poll, stream, token)
         {
-            self.hub.break_off(token);
+            self.hosts.break_off(token);
         }
     }
 
@@ -228,9 +221,9 @@ impl<'a> Server<'a> {
         token: usize,
         output: &mut Output<W>,
     ) -> Result<(), Status>
-        ensures { Serves self.old self.new output.old output.new result }
+        ensures { Serves H.content H.IsTold self.old self.new output.old output.new result }
     {
-        let settled = settle(alloc, &mut self.hub, self.layout, token, output)?;
+        let settled = self.hosts.settle(alloc, token, output)?;
         if let Some(settled) = settled {
             drop_line(self.lines.as_mut_slice(), token);
             self.open = self.open.saturating_sub(1);
@@ -246,9 +239,9 @@ impl<'a> Server<'a> {
         now: u64,
         output: &mut Output<W>,
     ) -> Result<(), Status>
-        ensures { Serves self.old self.new output.old output.new result }
+        ensures { Serves H.content H.IsTold self.old self.new output.old output.new result }
     {
-        self.hub.tick(now);
+        self.hosts.tick(now);
         for token in 0..self.lines.len() {
             if self.is_done() {
                 break;
@@ -269,7 +262,7 @@ impl<'a> Server<'a> {
         buffer: &mut [u8],
         output: &mut Output<W>,
     ) -> Result<(), Status>
-        ensures { Serves self.old self.new output.old output.new result }
+        ensures { Serves H.content H.IsTold self.old self.new output.old output.new result }
     {
         for event in events {
             match event.token() {
@@ -298,7 +291,7 @@ impl<'a> Server<'a> {
         buffer: &mut [u8],
         output: &mut Output<W>,
     ) -> Result<(), Status>
-        ensures { Serves self.old self.new output.old output.new result }
+        ensures { Serves H.content H.IsTold self.old self.new output.old output.new result }
     {
         if let Err(status) = self.take_events(alloc, events, now, buffer, output) {
             return Err(status);
@@ -325,9 +318,9 @@ fn time<R: Clock>(rt: &R, begun: Instant) -> io::Result<u64> {
 }
 
 /// Waits for the next events, and tells the time.
-fn wait<R: Clock>(
+fn wait<R: Clock, H: Hosts>(
     rt: &R,
-    server: &mut Server<'_>,
+    server: &mut Server<H>,
     events: &mut Events<Global>,
     begun: Instant,
 ) -> io::Result<u64>
@@ -346,13 +339,13 @@ fn wait<R: Clock>(
 /// # Errors
 ///
 /// One of the wait itself, or of the clock.
-pub fn serve_all<R: Clock, W: TakesBytes>(
+pub fn serve_all<R: Clock, H: Hosts, W: TakesBytes>(
     rt: &R,
     alloc: Global,
-    server: &mut Server<'_>,
+    server: &mut Server<H>,
     output: &mut Output<W>,
 ) -> io::Result<Status>
-    ensures { ServesAll server.old output.old output.new result }
+    ensures { ServesAll H.content H.IsTold server.old output.old output.new result }
 {
     let Ok(mut events) = Events::with_capacity(alloc, MOST_EVENTS) else {
         return Err(io::Error::from(io::ErrorKind::OutOfMemory));

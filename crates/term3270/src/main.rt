@@ -9,6 +9,7 @@ mod file;
 mod help;
 mod manners;
 mod many;
+mod offers;
 mod prompt;
 mod reasons;
 mod reports;
@@ -203,6 +204,9 @@ fn run(rt: &HostRuntime, asked: Asked<'_>, matches: &ArgMatches<'_>) -> Status {
         return status;
     }
     if let Some(status) = convert(rt, asked, matches) {
+        return status;
+    }
+    if let Some(status) = offers::serve(rt, matches) {
         return status;
     }
     match connect(rt, asked) {

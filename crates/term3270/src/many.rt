@@ -8,6 +8,7 @@ ghost use Rattle.term3270.specs.Sessions.{ServesManyPrepared};
 use crate::manners::tell_listening;
 use crate::tcp::Place;
 use cli_commands::{GivesBytes, Status, TakesBytes, finish};
+use cli_hosts::ScreenHosts;
 use cli_sessions::{Output, Prepared, Screen, prepare_serve};
 use cli_words::Many;
 use host_server::{Asked, Server, serve_all};
@@ -25,7 +26,7 @@ fn lent<'a>(alloc: Global, records: &'a [Vec<u8>]) -> Result<Vec<&'a [u8]>, Allo
 }
 
 /// What the words of the command line ask of a server.
-fn asked_of(many: Many) -> Asked {
+pub(crate) fn asked_of(many: Many) -> Asked {
     let Many {
         count,
         at_once,
@@ -51,8 +52,9 @@ fn serve_screen<W: TakesBytes>(
         return Status::NoMemory;
     };
     let Place { host, port } = place;
-    let (layout, records) = (&screen.layout, records.as_slice());
-    let mut server = match Server::at(rt, rt.alloc(), host, port, layout, records, asked_of(many)) {
+    let patience = u64::from(many.idle) * 1_000;
+    let hosts = ScreenHosts::new(rt.alloc(), &screen.layout, records.as_slice(), patience);
+    let mut server = match Server::at(rt, rt.alloc(), host, port, hosts, asked_of(many)) {
         Ok(server) => server,
         Err(error) => return place.report(rt, &error),
     };

@@ -25,7 +25,7 @@ struct Disk<'a> {
 }
 
 /// The bytes of a file of the disk, up to one more than an input can have. That it can't be read is said.
-fn read_file(rt: &HostRuntime, path: &str) -> Result<Vec<u8>, CommandError> {
+pub(crate) fn read_file(rt: &HostRuntime, path: &str) -> Result<Vec<u8>, CommandError> {
     let stream = FileAt {
         rt,
         path,
@@ -91,7 +91,7 @@ fn record_lines(kind: Kind) -> Option<Lines> {
 }
 
 /// Why a text of such lines is refused, in the input of a name, where it is.
-fn heard(alloc: Global, lines: Lines, name: &str, text: &[u8]) -> Option<String> {
+pub(crate) fn heard(alloc: Global, lines: Lines, name: &str, text: &[u8]) -> Option<String> {
     let mut ear = Ear::new(alloc, lines);
     ear.hear(text);
     ear.sentence(name)
@@ -141,7 +141,7 @@ impl Disk<'_> {
 }
 
 /// The folder of a file, with its last slash.
-fn folder_of(path: &str) -> &str {
+pub(crate) fn folder_of(path: &str) -> &str {
     match path.rfind('/') {
         Some(slash) => match path.get(..slash.saturating_add(1)) {
             Some(folder) => folder,

@@ -1,0 +1,4 @@
+mod Keys
+mod Rows
+mod Loop
+mod Texts

@@ -1,0 +1,90 @@
+//! The manifest of an application, read from TOML.
+
+ghost use Rattle.std.specs.Prelude.{◌≡◌, MatchOption, true, false};
+ghost use Rattle.std.specs.Str.{is_utf8};
+ghost use Rattle.toml.specs.View.{table_view};
+ghost use Rattle.cli_applications.specs.Results.{Gives, Tells};
+ghost use Rattle.cli_applications.specs.Manifest.{declaration_of, first_of, manifest_in, manifest_of, table_of};
+
+use crate::fault::{ManifestError, ManifestFault, ManifestKey, Why};
+use crate::plan::{index_of, plans_from};
+use crate::screen::{Manifest, NamedScreen};
+use crate::tables::screens_at;
+use crate::values::{needed_text, with_only};
+use crate::led::with_ways;
+use std::alloc::Global;
+use toml::Table;
+
+const TOP_KEYS: [ManifestKey; 2] = [ManifestKey::Start, ManifestKey::Screen];
+
+/// The number of the screen that is shown first.
+fn first_of(name: &str, screens: &[NamedScreen]) -> Result<usize, ManifestFault>
+    ensures { Tells (λ first. first) result (first_of name.now screens.now) }
+{
+    match index_of(name, screens) {
+        Some(first) => Ok(first),
+        None => Err(ManifestFault::at_key(ManifestKey::Start, Why::NoSuchScreen)),
+    }
+}
+
+#[tactic(auto, unfolding(crate::specs::Manifest::declaration_of))]
+fn declaration_of(alloc: Global, table: &Table) -> Result<Manifest, ManifestError>
+    ensures { Gives (λ manifest. manifest) result (declaration_of (table_view table.now)) }
+{
+    let top = with_only(&TOP_KEYS, table)?;
+    let start = needed_text(alloc, ManifestKey::Start, top)?;
+    let named = screens_at(alloc, top)?;
+    let first = first_of(start.as_str(), named.as_slice())?;
+    let plans = plans_from(alloc, named.as_slice())?;
+    let screens = with_ways(first, plans)?;
+    Ok(Manifest { first, screens })
+}
+
+/// The table that a text is, by TOML.
+fn table_of(alloc: Global, text: &str) -> Result<Table, ManifestError>
+    ensures { Gives table_view result (table_of text.now) }
+{
+    match toml::table_from_str(alloc, text) {
+        Ok(table) => Ok(table),
+        Err(error) => {
+            if error.is_memory() {
+                Err(ManifestError::OutOfMemory)
+            } else {
+                Err(ManifestError::Refused(ManifestFault::not_toml()))
+            }
+        }
+    }
+}
+
+fn manifest_of(alloc: Global, text: &str) -> Result<Manifest, ManifestError>
+    ensures { Gives (λ manifest. manifest) result (manifest_of text.now) }
+{
+    let table = table_of(alloc, text)?;
+    declaration_of(alloc, &table)
+}
+
+/// The text that bytes are, if it is UTF-8.
+fn text_in(bytes: &[u8]) -> Option<&str>
+    ensures { MatchOption result (is_utf8 bytes.now ≡ false) (λ text. (text.now
+        ≡ bytes.now) × (is_utf8 bytes.now ≡ true)) }
+{
+    match str::from_utf8(bytes) {
+        Ok(text) => Some(text),
+        Err(_) => None,
+    }
+}
+
+/// The manifest of an application that bytes are.
+///
+/// # Errors
+///
+/// The first refusal: of the keys at the top and of the text of `start`, of each screen in turn, of the screen that is first, of
+/// where the keys of each screen lead, of a screen to which no other one leads; out of memory.
+pub fn manifest_in(alloc: Global, text: &[u8]) -> Result<Manifest, ManifestError>
+    ensures { Gives (λ manifest. manifest) result (manifest_in text.now) }
+{
+    match text_in(text) {
+        Some(text) => manifest_of(alloc, text),
+        None => Err(ManifestError::Refused(ManifestFault::not_toml())),
+    }
+}
