@@ -3,10 +3,3 @@ pub mod Fault
 pub mod Results
 pub mod Values
 pub mod Manifest
-pub mod Ways
-pub mod Sources
-pub mod Held
-pub mod Judging
-pub mod Prepare
-pub mod Outcome
-pub mod Any

@@ -166,8 +166,8 @@ impl ManifestFault {
         }
     }
 
-    /// A key at fault, at the top or in a screen that `in_screen` numbers.
-    pub(crate) fn at_key(key: ManifestKey, why: Why) -> ManifestFault
+    /// A key at fault, at the top, or in a screen that [`in_screen`](ManifestFault::in_screen) numbers.
+    pub fn at_key(key: ManifestKey, why: Why) -> ManifestFault
         ensures { result ≡ at_key key why }
     {
         ManifestFault {
@@ -178,7 +178,7 @@ impl ManifestFault {
     }
 
     /// The same in the screen of this number.
-    pub(crate) fn in_screen(self, index: usize) -> ManifestFault
+    pub fn in_screen(self, index: usize) -> ManifestFault
         ensures { result ≡ in_screen index self }
     {
         ManifestFault {

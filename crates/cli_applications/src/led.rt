@@ -18,7 +18,7 @@ fn shows(index: usize, next: Next) -> bool
 }
 
 /// Whether a key leads to the screen of this number.
-pub(crate) fn leads_to(leads: &[Lead], index: usize) -> bool
+pub fn leads_to(leads: &[Lead], index: usize) -> bool
     ensures { result ≡ leads_to leads.now index }
 {
     leads.iter().any(|lead| shows(index, lead.next))

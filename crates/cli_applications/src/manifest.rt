@@ -7,11 +7,11 @@ ghost use Rattle.cli_applications.specs.Results.{Gives, Tells};
 ghost use Rattle.cli_applications.specs.Manifest.{declaration_of, first_of, manifest_in, manifest_of, table_of};
 
 use crate::fault::{ManifestError, ManifestFault, ManifestKey, Why};
+use crate::led::with_ways;
 use crate::plan::{index_of, plans_from};
 use crate::screen::{Manifest, NamedScreen};
 use crate::tables::screens_at;
 use crate::values::{needed_text, with_only};
-use crate::led::with_ways;
 use std::alloc::Global;
 use toml::Table;
 

@@ -1,9 +1,8 @@
 //! A screen of a manifest.
 
+use crate::fault::ManifestKey;
 use std::marker::Model;
 use tn_dialogue::Lead;
-
-use crate::fault::ManifestKey;
 
 /// A key, and the name of where it leads.
 #[derive(Debug, Drop)]

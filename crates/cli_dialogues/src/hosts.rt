@@ -77,7 +77,10 @@ impl<'a> Hosts for DialogueHosts<'a> {
         if self.hub.came() == u64::MAX {
             return None;
         }
-        open_dialogue(alloc, &mut self.hub, self.application, now).ok()
+        let Ok(token) = open_dialogue(alloc, &mut self.hub, self.application, now) else {
+            return None;
+        };
+        Some(token)
     }
 
     fn hear(&mut self, alloc: Global, token: usize, now: u64, bytes: &[u8]) {

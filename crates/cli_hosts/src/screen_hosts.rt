@@ -1,7 +1,6 @@
 //! Hosts of one screen.
 
-ghost use Rattle.std.specs.Prelude.{◌≡◌};
-ghost use Rattle.cli_hosts.specs.Screens.{screen_hosting};
+ghost use Rattle.std.specs.Prelude.{◌≡◌, []};
 
 use crate::hosted::{Hosted, host_limits, open_host};
 use crate::hosts::Hosts;
@@ -83,7 +82,10 @@ impl<'a> Hosts for ScreenHosts<'a> {
         if self.hub.came() == u64::MAX {
             return None;
         }
-        open_host(alloc, &mut self.hub, self.layout, self.records, now).ok()
+        let Ok(token) = open_host(alloc, &mut self.hub, self.layout, self.records, now) else {
+            return None;
+        };
+        Some(token)
     }
 
     fn hear(&mut self, alloc: Global, token: usize, now: u64, bytes: &[u8]) {

@@ -324,7 +324,7 @@ fn wait<R: Clock, H: Hosts>(
     events: &mut Events<Global>,
     begun: Instant,
 ) -> io::Result<u64>
-    ensures { server.new ≡ server.old }
+    ensures { Keeps H.content server.old server.new }
 {
     server
         .poll

@@ -6,12 +6,10 @@ use crate::many::asked_of;
 use crate::reasons::{heard_file, told_first};
 use crate::suite::{folder_of, heard, read_file};
 use crate::tcp::Place;
-use cli_applications::{
-    Files, Manifest, ManifestError, PlannedScreen, Prepared, any_application, manifest_in,
-    prepare_application, refusal,
-};
+use cli_applications::{Manifest, ManifestError, PlannedScreen, manifest_in};
 use cli_commands::{Answer, CommandError, Status, finish};
 use cli_dialogues::{Application, DialogueHosts, Telling};
+use cli_offers::{Files, Prepared, any_application, prepare_application, refusal};
 use cli_reasons::Lines;
 use cli_sessions::{Output, Prepared as Served, Screen, prepare_serve};
 use clap::ArgMatches;

@@ -4,14 +4,17 @@
 mod of_bms_map;
 mod of_bms_source;
 mod of_buffer_lines;
+mod of_cli_applications;
 mod of_cli_binds;
 mod of_cli_buffers;
 mod of_cli_characters;
 mod of_cli_commands;
+mod of_cli_dialogues;
 mod of_cli_drafts;
 mod of_cli_findings;
 mod of_cli_hosts;
 mod of_cli_maps;
+mod of_cli_offers;
 mod of_cli_pictures;
 mod of_cli_reasons;
 mod of_cli_reports;

@@ -1,6 +1,7 @@
 //! The example of `host_server`.
 
 use cli_commands::{Status, TakesBytes};
+use cli_hosts::ScreenHosts;
 use cli_sessions::{Output, Screen};
 use host_server::{Asked, Server, serve_all};
 use std::alloc::Global;
@@ -22,6 +23,7 @@ fn serve_three<R: Net + Clock, W: TakesBytes>(
         answers: 0,
         idle: 60,
     };
-    let mut server = Server::at(rt, alloc, "127.0.0.1", 3270, &screen.layout, records, asked)?;
+    let hosts = ScreenHosts::new(alloc, &screen.layout, records, 60_000);
+    let mut server = Server::at(rt, alloc, "127.0.0.1", 3270, hosts, asked)?;
     serve_all(rt, alloc, &mut server, output)
 }
