@@ -19,14 +19,14 @@ abbrev pub name_of : Offered → ℕ → Option (List ℕ)
 name_of offered screen = slice_get offered.names screen
 
 -- one screen without a name, whose keys all lead to the end
-pub record IsOne (layout : Declaration) (reading : Reading) (records : List (List ℕ)) (telling : Telling) (offered : Offered) : Type 0 where
+pub record IsOne (sized : Declaration) (read : Reading) (sent : List (List ℕ)) (told : Telling) (offered : Offered) : Type 0 where
   pub screen : Screen
   pub only : offered.screens ≡ screen ∷ []
-  pub layout : screen.layout ≡ layout
-  pub reading : screen.reading ≡ reading
-  pub records : records_held screen.records.items ≡ records
+  pub layout : screen.layout ≡ sized
+  pub reading : screen.reading ≡ read
+  pub records : records_held screen.records.items ≡ sent
   pub leads : screen.leads.items ≡ []
   pub otherwise : screen.otherwise ≡ Ends
   pub names : offered.names ≡ []
   pub first : offered.first ≡ 0
-  pub telling : offered.telling ≡ telling
+  pub telling : offered.telling ≡ told

@@ -7,7 +7,7 @@ ghost use Rattle.session_hub.specs.Hubs.{At, Leaves, Steps, seat_at, ended_in};
 ghost use Rattle.tn_dialogue.specs.Answers.{answered_view};
 ghost use Rattle.cli_dialogues.specs.Answers.{answered_lines};
 ghost use Rattle.cli_dialogues.specs.Dialogues.{DialogueTakes};
-ghost use Rattle.cli_dialogues.specs.Lines.{PrintsDialogue, SettlesDialogue, dialogue_lines};
+ghost use Rattle.cli_dialogues.specs.Lines.{PrintsDialogue, SettlesDialogue, dialogue_lines, ended_lines, last_ended};
 
 use crate::answer::push_answered;
 use crate::application::Application;
@@ -54,6 +54,26 @@ fn lines_of(
     Ok(out)
 }
 
+/// The lines of a terminal that ended, and what ended it.
+fn ended_text(
+    alloc: Global,
+    application: &Application,
+    ended: Ended<Dialogue<'_>>,
+) -> Result<(String, Last), AllocError>
+    ensures text { IfOk result (λ p. string_bytes p.0 ≡ ended_lines application.now ended.entry) }
+    ensures last { IfOk result (λ p. p.1 ≡ last_ended ended.entry) }
+{
+    let Ended {
+        session,
+        number,
+        end,
+    } = ended;
+    let last = Last::of(session.fault(), session.is_done(), end);
+    let answers = session.into_answers(alloc);
+    let text = lines_of(alloc, application, number, answers.as_slice(), last)?;
+    Ok((text, last))
+}
+
 /// Writes the lines of a terminal that ended, and flushes. Else the status with which the command ends.
 fn print_ended<W: TakesBytes>(
     alloc: Global,
@@ -63,14 +83,7 @@ fn print_ended<W: TakesBytes>(
 ) -> Result<Settled, Status>
     ensures { PrintsDialogue application.now ended.entry output.old output.new result }
 {
-    let Ended {
-        session,
-        number,
-        end,
-    } = ended;
-    let last = Last::of(session.fault(), session.is_done(), end);
-    let answers = session.into_answers(alloc);
-    let Ok(text) = lines_of(alloc, application, number, answers.as_slice(), last) else {
+    let Ok((text, last)) = ended_text(alloc, application, ended) else {
         return Err(Status::NoMemory);
     };
     if print(alloc, output, text) {

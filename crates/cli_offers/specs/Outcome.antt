@@ -16,11 +16,11 @@ abbrev pub names_of : List Planned → List (List ℕ)
 names_of plans = map (λ plan. plan.name) plans
 
 -- the screens that were prepared, under their names
-pub record IsOf (declared : Declared) (files : List Files) (telling : Telling) (offered : Offered) : Type 0 where
+pub record IsOf (declared : Declared) (files : List Files) (told : Telling) (offered : Offered) : Type 0 where
   pub screens : prepare declared files ≡ Ok (scenes_held offered.screens)
   pub names : offered.names ≡ names_of declared.screens
   pub first : offered.first ≡ declared.first
-  pub telling : offered.telling ≡ telling
+  pub telling : offered.telling ≡ told
 
 abbrev pub PreparesApplication : Declared → List Files → Telling → Result Offered Stop → Type 0
 PreparesApplication declared files telling (Ok offered) = IsOf declared files telling offered

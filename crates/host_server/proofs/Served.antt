@@ -37,15 +37,15 @@ written_more before between after first others a b = (
 )
 
 pub settled_none : {H C : Type 0} (content : H → C) (IsTold : Telling C) (server : Serving H) (at : Printing) → Settled content IsTold server server at at
-settled_none content IsTold server at = record { went = []; told = tt; written = (appends_none at.written, refl); content = refl; asked = refl; tally = refl }
+settled_none content IsTold server at = record { went = []; told = tt; written = (appends_none at.written, refl); served = refl; asked = refl; tally = refl }
 
 pub settled_then : {H C : Type 0} (content : H → C) (IsTold : Telling C) (old mid new : Serving H) (before between after : Printing)
     → Settled content IsTold old mid before between → Settled content IsTold mid new between after → Settled content IsTold old new before after
 settled_then content IsTold old mid new before between after a b = record {
   went = a.went ++ b.went;
-  told = told_more (IsTold (content old.hosts)) a.went b.went a.told (told_on IsTold (content old.hosts) (content mid.hosts) b.went a.content b.told);
+  told = told_more (IsTold (content old.hosts)) a.went b.went a.told (told_on IsTold (content old.hosts) (content mid.hosts) b.went a.served b.told);
   written = written_more before between after a.went b.went a.written b.written;
-  content = b.content ∙ a.content;
+  served = b.served ∙ a.served;
   asked = b.asked ∙ a.asked;
   tally = b.tally ∙ ap (λ t. tally_after t (outcomes_of b.went)) a.tally ∙ sym (tally_more old.tally a.went b.went);
 }
@@ -68,7 +68,7 @@ pub stops_then : {H C : Type 0} (content : H → C) (IsTold : Telling C) (old mi
     → Settled content IsTold old mid before between → Stops (IsTold (content mid.hosts)) between after status → Stops (IsTold (content old.hosts)) before after status
 stops_then content IsTold old mid before between after status a b = (
   front_then (IsTold (content old.hosts)) before between after (prints_settled content IsTold old mid before between a)
-      (subst (λ c. PrintsFront (IsTold c) between after) a.content b.0),
+      (subst (λ c. PrintsFront (IsTold c) between after) a.served b.0),
   b.1,
 )
 
@@ -80,7 +80,7 @@ settles_one content IsTold old new before after outcome same asked tally (number
   went = record { number = number; outcome = outcome; text = text } ∷ [];
   told = (told, tt);
   written = (subst (Appends before.written after.written) (sym (append-nil text)) written.0, written.1);
-  content = same;
+  served = same;
   asked = asked;
   tally = tally;
 }
@@ -92,7 +92,7 @@ settles_nothing content IsTold old new before after same asked tally is = record
   went = [];
   told = tt;
   written = subst (λ p. IsPrinted before p [] true) (sym is) (appends_none before.written, refl);
-  content = same;
+  served = same;
   asked = asked;
   tally = tally;
 }
@@ -114,7 +114,7 @@ settled_kept content IsTold old mid new before after same a = record {
   went = a.went;
   told = a.told;
   written = a.written;
-  content = same.content ∙ a.content;
+  served = same.served ∙ a.served;
   asked = same.asked ∙ a.asked;
   tally = same.tally ∙ a.tally;
 }
@@ -123,3 +123,25 @@ pub serves_then : {H C A : Type 0} (content : H → C) (IsTold : Telling C) (old
     → Settled content IsTold old mid before between → Serves content IsTold mid new between after result → Serves content IsTold old new before after result
 serves_then content IsTold old mid new before between after (Ok done) a b = settled_then content IsTold old mid new before between after a b
 serves_then content IsTold old mid new before between after (Err status) a b = stops_then content IsTold old mid before between after status a b
+
+-- one terminal, of hosts that serve the same as before
+pub settles_some : {H C : Type 0} (content : H → C) (IsTold : Telling C) (old server : Serving H) (hosts : H) (before after : Printing) (found : Option Outcome) (outcome : Outcome) (tally : Tally)
+    → server ≡ old → found ≡ Some outcome → content hosts ≡ content server.hosts → tally ≡ counted server.tally outcome
+    → TellsOne (IsTold (content server.hosts)) before after (Ok found) → Settled content IsTold old (record server { hosts = hosts; tally = tally }) before after
+settles_some content IsTold old server hosts before after found outcome tally same some kept is tells =
+    subst (λ s. Settled content IsTold s (record server { hosts = hosts; tally = tally }) before after) same
+    (settles_one content IsTold server (record server { hosts = hosts; tally = tally }) before after outcome kept refl is
+    (subst (λ f. TellsOne (IsTold (content server.hosts)) before after (Ok f)) some tells))
+
+pub settles_none : {H C : Type 0} (content : H → C) (IsTold : Telling C) (old server : Serving H) (hosts : H) (before after : Printing) (found : Option Outcome)
+    → server ≡ old → found ≡ None → content hosts ≡ content server.hosts
+    → TellsOne (IsTold (content server.hosts)) before after (Ok found) → Settled content IsTold old (record server { hosts = hosts }) before after
+settles_none content IsTold old server hosts before after found same none kept tells =
+    subst (λ s. Settled content IsTold s (record server { hosts = hosts }) before after) same
+    (settles_nothing content IsTold server (record server { hosts = hosts }) before after kept refl refl
+    (subst (λ f. TellsOne (IsTold (content server.hosts)) before after (Ok f)) none tells))
+
+pub settles_stop : {H C : Type 0} (content : H → C) (IsTold : Telling C) (old server : Serving H) (before after : Printing) (status : Status)
+    → server ≡ old → TellsOne (IsTold (content server.hosts)) before after (Err status) → Stops (IsTold (content old.hosts)) before after status
+settles_stop content IsTold old server before after status same tells =
+    subst (λ s. Stops (IsTold (content s.hosts)) before after status) same (settles_stops (IsTold (content server.hosts)) before after status tells)

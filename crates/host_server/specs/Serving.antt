@@ -24,7 +24,7 @@ is_done server = is_done_by server.asked server.tally
 
 -- what is served, what is asked for and what was counted stay
 pub record Keeps {H C : Type 0} (content : H → C) (old new : Serving H) : Type 0 where
-  pub content : content new.hosts ≡ content old.hosts
+  pub served : content new.hosts ≡ content old.hosts
   pub asked : new.asked ≡ old.asked
   pub tally : new.tally ≡ old.tally
 
@@ -65,7 +65,7 @@ pub record Settled {H C : Type 0} (content : H → C) (IsTold : Telling C) (old 
   pub went : List Went
   pub told : AreTold (IsTold (content old.hosts)) went
   pub written : IsPrinted before after (texts_of went) true
-  pub content : content new.hosts ≡ content old.hosts
+  pub served : content new.hosts ≡ content old.hosts
   pub asked : new.asked ≡ old.asked
   pub tally : new.tally ≡ tally_after old.tally (outcomes_of went)
 

@@ -223,7 +223,10 @@ impl<H: Hosts> Server<H> {
     ) -> Result<(), Status>
         ensures { Serves H.content H.IsTold self.old self.new output.old output.new result }
     {
-        let settled = self.hosts.settle(alloc, token, output)?;
+        let settled = match self.hosts.settle(alloc, token, output) {
+            Ok(settled) => settled,
+            Err(status) => return Err(status),
+        };
         if let Some(settled) = settled {
             drop_line(self.lines.as_mut_slice(), token);
             self.open = self.open.saturating_sub(1);
