@@ -42,11 +42,16 @@ name_in (Some plan) = plan.name
 abbrev pub name_at : List Planned → ℕ → List ℕ
 name_at plans n = name_in (slice_get plans n)
 
+abbrev pub three_names : List ℕ → List ℕ → List ℕ → List ℕ
+three_names first second third = first ++ (codes " then " ++ (second ++ (codes " then " ++ third)))
+
 -- the screens of the way
+abbrev pub way_names : List Planned → Way → List ℕ
+way_names plans (Alone n) = name_at plans n
+way_names plans (Through p s n) = three_names (name_at plans p) (name_at plans s) (name_at plans n)
+
 abbrev pub way_line : List Planned → Way → List ℕ
-way_line plans (Alone n) = codes "screen " ++ (name_at plans n ++ codes "\n")
-way_line plans (Through p s n) =
-    codes "screen " ++ (name_at plans p ++ (codes " then " ++ (name_at plans s ++ (codes " then " ++ (name_at plans n ++ codes "\n")))))
+way_line plans way = codes "screen " ++ (way_names plans way ++ codes "\n")
 
 -- nothing of a yes
 abbrev pub lines_by : List ℕ → Status → List ℕ → List ℕ

@@ -1,12 +1,12 @@
 -- The files of an application's screens, and what they tell.
-use Rattle.std.specs.Prelude.{ℕ, ◌+◌, List, [], ◌∷◌, ◌++◌, codes, map, Option, Some, None, slice_get, Result, Ok, Err}
+use Rattle.std.specs.Prelude.{ℕ, ◌+◌, List, [], ◌∷◌, ◌++◌, codes, Option, Some, None, slice_get, Result, Ok, Err}
 use Rattle.cli_commands.specs.declared.fault.Fault.{Fault}
 use Rattle.cli_commands.specs.declared.input.sizes.SizeLine.TheVariants.{Refused}
 use Rattle.cli_commands.specs.declared.status.Status.TheVariants.{BadInput}
 use Rattle.cli_commands.specs.Fault.{fault_line}
 use Rattle.cli_commands.specs.LayoutText.{layout_in}
 use Rattle.cli_commands.specs.Printed.{Printed, printed}
-use Rattle.cli_commands.specs.Records.{Records, records_in}
+use Rattle.cli_commands.specs.Records.{records_in}
 use Rattle.scr_layout.specs.Layout.{Declaration}
 use Rattle.tn_dialogue.specs.declared.screen.Lead.{Lead}
 use Rattle.tn_dialogue.specs.declared.screen.Next.{Next}

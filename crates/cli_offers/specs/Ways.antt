@@ -55,9 +55,12 @@ is_over shown s n = not (is_erased shown n) && ((s == n) || leads_on (slice_get 
 abbrev pub all_of : Shown → List ℕ
 all_of shown = range_with_len 0 (length shown.plans)
 
+abbrev pub is_alone : Shown → ℕ → Bool
+is_alone shown n = (n == shown.first) || is_erased shown n
+
 -- each screen that begins with an erase by itself, and the first in any case
 abbrev pub alone_at : Shown → ℕ → List Way
-alone_at shown n = if (n == shown.first) || is_erased shown n then Alone n ∷ [] else []
+alone_at shown n = if is_alone shown n then Alone n ∷ [] else []
 
 abbrev pub third_at : Shown → ℕ → ℕ → ℕ → List Way
 third_at shown p s n = if is_over shown s n then Through p s n ∷ [] else []

@@ -2,13 +2,16 @@
 
 ghost use Rattle.std.specs.Prelude.{◌≡◌, IfOk};
 ghost use Rattle.std.specs.String.{string_bytes};
-ghost use Rattle.cli_offers.specs.Any.{OffersAny, addresses, larger, layout_text};
+ghost use Rattle.cli_commands.specs.Fault.{Gives};
+ghost use Rattle.cli_commands.specs.LayoutText.{layout_in};
+ghost use Rattle.cli_offers.specs.Any.{OffersAny, addresses, is_fit, larger, layout_text, screen_text, size_text, sizes_text};
 
 use crate::prepare::Prepared;
 use crate::sizes::{has_model, is_geometry, no_model};
 use cli_commands::{CommandError, SizeLine, layout_in, records_in};
 use cli_dialogues::{Application, Telling};
 use ds_codec::{Geometry, Mode, Size};
+use scr_layout::Layout;
 use std::alloc::{AllocError, Global};
 use tn_dialogue::Reading;
 
@@ -33,18 +36,55 @@ fn addresses(mode: Mode) -> u8
     }
 }
 
+/// A size, as a layout has it.
+fn size_text(alloc: Global, size: Size) -> Result<String, AllocError>
+    ensures { IfOk result (λ text. string_bytes text ≡ size_text size) }
+{
+    let Size { rows, cols } = size;
+    format!(in alloc; "{rows}x{cols}")
+}
+
+/// The lines of both sizes.
+fn sizes_text(alloc: Global, geometry: &Geometry) -> Result<String, AllocError>
+    ensures { IfOk result (λ text. string_bytes text ≡ sizes_text geometry.now) }
+{
+    let default = size_text(alloc, geometry.default_size())?;
+    let alternate = size_text(alloc, geometry.alternate_size())?;
+    format!(in alloc; "default = '{default}'\nalternate = '{alternate}'\n")
+}
+
+/// The lines of the size of the fields, and of the addresses.
+fn screen_text(alloc: Global, geometry: &Geometry) -> Result<String, AllocError>
+    ensures { IfOk result (λ text. string_bytes text ≡ screen_text geometry.now) }
+{
+    let screen = larger(geometry);
+    let bits = addresses(geometry.mode());
+    format!(in alloc; "screen = '{screen}'\naddresses = {bits}\n")
+}
+
 /// A layout of these sizes, without a field.
 fn layout_text(alloc: Global, geometry: &Geometry) -> Result<String, AllocError>
     ensures { IfOk result (λ text. string_bytes text ≡ layout_text geometry.now) }
 {
-    let Size { rows, cols } = geometry.default_size();
-    let other = geometry.alternate_size();
-    let (others, alternate) = (other.rows, other.cols);
-    let screen = larger(geometry);
-    let bits = addresses(geometry.mode());
-    format!(in alloc;
-        "default = '{rows}x{cols}'\nalternate = '{others}x{alternate}'\nscreen = '{screen}'\naddresses = {bits}\n"
-    )
+    let mut text = sizes_text(alloc, geometry)?;
+    let screen = screen_text(alloc, geometry)?;
+    text.push_str(screen.as_str())?;
+    Ok(text)
+}
+
+/// The layout of a terminal of these sizes.
+fn layout_of(alloc: Global, geometry: &Geometry) -> Result<Layout, CommandError>
+    ensures { Gives (λ layout. layout) result (layout_in (layout_text geometry.now)) }
+{
+    let text = layout_text(alloc, geometry)?;
+    layout_in(alloc, text.as_bytes())
+}
+
+/// Whether a layout is of these sizes, and some model has them.
+fn is_fit(layout: &Layout, geometry: &Geometry) -> bool
+    ensures { result ≡ is_fit geometry.now layout.now }
+{
+    is_geometry(layout, geometry) && has_model(layout)
 }
 
 /// The records of a text, whatever they are, as an application of one screen without a field, to which any answer will do. Its
@@ -57,9 +97,8 @@ pub fn any_application(alloc: Global, text: &[u8]) -> Result<Prepared, CommandEr
     ensures { OffersAny text.now result }
 {
     let told = records_in(alloc, text, SizeLine::Allowed)?;
-    let declared = layout_text(alloc, &told.geometry)?;
-    let layout = layout_in(alloc, declared.as_bytes())?;
-    if !is_geometry(&layout, &told.geometry) || !has_model(&layout) {
+    let layout = layout_of(alloc, &told.geometry)?;
+    if !is_fit(&layout, &told.geometry) {
         return Ok(Prepared::Stops(no_model(alloc)?));
     }
     let application = Application::of_one(

@@ -7,7 +7,7 @@ ghost use Rattle.cli_commands.specs.Fault.{Gives};
 ghost use Rattle.cli_commands.specs.Held.{answer_seen};
 ghost use Rattle.cli_commands.specs.Printed.{Printed};
 ghost use Rattle.cli_commands.specs.declared.fault.Fault.{Fault as AFault};
-ghost use Rattle.cli_offers.specs.Judging.{answer_of, layout_text, lines_by, lines_told, name_at, records_text, turn_line, way_line, way_lines, ways_text};
+ghost use Rattle.cli_offers.specs.Judging.{answer_of, layout_text, lines_by, lines_told, name_at, records_text, three_names, turn_line, way_line, way_lines, way_names, ways_text};
 
 use crate::sources::Files;
 use crate::ways::Way;
@@ -110,21 +110,38 @@ fn name_at(plans: &[PlannedScreen], index: usize) -> &str
     }
 }
 
+/// The names of three screens.
+fn push_three(out: &mut String, first: &str, second: &str, third: &str) -> Result<(), AllocError>
+    ensures { OnOk result (string_bytes out.new
+        ≡ string_bytes out.old ++ three_names first.now second.now third.now) }
+{
+    out.push_str(first)?;
+    out.push_str(" then ")?;
+    out.push_str(second)?;
+    out.push_str(" then ")?;
+    out.push_str(third)
+}
+
+/// The names of the screens of a way.
+fn push_names(out: &mut String, plans: &[PlannedScreen], way: Way) -> Result<(), AllocError>
+    ensures { OnOk result (string_bytes out.new
+        ≡ string_bytes out.old ++ way_names plans.now way) }
+{
+    match way {
+        Way::Alone(index) => out.push_str(name_at(plans, index)),
+        Way::Through(first, second, third) => {
+            let name = name_at(plans, first);
+            push_three(out, name, name_at(plans, second), name_at(plans, third))
+        }
+    }
+}
+
 /// The line that names the screens of a way.
 fn push_way(out: &mut String, plans: &[PlannedScreen], way: Way) -> Result<(), AllocError>
     ensures { OnOk result (string_bytes out.new ≡ string_bytes out.old ++ way_line plans.now way) }
 {
     out.push_str("screen ")?;
-    match way {
-        Way::Alone(index) => out.push_str(name_at(plans, index))?,
-        Way::Through(first, second, third) => {
-            out.push_str(name_at(plans, first))?;
-            out.push_str(" then ")?;
-            out.push_str(name_at(plans, second))?;
-            out.push_str(" then ")?;
-            out.push_str(name_at(plans, third))?;
-        }
-    }
+    push_names(out, plans, way)?;
     out.push_str("\n")
 }
 

@@ -3,7 +3,7 @@
 ghost use Rattle.std.specs.Prelude.{◌≡◌, ◌++◌, OnOk, IfOk, option_map, slice_get};
 ghost use Rattle.std.specs.List.{flat_map};
 ghost use Rattle.cli_commands.specs.Held.{records_held};
-ghost use Rattle.cli_offers.specs.Ways.{all_of, alone_at, erases, erases_at, erases_by, first_erases, is_erased, is_over, leads_on, over_at, second_at, third_at, ways};
+ghost use Rattle.cli_offers.specs.Ways.{all_of, alone_at, erases, erases_at, erases_by, first_erases, is_alone, is_erased, is_over, leads_on, over_at, second_at, third_at, ways};
 
 use cli_applications::{PlannedScreen, leads_to};
 use ds_codec::CommandCode;
@@ -77,13 +77,20 @@ impl<'a> Shown<'a> {
         !self.is_erased(to) && (from == to || self.leads_on(from, to))
     }
 
+    /// Whether a screen is judged by itself.
+    fn is_alone(&self, index: usize) -> bool
+        ensures { result ≡ is_alone self.now index }
+    {
+        index == self.first || self.is_erased(index)
+    }
+
     /// Adds the screens that are judged by themselves.
     fn push_alone(&self, ways: &mut Vec<Way>) -> Result<(), AllocError>
         ensures { OnOk result (ways.new.items ≡ ways.old.items
             ++ flat_map (alone_at self.now) (all_of self.now)) }
     {
         for index in 0..self.plans.len() {
-            if index == self.first || self.is_erased(index) {
+            if self.is_alone(index) {
                 ways.push(Way::Alone(index))?;
             }
         }
