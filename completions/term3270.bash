@@ -33,7 +33,8 @@ _term3270_values() { # OPTION
       _term3270_offer -W "$devices"
       ;;
     show--layout) _term3270_files '*.toml' ;;
-    check--records) _term3270_files '*.hex' ;;
+    check--records | serve--records) _term3270_files '*.hex' ;;
+    serve--turns) _term3270_files '*.toml' ;;
     show--map | check--map | draft--map) _term3270_files '*.bms' ;;
     serve--listen | tap--listen) _term3270_offer -A hostname ;;
     map--map | *--map-name | *--only | *--port | *--listen-port | *--count | *--at-once | serve--answers | *--idle | *--expect | *--timeout) ;;
@@ -66,7 +67,7 @@ _term3270_options() {
     draft) options='--turns --out --map --map-name --freekb --frset' ;;
     bind) options='--text --turns' ;;
     records) options='--from --answers --turns --turn --size --all' ;;
-    serve) options='--port --count --at-once --answers --idle --listen' ;;
+    serve) options='--turns --any --records --raw --port --count --at-once --answers --idle --listen' ;;
     attach) options='--strokes --port --device --tolerant --expect --timeout' ;;
     script) options='--device --code-page --layouts --report --report-format' ;;
     tap) options='--port --listen-port --listen --count --layouts --out' ;;

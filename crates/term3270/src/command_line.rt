@@ -411,8 +411,28 @@ const SESSIONS: &[Described<'_>] = &[
         arguments: &[
             Argument {
                 name: "LAYOUT",
-                takes: Takes::Operand,
+                takes: Takes::Optional,
                 help: LAYOUT_HELP,
+            },
+            Argument {
+                name: "turns",
+                takes: Takes::FileAlone(&["LAYOUT", "any"]),
+                help: "Serve the application of this manifest (docs/SESSIONS.md)",
+            },
+            Argument {
+                name: "any",
+                takes: Takes::NothingWith("records", &["LAYOUT"]),
+                help: "Serve records whatever they are, of which nothing is checked",
+            },
+            Argument {
+                name: "records",
+                takes: Takes::ValueWith("FILE", "any", &[]),
+                help: "With --any: the records, and the sizes if a line 'size' comes first",
+            },
+            Argument {
+                name: "raw",
+                takes: Takes::Nothing,
+                help: "Print the bytes of each answer too, as 'sent HEX'",
             },
             Argument {
                 name: "port",

@@ -221,11 +221,12 @@ Statuses:
   0 done, 2 bad input, 3 a read or a write failed, 4 out of memory";
 
 pub(crate) const SERVE: &str = "Input:
-  A layout and records as for check. They are checked first, and a model must have the layout's sizes.
+  A layout and records as for check. They are checked first, and a model must have the layout's sizes. With
+  --turns the manifest of an application of several screens, with --any records of which nothing is checked.
 
 Output:
   'terminal K aid XX' for each terminal, counted from 1, and 'NAME HEX' for each field that it sent; or
-  'terminal K fault' and the fault's number (docs/SESSIONS.md).
+  'terminal K fault' and the fault's number (docs/SESSIONS.md). With --turns 'terminal K screen NAME aid XX'.
 
 Example:
   $ term3270 serve examples/signon.toml --port 3270 --count 1 < examples/signon.hex

@@ -10,6 +10,7 @@ mod help;
 mod last_files;
 mod manners;
 mod many;
+mod offers;
 mod prompt;
 mod reasons;
 mod reports;
@@ -205,6 +206,9 @@ fn run(rt: &HostRuntime, asked: Asked<'_>, matches: &ArgMatches<'_>) -> Status {
         return status;
     }
     if let Some(status) = convert(rt, asked, matches) {
+        return status;
+    }
+    if let Some(status) = offers::serve(rt, matches) {
         return status;
     }
     match connect(rt, asked) {

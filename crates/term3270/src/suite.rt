@@ -39,7 +39,7 @@ fn text_at(rt: &HostRuntime, path: &str) -> io::Result<Vec<u8>> {
 }
 
 /// The bytes of a file of the disk, up to one more than an input can have. That it can't be read is said.
-fn read_file(rt: &HostRuntime, path: &str) -> Result<Vec<u8>, CommandError> {
+pub(crate) fn read_file(rt: &HostRuntime, path: &str) -> Result<Vec<u8>, CommandError> {
     match text_at(rt, path) {
         Ok(text) => Ok(text),
         Err(error) => {
@@ -108,7 +108,7 @@ fn record_lines(kind: Kind) -> Option<Lines> {
 }
 
 /// Why a text of such lines is refused, in the input of a name, where it is.
-fn heard(alloc: Global, lines: Lines, name: &str, text: &[u8]) -> Option<String> {
+pub(crate) fn heard(alloc: Global, lines: Lines, name: &str, text: &[u8]) -> Option<String> {
     let mut ear = Ear::new(alloc, lines);
     ear.hear(text);
     ear.sentence(name)
@@ -174,7 +174,7 @@ impl Disk<'_> {
 }
 
 /// The folder of a file, with its last slash.
-fn folder_of(path: &str) -> &str {
+pub(crate) fn folder_of(path: &str) -> &str {
     match path.rfind('/') {
         Some(slash) => match path.get(..slash.saturating_add(1)) {
             Some(folder) => folder,

@@ -14,6 +14,7 @@ mod of_cli_drafts;
 mod of_cli_findings;
 mod of_cli_hosts;
 mod of_cli_maps;
+mod of_cli_offers;
 mod of_cli_pictures;
 mod of_cli_reasons;
 mod of_cli_reports;

@@ -1,0 +1,7 @@
+pub mod Ways
+pub mod Sources
+pub mod Held
+pub mod Judging
+pub mod Prepare
+pub mod Outcome
+pub mod Any

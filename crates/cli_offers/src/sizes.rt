@@ -1,0 +1,106 @@
+//! The sizes of the screens of an application, which are those of one terminal.
+
+ghost use Rattle.std.specs.Prelude.{◌≡◌, IfOk, slice_get};
+ghost use Rattle.cli_commands.specs.Held.{answer_seen};
+ghost use Rattle.cli_commands.specs.Talk.{is_geometry, modes_equal, sizes_equal};
+ghost use Rattle.cli_sessions.specs.Prepare.{has_model};
+ghost use Rattle.cli_offers.specs.Held.{Reads, scene_seen, scenes_held};
+ghost use Rattle.cli_offers.specs.Prepare.{no_model, other_from, sized_as, unless_other, with_model};
+
+use crate::sources::{Stop, refusal};
+use cli_applications::{ManifestFault, ManifestKey, Why};
+use cli_commands::{Answer, Status};
+use ds_codec::{Geometry, Mode, Size};
+use scr_layout::Layout;
+use std::alloc::{AllocError, Global};
+use tn_cores::HostCore;
+use tn_dialogue::Screen;
+
+fn sizes_equal(a: Size, b: Size) -> bool
+    ensures { result ≡ sizes_equal a b }
+{
+    a.rows == b.rows && a.cols == b.cols
+}
+
+fn modes_equal(a: Mode, b: Mode) -> bool
+    ensures { result ≡ modes_equal a b }
+{
+    match (a, b) {
+        (Mode::Bits14, Mode::Bits14) | (Mode::Bits16, Mode::Bits16) => true,
+        (Mode::Bits14, Mode::Bits16) | (Mode::Bits16, Mode::Bits14) => false,
+    }
+}
+
+/// Whether a layout is for a terminal of this geometry.
+pub(crate) fn is_geometry(layout: &Layout, geometry: &Geometry) -> bool
+    ensures { result ≡ is_geometry layout.now.geometry geometry.now }
+{
+    let other = layout.geometry();
+    sizes_equal(other.default_size(), geometry.default_size())
+        && sizes_equal(other.alternate_size(), geometry.alternate_size())
+        && modes_equal(other.mode(), geometry.mode())
+}
+
+/// The first screen whose layout is for a terminal of another geometry.
+fn other(screens: &[Screen], geometry: &Geometry) -> Option<usize>
+    ensures { result ≡ other_from geometry.now 0 (scenes_held screens.now) }
+{
+    for (index, screen) in screens.iter().enumerate() {
+        if !is_geometry(&screen.layout, geometry) {
+            return Some(index);
+        }
+    }
+    None
+}
+
+/// That no screen is for another terminal.
+fn unless_other(alloc: Global, other: Option<usize>) -> Result<(), Stop>
+    ensures { Reads (λ done. done) result (unless_other other) }
+{
+    match other {
+        None => Ok(()),
+        Some(index) => {
+            let fault = ManifestFault::at_key(ManifestKey::Layout, Why::OtherSizes);
+            Err(Stop::Answers(refusal(alloc, fault.in_screen(index))?))
+        }
+    }
+}
+
+/// Whether some model of the 3278 has the layout's two sizes.
+pub(crate) fn has_model(layout: &Layout) -> bool
+    ensures { result ≡ has_model layout.now.geometry }
+{
+    HostCore::new(layout, true, true).is_ok()
+}
+
+pub(crate) fn no_model(alloc: Global) -> Result<Answer, AllocError>
+    ensures { IfOk result (λ answer. answer_seen answer ≡ no_model) }
+{
+    Ok(Answer {
+        text: String::from_str(alloc, "no model has these sizes\n")?,
+        status: Status::BadInput,
+    })
+}
+
+/// That some model has a layout's sizes.
+fn with_model(alloc: Global, has: bool) -> Result<(), Stop>
+    ensures { Reads (λ done. done) result (with_model has) }
+{
+    if has {
+        Ok(())
+    } else {
+        Err(Stop::Answers(no_model(alloc)?))
+    }
+}
+
+/// That all screens are of the sizes of the one of this number, and some model has them.
+pub(crate) fn sized_as(alloc: Global, screens: &[Screen], first: usize) -> Result<(), Stop>
+    ensures { Reads (λ done. done) result
+        (sized_as (slice_get (scenes_held screens.now) first) (scenes_held screens.now)) }
+{
+    let Some(screen) = screens.get(first) else {
+        return Err(Stop::Answers(no_model(alloc)?));
+    };
+    unless_other(alloc, other(screens, &screen.layout.geometry()))?;
+    with_model(alloc, has_model(&screen.layout))
+}
