@@ -8,6 +8,7 @@ use tap_screens::LeftScreen;
 use tap_server::{LeavesScreens, Outside, Taps, run_taps};
 
 /// Screens are left nowhere.
+#[derive(Drop)]
 struct Nowhere;
 
 impl LeavesScreens for Nowhere {
