@@ -199,9 +199,9 @@ def by_s3270(program):
     if not shutil.which("s3270"):
         return []
     serve = Serve(program, "--count", "1")
-    script = ["Wait(10,InputField)", "String(AB)", "Tab", "String(C)", "Enter", "Wait(10,InputField)", "Ascii(0,1,4)", "String(7)", "Enter",
-              "Wait(10,InputField)", "Ascii(0,1,4)", "PF(12)", "Quit"]
-    ran = subprocess.run(["s3270", f"127.0.0.1:{serve.port}"], input="\n".join(script) + "\n", text=True, capture_output=True, timeout=LONGEST)
+    script = ["Wait(10,InputField)", "String(AB)", "Tab", "String(C)", "Enter", "Wait(10,InputField)", "Ascii(0,30,4)", "String(7)", "Enter",
+              "Wait(10,InputField)", "Ascii(0,30,4)", "PF(12)", "Quit"]
+    ran = subprocess.run(["s3270", "-model", "3278-2", f"127.0.0.1:{serve.port}"], input="\n".join(script) + "\n", text=True, capture_output=True, timeout=LONGEST)
     shown = [line[6:] for line in ran.stdout.splitlines() if line.startswith("data: ")]
     wrong = [] if shown == ["MENU", "MENU"] else [f"it showed {shown}: {ran.stdout!r}"]
     return wrong + compared(serve, 0, "terminal 1 screen signon aid 7D\nuserid C1C2\npassword C3\nterminal 1 screen menu aid 7D\nchoice F7\n"
