@@ -1,7 +1,7 @@
 #!/usr/bin/env python3
 """Sessions through the tap beside the same without it: taps.py PROGRAM [N]
 
-Three rows, each of the least seconds of three runs with and without `tap`, in turn, and their ratio:
+Three rows, each of the least seconds of nine runs with and without `tap`, in turn, and their ratio:
 
 - a session: s3270, driven by a script, connects to a host, agrees on TN3270E, and answers N full screens, 1,000 by default, by Enter.
   This is the session that a user has; its ratio is to be 1.2 at most.
@@ -157,7 +157,7 @@ def run(program, host, terminal, count):
 
 def row(name, program, host, terminal, count):
     # In turn, so that what else the machine does meets both.
-    rows = [(run(program, host, terminal, count), run(None, host, terminal, count)) for _ in range(3)]
+    rows = [(run(program, host, terminal, count), run(None, host, terminal, count)) for _ in range(9)]
     tapped, without = (min(column) for column in zip(*rows))
     print(f"tap, {name}: {tapped:.3f} s, without it {without:.3f} s, ratio {tapped / without:.2f}", flush=True)
 
