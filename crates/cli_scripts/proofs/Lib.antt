@@ -3,7 +3,11 @@ mod QueryTold
 mod Telling
 mod DeskSteps
 mod DeedLaws
+mod Tolerance
+mod DeedCuts
 mod Presses
 mod WorkLaws
 mod JudgedLaws
 mod ActLaws
+mod WaitLaws
+mod SayLaws

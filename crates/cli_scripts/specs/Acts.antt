@@ -7,7 +7,6 @@ use Rattle.ds_keys.specs.declared.key.Key.TheVariants.{Attention}
 use Rattle.script_keys.specs.Actions.{Action, keys, other}
 use Rattle.script_keys.specs.declared.keys.Keys.{Keys}
 use Rattle.script_keys.specs.declared.keys.Keys.TheVariants.{Plain}
-use Rattle.script_keys.specs.declared.name.Name.TheVariants as names
 use Rattle.script_keys.specs.Faults.{Fault}
 use Rattle.script_keys.specs.Runs.{keys_of}
 use Rattle.script_keys.specs.Steps.{runs_of}
@@ -18,6 +17,9 @@ use Rattle.tn_session.specs.TerminalTalk.{OfWaiting}
 use Rattle.cli_scripts.specs.declared.deed.Deed.{Deed}
 use Rattle.cli_scripts.specs.declared.deed.Deed.TheVariants.{Begun, Pressed}
 use Rattle.cli_scripts.specs.Desks.{NamedHost, Worked, is_waiting}
+use Rattle.cli_scripts.specs.declared.kind.Kind.{Kind}
+use Rattle.cli_scripts.specs.declared.kind.Kind.TheVariants.{Types, TypesKey}
+use Rattle.cli_scripts.specs.Kinds.{kind_of}
 
 abbrev pub is_reset : Keys → Bool
 is_reset (Plain pressed.Reset) = true
@@ -48,11 +50,16 @@ PressesOnly old new = (typed : List Key) × (new.deeds ≡ old.deeds ++ map Pres
 abbrev pub PressesNone : Worked → Worked → Type 0
 PressesNone old new = new.deeds ≡ old.deeds
 
+-- what types presses keys, and nothing else does
+abbrev pub PressesAs : Kind → Worked → Worked → Type 0
+PressesAs Types old new = PressesOnly old new
+PressesAs TypesKey old new = PressesOnly old new
+PressesAs kind old new = PressesNone old new
+
 -- an action that presses keys does what its keys do; others than String and Key do nothing at the terminal
 abbrev pub Acts : Result Action Fault → Worked → Worked → Type 0
 Acts (Ok (keys it)) old new = PressesKeys it old new
-Acts (Ok (other names.String arguments)) old new = PressesOnly old new
-Acts (Ok (other names.Key arguments)) old new = PressesOnly old new
+Acts (Ok (other name arguments)) old new = PressesAs (kind_of name) old new
 Acts action old new = PressesNone old new
 
 -- ---- the keys of a text

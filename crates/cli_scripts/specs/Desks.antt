@@ -1,18 +1,23 @@
 -- The terminal that a script works, and what is known of its line.
-use Rattle.std.specs.Prelude.{◌≡◌, ℕ, Bool, true, false, List, [], ◌++◌, Option, Some, None}
+use Rattle.std.specs.Prelude.{◌≡◌, ℕ, Bool, true, false, List, [], ◌++◌, codes, Option, Some, None, if◌then◌else◌}
 use Rattle.ds_screen.specs.Picture.{Picture}
 use Rattle.ds_screen.specs.declared.lock.Lock.{Lock}
 use Rattle.ds_screen.specs.declared.lock.Lock.TheVariants.{Free, Waiting, Error}
 use Rattle.script_screens.specs.declared.connection.Protocol.{Protocol}
+use Rattle.script_screens.specs.declared.connection.Protocol.TheVariants.{Tn3270, Tn3270e}
 use Rattle.script_screens.specs.declared.lines.Outcome.{Outcome}
 use Rattle.script_screens.specs.declared.query.Query.{Query}
 use Rattle.script_screens.specs.Lines.{Says}
 use Rattle.script_screens.specs.Query.{Named, said_of_query}
 use Rattle.script_screens.specs.Status.{Link}
 use Rattle.tn_cores.specs.declared.device.Device.{Device}
+use Rattle.tn_cores.specs.declared.device.ScreenModel.{ScreenModel}
+use Rattle.tn_cores.specs.declared.device.ScreenModel.TheVariants.{Two, Three, Four, Five}
+use Rattle.tn_cores.specs.declared.session.Agreed.{Agreed}
+use Rattle.tn_cores.specs.Devices.{name_of}
 use Rattle.tn_session.specs.declared.terminal_state.TerminalState.{TerminalState}
 use Rattle.tn_session.specs.Talk.{Talk}
-use Rattle.tn_session.specs.TerminalTalk.{lu_name_in}
+use Rattle.tn_session.specs.TerminalTalk.{OfWaiting, agreed_in, lu_name_in}
 use Rattle.cli_scripts.specs.Answers.{printed_name}
 use Rattle.cli_scripts.specs.declared.deed.Deed.{Deed}
 use Rattle.cli_scripts.specs.Deeds.{DidSo, new_talk}
@@ -68,15 +73,40 @@ new_desk device = desk_of device false
 abbrev pub DidAll : Worked → Type 0
 DidAll w = DidSo w.device w.deeds w.heard (w.gone ++ w.due) w.talk w.collects (w.judged ++ w.unjudged)
 
--- this is known of its connection, where the logical unit's name is told so
-abbrev pub IsLinkOf : Worked → List ℕ → Option Link → Type 0
-IsLinkOf w lu_name link = (protocol : Protocol) × (link ≡ link_of_host w.host protocol lu_name)
+-- the picture that it shows
+abbrev pub Shows : Worked → Picture → Type 0
+Shows w v = OfWaiting (λ state. state.terminal) w.talk v
+
+-- the device that was agreed on, or the one that is asked for
+abbrev pub device_of : Option Agreed → Device → Device
+device_of None asked = asked
+device_of (Some agreed) asked = agreed.device
+
+abbrev pub device_in : Worked → Device
+device_in w = device_of (agreed_in w.talk) w.device
+
+abbrev pub model_number : ScreenModel → ℕ
+model_number Two = 2
+model_number Three = 3
+model_number Four = 4
+model_number Five = 5
+
+abbrev pub protocol_of : Option Agreed → Protocol
+protocol_of None = Tn3270
+protocol_of (Some agreed) = if agreed.enhanced then Tn3270e else Tn3270
+
+-- what is known of its connection, where the logical unit's name is told so
+abbrev pub link_in : Worked → List ℕ → Option Link
+link_in w lu_name = link_of_host w.host (protocol_of (agreed_in w.talk)) lu_name
+
+abbrev pub named_in : Worked → Named
+named_in w = record { name = name_of (device_in w); version = codes "Takvorn 1.0.0" }
 
 -- Query of these words says this of a terminal
 abbrev pub TellsQuery : Worked → Query → List (List ℕ) → List ℕ → List ℕ → Outcome → Type 0
 TellsQuery w query words before after outcome =
-    (v : Picture) × (link : Option Link) × (device : Named) × IsLinkOf w (printed_name (lu_name_in w.talk)) link
-    × Says before after outcome (said_of_query v link device query words)
+    (v : Picture) × Shows w v
+    × Says before after outcome (said_of_query v (link_in w (printed_name (lu_name_in w.talk))) (named_in w) query words)
 
 -- all that was due was handed out
 abbrev pub handed_due : Worked → Worked

@@ -3,9 +3,15 @@ pub mod Answers
 pub mod DeedLaws
 pub mod Deeds
 pub mod Desks
+pub mod HeldBack
 pub mod Judged
+pub mod Kinds
 pub mod Machines
+pub mod PrintingSeen
+pub mod SayLaws
+pub mod Says
 pub mod SentOn
+pub mod Settings
 pub mod Steps
 pub mod Waits
 pub mod Worlds

@@ -6,6 +6,8 @@ ghost use Rattle.script_screens.specs.Lines.{data_line, failed, Says};
 ghost use Rattle.script_screens.specs.Query.{said_of_query};
 ghost use Rattle.script_screens.specs.Status.{link_seen};
 ghost use Rattle.cli_scripts.specs.Desks.{TellsQuery};
+ghost use Rattle.cli_scripts.specs.Says.{Checks, TellsAnswer};
+ghost use Rattle.script_checks.specs.ReadSeen.{read_seen};
 ghost use Rattle.cli_scripts.specs.Answers.{printed_byte, printed_text, name_byte, printed_name, syntax_words, syntax_text, last_line, AreData, IsAnswer};
 
 use crate::desk::Desk;
@@ -128,6 +130,8 @@ impl Saying {
     ghost use Rattle.script_screens.specs.Snap.{said_of_kept, snap_fault_words};
     ghost use Rattle.script_screens.specs.Pieces.{fault_words};
     ghost use Rattle.cli_scripts.specs.Desks.{link_of_host, TellsQuery};
+    ghost use Rattle.cli_scripts.specs.Says.{Checks};
+    ghost use Rattle.script_checks.specs.ReadSeen.{read_seen};
 
     /// Nothing yet.
     pub(crate) fn new(alloc: Global) -> Saying
@@ -281,7 +285,10 @@ impl Saying {
         desk: &Desk,
         path: &[u8],
         layout: LayoutText<'_>,
-    ) -> Result<Outcome, AllocError> {
+    ) -> Result<Outcome, AllocError>
+        ensures { IfOk result (λ outcome.
+            Checks desk.now path.now (read_seen layout.entry) self.old self.new outcome) }
+    {
         let mut text = Vec::new(alloc);
         let outcome = push_checked(alloc, &mut text, desk, path, layout)?;
         self.add(&text)?;
@@ -367,7 +374,9 @@ fn push_checked(
     layout: LayoutText<'_>,
 ) -> Result<Outcome, AllocError>
     requires { text.old.items ≡ [] }
-    ensures { OnOk result (AreData text.new.items) }
+    ensures data { OnOk result (AreData text.new.items) }
+    ensures said { IfOk result (λ outcome.
+        Checks desk.now path.now (read_seen layout.entry) text.old.items text.new.items outcome) }
 {
     script_checks::lines_law();
     push_check(
@@ -387,7 +396,8 @@ fn answer_of(
     desk: &Desk,
     outcome: Outcome,
 ) -> Result<Vec<u8>, AllocError>
-    ensures { IfOk result (λ text. IsAnswer outcome text.items) }
+    ensures answer { IfOk result (λ text. IsAnswer outcome text.items) }
+    ensures value { IfOk result (λ text. TellsAnswer desk.now saying.now outcome text.items) }
 {
     let mut text = Vec::new(alloc);
     lines_law();

@@ -8,7 +8,7 @@ ghost use Rattle.script_keys.specs.Runs.{keys_of_run, keys_of};
 ghost use Rattle.tn_session.specs.KeptView.{kept_view};
 ghost use Rattle.tn_session.specs.TerminalTalk.{OfWaiting, tolerant_worked, records_kept, agreed_in, lu_name_in, takes_input_in};
 ghost use Rattle.cli_scripts.specs.declared.deed.Deed.TheVariants.{Begun, Heard, Pressed as PressedKey};
-ghost use Rattle.cli_scripts.specs.Desks.{DidAll, KeepsScreens, handed_due, handed_screens, desk_of, is_error, is_waiting, IsLinkOf};
+ghost use Rattle.cli_scripts.specs.Desks.{DidAll, KeepsScreens, handed_due, handed_screens, desk_of, device_in, device_of, is_error, is_waiting, link_in, model_number, protocol_of, Shows};
 
 use crate::answer::add_bytes;
 use crate::deed::Deed;
@@ -20,6 +20,7 @@ use script_keys::Run;
 use script_screens::{Connection, Protocol};
 use std::alloc::{AllocError, Global};
 use std::marker::Model;
+use tn_cores::Agreed;
 use tn_session::{
     Arrived, Device, History, KeptRecord, Pressed, RunFault, ScreenModel, SessionFault,
     TerminalSession,
@@ -102,6 +103,32 @@ fn is_shown(arrived: Arrived) -> bool
 
 fn is_inhibited(pressed: Pressed) -> bool {
     matches!(pressed, Pressed::Inhibited)
+}
+
+fn model_number(model: ScreenModel) -> u8
+    ensures { result ≡ model_number model }
+{
+    match model {
+        ScreenModel::Two => 2,
+        ScreenModel::Three => 3,
+        ScreenModel::Four => 4,
+        ScreenModel::Five => 5,
+    }
+}
+
+fn protocol_of(agreed: Option<Agreed>) -> Protocol
+    ensures { result ≡ protocol_of agreed }
+{
+    match agreed {
+        Some(agreed) => {
+            if agreed.enhanced {
+                Protocol::Tn3270e
+            } else {
+                Protocol::Tn3270
+            }
+        }
+        None => Protocol::Tn3270,
+    }
 }
 
 /// A terminal's session, which gets through where it can.
@@ -418,7 +445,9 @@ impl Desk {
     }
 
     /// The device that was agreed on, or the one that is asked for.
-    pub(crate) fn device(&self) -> Device {
+    pub(crate) fn device(&self) -> Device
+        ensures { result ≡ device_in self.now }
+    {
         match self.session.agreed() {
             Some(agreed) => agreed.device,
             None => self.device,
@@ -426,20 +455,16 @@ impl Desk {
     }
 
     /// The number of the device's model.
-    pub(crate) fn model(&self) -> u8 {
-        match self.device().model {
-            ScreenModel::Two => 2,
-            ScreenModel::Three => 3,
-            ScreenModel::Four => 4,
-            ScreenModel::Five => 5,
-        }
+    pub(crate) fn model(&self) -> u8
+        ensures { result ≡ model_number (device_in self.now).model }
+    {
+        model_number(self.device().model)
     }
 
-    pub(crate) fn protocol(&self) -> Protocol {
-        match self.session.agreed() {
-            Some(agreed) if agreed.enhanced => Protocol::Tn3270e,
-            _ => Protocol::Tn3270,
-        }
+    pub(crate) fn protocol(&self) -> Protocol
+        ensures { result ≡ protocol_of (agreed_in self.now.talk) }
+    {
+        protocol_of(self.session.agreed())
     }
 
     pub(crate) fn host(&self) -> &Option<Host>
@@ -457,7 +482,8 @@ impl Desk {
 
     /// What is known of the connection, the logical unit's name left aside.
     pub(crate) fn connection(&self) -> Option<Connection<'_>>
-        ensures { LinkIsWhole (link_seen result) }
+        ensures whole { LinkIsWhole (link_seen result) }
+        ensures value { link_seen result ≡ link_in self.now [] }
     {
         self.connection_of(&[])
     }
@@ -466,7 +492,7 @@ impl Desk {
     pub(crate) fn connection_of<'a>(&'a self, lu_name: &'a [u8]) -> Option<Connection<'a>>
         requires { is_whole lu_name.now ≡ true }
         ensures whole { LinkIsWhole (link_seen result) }
-        ensures value { IsLinkOf self.now lu_name.now (link_seen result) }
+        ensures value { link_seen result ≡ link_in self.now lu_name.now }
     {
         connection_to(&self.host, self.protocol(), lu_name)
     }

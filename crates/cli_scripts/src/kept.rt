@@ -1,9 +1,10 @@
 //! Screens that Snap keeps.
 
-ghost use Rattle.std.specs.Prelude.{◌≡◌, [], IfOk, option_map};
+ghost use Rattle.std.specs.Prelude.{◌≡◌, [], Some, IfOk, option_map};
 ghost use Rattle.script_screens.specs.Laws.{LinkIsWhole};
 ghost use Rattle.script_screens.specs.Status.{link_seen};
 ghost use Rattle.cli_scripts.specs.Desks.{link_of_host};
+ghost use Rattle.cli_scripts.specs.Says.{IsCopyOf};
 
 use crate::desk::Desk;
 use crate::host::{Host, connection_to};
@@ -32,7 +33,9 @@ fn copied(alloc: Global, host: &Option<Host>) -> Result<Option<Host>, AllocError
 
 impl KeptScreen {
     /// A copy of what is shown.
-    pub(crate) fn of(alloc: Global, desk: &Desk) -> Result<KeptScreen, AllocError> {
+    pub(crate) fn of(alloc: Global, desk: &Desk) -> Result<KeptScreen, AllocError>
+        ensures { IfOk result (λ kept. IsCopyOf desk.now (Some kept)) }
+    {
         Ok(KeptScreen {
             screen: desk.screen().copied(alloc)?,
             host: copied(alloc, desk.host())?,

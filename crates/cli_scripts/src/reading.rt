@@ -1,28 +1,17 @@
 //! Actions that read a screen.
 
+ghost use Rattle.std.specs.Prelude.{◌≡◌, map, IfOk};
+ghost use Rattle.script_screens.specs.Lines.{Says};
+ghost use Rattle.script_screens.specs.Snap.{snap_of};
 ghost use Rattle.cli_scripts.specs.Acts.{PressesNone};
 ghost use Rattle.cli_scripts.specs.Desks.{Keeps};
+ghost use Rattle.cli_scripts.specs.Says.{Reads, Snaps, after_first, said_of_copy};
 
 use crate::answer::Saying;
 use crate::desk::Desk;
 use crate::kept::KeptScreen;
-use script_keys::Name;
 use script_screens::{CodePage, Kept, Outcome, Reading, Snap, SnapFault, snap_of};
 use std::alloc::{AllocError, Global};
-
-/// The action that reads the screen, of a name.
-pub(crate) fn reading_named(name: Name) -> Option<Reading> {
-    match name {
-        Name::Ascii => Some(Reading::Ascii),
-        Name::Ascii1 => Some(Reading::Ascii1),
-        Name::AsciiField => Some(Reading::AsciiField),
-        Name::Ebcdic => Some(Reading::Ebcdic),
-        Name::Ebcdic1 => Some(Reading::Ebcdic1),
-        Name::EbcdicField => Some(Reading::EbcdicField),
-        Name::ReadBuffer => Some(Reading::ReadBuffer),
-        _ => None,
-    }
-}
 
 /// Reads the screen.
 pub(crate) fn read(
@@ -35,6 +24,9 @@ pub(crate) fn read(
 ) -> Result<Outcome, AllocError>
     ensures keeps { Keeps desk.old desk.new }
     ensures deeds { PressesNone desk.old desk.new }
+    ensures reads { IfOk result (λ outcome. Reads code_page reading
+        (map (λ argument. argument.items) arguments.now) desk.old saying.old outcome desk.new
+        saying.new) }
 {
     let outcome = saying.read(alloc, desk.screen(), code_page, reading, arguments)?;
     desk.note_read();
@@ -42,7 +34,10 @@ pub(crate) fn read(
 }
 
 /// The arguments after the first.
-fn after_first(arguments: &[Vec<u8>]) -> &[Vec<u8>] {
+fn after_first(arguments: &[Vec<u8>]) -> &[Vec<u8>]
+    ensures { map (λ argument. argument.items) result.now
+        ≡ after_first (map (λ argument. argument.items) arguments.now) }
+{
     match arguments {
         [] => &[],
         [_word, words @ ..] => words,
@@ -57,7 +52,11 @@ fn say_kept(
     kept: Kept,
     arguments: &[Vec<u8>],
     saying: &mut Saying,
-) -> Result<Outcome, AllocError> {
+) -> Result<Outcome, AllocError>
+    ensures { IfOk result (λ outcome. Says saying.old saying.new outcome
+        (said_of_copy code_page kept_screen.now kept
+        (after_first (map (λ argument. argument.items) arguments.now)))) }
+{
     match kept_screen {
         Some(it) => saying.read_kept(alloc, it, code_page, kept, after_first(arguments)),
         None => saying.fail_snap(alloc, SnapFault::NotSaved),
@@ -72,7 +71,12 @@ pub(crate) fn snap(
     code_page: CodePage,
     arguments: &[Vec<u8>],
     saying: &mut Saying,
-) -> Result<Outcome, AllocError> {
+) -> Result<Outcome, AllocError>
+    ensures { IfOk result (λ outcome.
+        Snaps (snap_of (map (λ argument. argument.items) arguments.now)) code_page
+        (map (λ argument. argument.items) arguments.now) desk.now kept_screen.old saying.old outcome
+        kept_screen.new saying.new) }
+{
     match snap_of(arguments) {
         Snap::Save => {
             *kept_screen = Some(KeptScreen::of(alloc, desk)?);

@@ -16,10 +16,12 @@ use crate::came::{Came, Need, Wants};
 use crate::machine::Machine;
 use crate::script::{Asked, Script};
 use crate::sent_screen::SentScreen;
+use crate::tool::write_lines;
 use crate::world::{Heard, Patience, World};
 use cli_commands::{CommandError, GivesBytes, Status, TakesBytes};
 use script_checks::{Judge, LayoutText};
 use std::alloc::{AllocError, Global};
+use tn_session::History;
 
 /// How many bytes a read of the host gives at most.
 const PIECE: usize = 4_096;
@@ -209,15 +211,18 @@ fn give<W: World>(
     }
 }
 
-/// Gives what is wanted, a line of the script or something of the world, and tells what is wanted next.
+/// Gives what is wanted, a line of the script or something of the world, and tells what is wanted next. Every answer that was written
+/// was passed on before.
 fn turn<R: GivesBytes, W: World>(
     alloc: Global,
     machine: &mut Machine,
     script: &mut Script<'_, R>,
     world: &mut W,
     wants: Wants,
+    held_back: &History<u8>,
 ) -> Result<Wants, Ended>
-    requires { machine.old.is_busy ≡ is_need wants }
+    requires busy { machine.old.is_busy ≡ is_need wants }
+    requires passed { held_back.now.items ≡ [] }
     ensures took { Took machine.old.desk machine.new.desk (W.sent world.old) (W.sent world.new)
         (W.received world.old) (W.received world.new) }
     ensures gone { machine.new.telling.gone ≡ machine.old.telling.gone }
@@ -254,33 +259,26 @@ fn send<W: World>(machine: &mut Machine, world: &mut W)
     }
 }
 
-/// Writes lines and passes them on: whether every byte was taken.
-fn write_lines<O: TakesBytes>(output: &mut O, lines: &[u8]) -> bool
-    ensures all { OnTrue result (Appends (O.contents output.old) (O.contents output.new)
-        lines.now) }
-    ensures front { AppendsFront (O.contents output.old) (O.contents output.new) lines.now }
-{
-    let mut rest = lines;
-    'writes: while !rest.is_empty() {
-        match output.put(rest) {
-            Some(taken) => rest = &rest[taken..],
-            None => return false,
-        }
-    }
-    output.pass_on().is_some()
-}
-
-/// Gives the answers that are whole to the tool: whether it took them.
-fn answer<O: TakesBytes>(machine: &mut Machine, output: &mut O) -> bool
+/// Gives the answers that are whole to the tool, and passes them on: whether it took them.
+fn answer<O: TakesBytes>(machine: &mut Machine, output: &mut O, held_back: &mut History<u8>) -> bool
+    ensures passed { OnTrue result (held_back.new.items ≡ []) }
     ensures told { Tells machine.old machine.new (O.contents output.old) (O.contents output.new) }
     ensures whole { OnTrue result (TellsAll machine.old machine.new (O.contents output.old)
         (O.contents output.new)) }
     ensures desk { machine.new.desk ≡ machine.old.desk }
     ensures busy { machine.new.is_busy ≡ machine.old.is_busy }
 {
-    let taken = write_lines(output, machine.lines());
+    let taken = write_lines(output, held_back, machine.lines());
     machine.hand_out_lines();
     taken
+}
+
+/// Writes a part of the report, where it isn't empty: whether it was taken.
+fn is_written<P: TakesBytes>(report: &mut P, text: &[u8]) -> bool
+    ensures { OnTrue result (Appends (P.contents report.old) (P.contents report.new) text.now) }
+{
+    let mut held_back = History::new();
+    text.is_empty() || write_lines(report, &mut held_back, text)
 }
 
 /// Judges screens, and adds what is reported of them.
@@ -321,7 +319,7 @@ fn inspect<P: TakesBytes>(
     let mut text = Vec::new(alloc);
     judge_screens(alloc, judge, machine.sent_screens(), &mut text)?;
     machine.hand_out_screens();
-    Ok(is_told && (text.is_empty() || write_lines(report, &text)))
+    Ok(is_told && is_written(report, &text))
 }
 
 /// Ends the report, unless a write of it failed before: whether none has.
@@ -337,7 +335,7 @@ fn end_report<P: TakesBytes>(
 {
     let mut text = Vec::new(alloc);
     judge.finish(&mut text)?;
-    Ok(is_told && (text.is_empty() || write_lines(report, &text)))
+    Ok(is_told && is_written(report, &text))
 }
 
 /// Works the terminal by the lines of the script, up to its end: why it is over, and whether no write of the report failed.
@@ -361,9 +359,10 @@ fn work<R: GivesBytes, O: TakesBytes, P: TakesBytes, W: World>(
     ensures all { result.ended ≡ Over → machine.new.desk.unjudged ≡ [] }
 {
     let mut wants = Wants::Line;
+    let mut held_back = History::new();
     let mut is_told = true;
     'turns: for _turn in 0..u64::MAX {
-        let given = turn(alloc, machine, script, world, wants);
+        let given = turn(alloc, machine, script, world, wants, &held_back);
         match inspect(alloc, machine, judge, report, is_told) {
             Ok(told) => is_told = told,
             Err(AllocError) => return finished(Ended::NoMemory, false),
@@ -373,7 +372,7 @@ fn work<R: GivesBytes, O: TakesBytes, P: TakesBytes, W: World>(
             Ok(next) => wants = next,
             Err(why) => return finished(why, is_told),
         }
-        if !answer(machine, output) {
+        if !answer(machine, output, &mut held_back) {
             return finished(Ended::Failed, is_told);
         }
     }

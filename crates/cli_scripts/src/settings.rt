@@ -1,5 +1,10 @@
 //! Set and Toggle.
 
+ghost use Rattle.std.specs.Prelude.{◌≡◌, ◌++◌, [], ◌∷◌, map, IfOk, OnOk};
+ghost use Rattle.std.specs.Str.{str_eq_ignore_ascii_case};
+ghost use Rattle.script_screens.specs.Lines.{data_lines, Says};
+ghost use Rattle.cli_scripts.specs.Settings.{all_said, asked_or_unknown, assigned_or_unknown, changed, is_false, is_true, quoting, toggle_name, toggle_named, told_value, unknown, value_named, value_word, verb_name};
+
 use crate::answer::Saying;
 use script_screens::Outcome;
 use std::alloc::{AllocError, Global};
@@ -35,11 +40,15 @@ pub(crate) const FIRST: Settings = Settings {
     mono_case: false,
 };
 
-fn is_word(text: &[u8], word: &str) -> bool {
+fn is_word(text: &[u8], word: &str) -> bool
+    ensures { result ≡ str_eq_ignore_ascii_case text.now word.now }
+{
     text.eq_ignore_ascii_case(word.as_bytes())
 }
 
-fn toggle_named(text: &[u8]) -> Option<Toggle> {
+fn toggle_named(text: &[u8]) -> Option<Toggle>
+    ensures { result ≡ toggle_named text.now }
+{
     if is_word(text, "aidWait") {
         return Some(Toggle::AidWait);
     }
@@ -52,7 +61,9 @@ fn toggle_named(text: &[u8]) -> Option<Toggle> {
     None
 }
 
-fn toggle_name(toggle: Toggle) -> &'static str {
+fn toggle_name(toggle: Toggle) -> &'static str
+    ensures { result.now ≡ toggle_name toggle }
+{
     match toggle {
         Toggle::AidWait => "aidWait",
         Toggle::BlankFill => "blankFill",
@@ -60,30 +71,53 @@ fn toggle_name(toggle: Toggle) -> &'static str {
     }
 }
 
-fn verb_name(verb: Verb) -> &'static str {
+fn verb_name(verb: Verb) -> &'static str
+    ensures { result.now ≡ verb_name verb }
+{
     match verb {
         Verb::Set => "Set",
         Verb::Toggle => "Toggle",
     }
 }
 
+fn is_true(text: &[u8]) -> bool
+    ensures { result ≡ is_true text.now }
+{
+    is_word(text, "true") || (is_word(text, "on") || is_word(text, "set"))
+}
+
+fn is_false(text: &[u8]) -> bool
+    ensures { result ≡ is_false text.now }
+{
+    is_word(text, "false") || (is_word(text, "off") || is_word(text, "clear"))
+}
+
 /// The value that a word says.
-fn value_named(text: &[u8]) -> Option<bool> {
-    if is_word(text, "true") || (is_word(text, "on") || is_word(text, "set")) {
+fn value_named(text: &[u8]) -> Option<bool>
+    ensures { result ≡ value_named text.now }
+{
+    if is_true(text) {
         return Some(true);
     }
-    if is_word(text, "false") || (is_word(text, "off") || is_word(text, "clear")) {
+    if is_false(text) {
         return Some(false);
     }
     None
 }
 
-fn value_word(value: bool) -> &'static str {
+fn value_word(value: bool) -> &'static str
+    ensures { result.now ≡ value_word value }
+{
     if value { "true" } else { "false" }
 }
 
 impl Settings {
-    fn value(self, toggle: Toggle) -> bool {
+    ghost use Rattle.std.specs.Prelude.{◌≡◌};
+    ghost use Rattle.cli_scripts.specs.Settings.{value_of, with_value};
+
+    fn value(self, toggle: Toggle) -> bool
+        ensures { result ≡ value_of self toggle }
+    {
         match toggle {
             Toggle::AidWait => true,
             Toggle::BlankFill => self.blank_fill,
@@ -91,7 +125,9 @@ impl Settings {
         }
     }
 
-    fn with(self, toggle: Toggle, value: bool) -> Settings {
+    fn with(self, toggle: Toggle, value: bool) -> Settings
+        ensures { result ≡ with_value self toggle value }
+    {
         let mut settings = self;
         match toggle {
             Toggle::AidWait => {}
@@ -108,7 +144,10 @@ fn fail_unknown(
     saying: &mut Saying,
     verb: Verb,
     name: &[u8],
-) -> Result<Outcome, AllocError> {
+) -> Result<Outcome, AllocError>
+    ensures { IfOk result (λ outcome.
+        Says saying.old saying.new outcome (unknown verb name.now)) }
+{
     fail_quoting(alloc, saying, verb, "Unknown toggle name '", name, "'")
 }
 
@@ -120,7 +159,10 @@ fn fail_quoting(
     before: &str,
     word: &[u8],
     after: &str,
-) -> Result<Outcome, AllocError> {
+) -> Result<Outcome, AllocError>
+    ensures { IfOk result (λ outcome.
+        Says saying.old saying.new outcome (quoting verb before.now word.now after.now)) }
+{
     let mut text = Vec::new(alloc);
     text.extend_from_slice(verb_name(verb).as_bytes())?;
     text.extend_from_slice(b"(): ")?;
@@ -137,7 +179,12 @@ fn ask_or_turn(
     verb: Verb,
     name: &[u8],
     saying: &mut Saying,
-) -> Result<Outcome, AllocError> {
+) -> Result<Outcome, AllocError>
+    ensures settings { OnOk result (settings.new
+        ≡ (asked_or_unknown settings.old verb name.now (toggle_named name.now)).settings) }
+    ensures said { IfOk result (λ outcome. Says saying.old saying.new outcome
+        (asked_or_unknown settings.old verb name.now (toggle_named name.now)).said) }
+{
     let Some(toggle) = toggle_named(name) else {
         return fail_unknown(alloc, saying, verb, name);
     };
@@ -157,7 +204,12 @@ fn assign(
     name: &[u8],
     word: &[u8],
     saying: &mut Saying,
-) -> Result<Outcome, AllocError> {
+) -> Result<Outcome, AllocError>
+    ensures settings { OnOk result (settings.new
+        ≡ (assigned_or_unknown settings.old verb name.now word.now (toggle_named name.now)).settings) }
+    ensures said { IfOk result (λ outcome. Says saying.old saying.new outcome
+        (assigned_or_unknown settings.old verb name.now word.now (toggle_named name.now)).said) }
+{
     let Some(toggle) = toggle_named(name) else {
         return fail_unknown(alloc, saying, verb, name);
     };
@@ -176,17 +228,30 @@ fn assign(
     Ok(Outcome::Done)
 }
 
+/// Says what is set of a name.
+fn say_value(
+    alloc: Global,
+    settings: Settings,
+    toggle: Toggle,
+    saying: &mut Saying,
+) -> Result<(), AllocError>
+    ensures { OnOk result
+        (saying.new ≡ saying.old ++ data_lines (told_value settings toggle ∷ [])) }
+{
+    let mut text = Vec::new(alloc);
+    text.extend_from_slice(toggle_name(toggle).as_bytes())?;
+    text.extend_from_slice(b": ")?;
+    text.extend_from_slice(value_word(settings.value(toggle)).as_bytes())?;
+    saying.say(alloc, &text)
+}
+
 /// Says all that can be set.
-fn say_all(alloc: Global, settings: Settings, saying: &mut Saying) -> Result<Outcome, AllocError> {
-    'toggles: for toggle in [Toggle::AidWait, Toggle::BlankFill, Toggle::MonoCase] {
-        let name = toggle_name(toggle);
-        let value = value_word(settings.value(toggle));
-        let mut text = Vec::new(alloc);
-        text.extend_from_slice(name.as_bytes())?;
-        text.extend_from_slice(b": ")?;
-        text.extend_from_slice(value.as_bytes())?;
-        saying.say(alloc, &text)?;
-    }
+fn say_all(alloc: Global, settings: Settings, saying: &mut Saying) -> Result<Outcome, AllocError>
+    ensures { IfOk result (λ outcome. Says saying.old saying.new outcome (all_said settings)) }
+{
+    say_value(alloc, settings, Toggle::AidWait, saying)?;
+    say_value(alloc, settings, Toggle::BlankFill, saying)?;
+    say_value(alloc, settings, Toggle::MonoCase, saying)?;
     Ok(Outcome::Done)
 }
 
@@ -197,11 +262,18 @@ pub(crate) fn change(
     verb: Verb,
     arguments: &[Vec<u8>],
     saying: &mut Saying,
-) -> Result<Outcome, AllocError> {
+) -> Result<Outcome, AllocError>
+    ensures settings { OnOk result (settings.new
+        ≡ (changed settings.old verb (map (λ argument. argument.items) arguments.now)).settings) }
+    ensures said { IfOk result (λ outcome. Says saying.old saying.new outcome
+        (changed settings.old verb (map (λ argument. argument.items) arguments.now)).said) }
+{
     match arguments {
         [] => say_all(alloc, *settings, saying),
         [name] => ask_or_turn(alloc, settings, verb, name, saying),
         [name, value] => assign(alloc, settings, verb, name, value, saying),
-        _ => fail_quoting(alloc, saying, verb, "", b"more than a name and a value", ""),
+        [_, _, _, ..] => {
+            fail_quoting(alloc, saying, verb, "", b"more than a name and a value", "")
+        }
     }
 }

@@ -1,10 +1,14 @@
 //! The actions of a script at its terminal.
 
-ghost use Rattle.std.specs.Prelude.{◌≡◌, map, Ok, OnOk};
-ghost use Rattle.script_keys.specs.Actions.{read_action, other};
-ghost use Rattle.cli_scripts.specs.Acts.{Acts, PressesNone, PressesOnly};
+ghost use Rattle.std.specs.Prelude.{◌≡◌, map, IfOk, OnOk};
+ghost use Rattle.script_keys.specs.Actions.{read_action};
+ghost use Rattle.cli_scripts.specs.Acts.{Acts, PressesAs, PressesNone, PressesOnly};
 ghost use Rattle.cli_scripts.specs.Desks.{Keeps};
 ghost use Rattle.cli_scripts.specs.Machines.{HearsCame};
+ghost use Rattle.cli_scripts.specs.Waits.{ActsWait, BeginsAsked, ClosesWait, HearsWait, TellsWait, WaitsAs, WaitsOn};
+ghost use Rattle.cli_scripts.specs.Says.{ActsSaying, Answers, EndsAnswering, Others, Prints, Reads, printing_of};
+ghost use Rattle.cli_scripts.specs.Desks.{TellsQuery};
+ghost use Rattle.script_requests.specs.Waits.{read_wait};
 
 use crate::answer::Saying;
 use crate::came::{Came, Need};
@@ -14,11 +18,12 @@ use crate::doing::{Doing, Step, Typing};
 use crate::files::{Printing, printing_of, read_layout, unwritten, write_page};
 use crate::kept::KeptScreen;
 use crate::keys::{after_sent, press, type_code};
-use crate::reading::{read, reading_named, snap};
-use crate::settings::{FIRST, Settings, Verb, change};
+use crate::kind::{Kind, kind_of};
+use crate::reading::{read, snap};
+use crate::settings::{FIRST, Settings, change};
 use crate::typing::type_text;
-use crate::waiting::{wait, wait_closed, wait_heard, wait_late};
-use script_keys::{Action, Name, push_fault, read_action};
+use crate::waiting::{arrived, wait, wait_closed, wait_heard, wait_late};
+use script_keys::{Action, push_fault, read_action};
 use script_requests::read_wait;
 use script_screens::{CodePage, Outcome, Query, Reading, Typed, key_of};
 use std::alloc::{AllocError, Global};
@@ -57,6 +62,11 @@ impl Worker {
         ensures keeps { Keeps self.old.desk self.new.desk }
         ensures acts { OnOk result (Acts (read_action name.now
             (map (λ argument. argument.items) arguments.now)) self.old.desk self.new.desk) }
+        ensures waits { IfOk result (λ step. ActsWait (read_action name.now
+            (map (λ argument. argument.items) arguments.now)) self.old.desk step self.old.saying
+            self.new.saying) }
+        ensures says { IfOk result (λ step. ActsSaying (read_action name.now
+            (map (λ argument. argument.items) arguments.now)) self.old step self.new) }
     {
         match read_action(name, arguments) {
             Ok(Action::Keys(keys)) => press(alloc, &mut self.desk, &keys, &mut self.saying),
@@ -66,7 +76,9 @@ impl Worker {
                 Ok(Step::Ended(Outcome::Done))
             }
             Ok(Action::Quit) => Ok(Step::Quits),
-            Ok(Action::Other(name, arguments)) => self.act_otherwise(alloc, name, arguments),
+            Ok(Action::Other(name, arguments)) => {
+                self.act_otherwise(alloc, kind_of(name), arguments)
+            }
             Err(fault) => {
                 let mut words = Vec::new(alloc);
                 push_fault(&mut words, &fault)?;
@@ -79,24 +91,41 @@ impl Worker {
     fn act_otherwise(
         &mut self,
         alloc: Global,
-        name: Name,
+        kind: Kind,
         arguments: &[Vec<u8>],
     ) -> Result<Step, AllocError>
         ensures keeps { Keeps self.old.desk self.new.desk }
-        ensures acts { OnOk result (Acts (Ok (other name
-            (map (λ argument. argument.items) arguments.now))) self.old.desk self.new.desk) }
+        ensures acts { OnOk result (PressesAs kind self.old.desk self.new.desk) }
+        ensures waits { IfOk result (λ step. WaitsAs kind
+            (map (λ argument. argument.items) arguments.now) self.old.desk step self.old.saying
+            self.new.saying) }
+        ensures says { IfOk result (λ step. Others kind
+            (map (λ argument. argument.items) arguments.now) self.old step self.new) }
     {
-        match name {
-            Name::String => self.type_arguments(alloc, arguments),
-            Name::Key => self.type_key(alloc, arguments),
-            Name::Wait => self.begin_wait(alloc, arguments),
-            Name::PrintText => self.print(alloc, arguments),
-            Name::Check => read_layout(alloc, arguments),
-            _ => {
-                let outcome = self.answer(alloc, name, arguments)?;
-                Ok(Step::Ended(outcome))
-            }
+        match kind {
+            Kind::Types => self.type_arguments(alloc, arguments),
+            Kind::TypesKey => self.type_key(alloc, arguments),
+            Kind::Waits => self.begin_wait(alloc, arguments),
+            Kind::Prints => self.print(alloc, arguments),
+            Kind::Checks => read_layout(alloc, arguments),
+            other => self.end_with(alloc, other, arguments),
         }
+    }
+
+    /// Does an action that waits for nothing.
+    fn end_with(
+        &mut self,
+        alloc: Global,
+        kind: Kind,
+        arguments: &[Vec<u8>],
+    ) -> Result<Step, AllocError>
+        ensures keeps { Keeps self.old.desk self.new.desk }
+        ensures deeds { PressesNone self.old.desk self.new.desk }
+        ensures says { IfOk result (λ step. EndsAnswering kind
+            (map (λ argument. argument.items) arguments.now) self.old step self.new) }
+    {
+        let outcome = self.answer(alloc, kind, arguments)?;
+        Ok(Step::Ended(outcome))
     }
 
     /// Types what the arguments of String say, put together.
@@ -165,6 +194,9 @@ impl Worker {
     fn begin_wait(&mut self, alloc: Global, arguments: &[Vec<u8>]) -> Result<Step, AllocError>
         ensures keeps { Keeps self.old.desk self.new.desk }
         ensures deeds { PressesNone self.old.desk self.new.desk }
+        ensures waits { IfOk result (λ step.
+            BeginsAsked (read_wait (map (λ argument. argument.items) arguments.now)) self.old.desk
+            step self.old.saying self.new.saying) }
     {
         match read_wait(arguments) {
             Ok(asked) => wait(alloc, &self.desk, asked, &mut self.saying),
@@ -176,6 +208,9 @@ impl Worker {
     fn print(&mut self, alloc: Global, arguments: &[Vec<u8>]) -> Result<Step, AllocError>
         ensures keeps { Keeps self.old.desk self.new.desk }
         ensures deeds { PressesNone self.old.desk self.new.desk }
+        ensures says { IfOk result (λ step.
+            Prints (printing_of (map (λ argument. argument.items) arguments.now)) self.old step
+            self.new) }
     {
         match printing_of(arguments) {
             Printing::Lines => {
@@ -191,17 +226,17 @@ impl Worker {
     fn answer(
         &mut self,
         alloc: Global,
-        name: Name,
+        kind: Kind,
         arguments: &[Vec<u8>],
     ) -> Result<Outcome, AllocError>
         ensures keeps { Keeps self.old.desk self.new.desk }
         ensures deeds { PressesNone self.old.desk self.new.desk }
+        ensures says { IfOk result (λ outcome. Answers kind
+            (map (λ argument. argument.items) arguments.now) self.old outcome self.new) }
     {
-        if let Some(reading) = reading_named(name) {
-            return self.read(alloc, reading, arguments);
-        }
-        match name {
-            Name::Snap => snap(
+        match kind {
+            Kind::Reads(reading) => self.read(alloc, reading, arguments),
+            Kind::Snaps => snap(
                 alloc,
                 &self.desk,
                 &mut self.kept,
@@ -209,31 +244,28 @@ impl Worker {
                 arguments,
                 &mut self.saying,
             ),
-            Name::Query => self.tell(alloc, Query::Query, arguments),
-            Name::Show => self.tell(alloc, Query::Show, arguments),
-            Name::Set => change(
+            Kind::Tells(query) => self.tell(alloc, query, arguments),
+            Kind::Sets(verb) => change(
                 alloc,
                 &mut self.settings,
-                Verb::Set,
+                verb,
                 arguments,
                 &mut self.saying,
             ),
-            Name::Toggle => change(
-                alloc,
-                &mut self.settings,
-                Verb::Toggle,
-                arguments,
-                &mut self.saying,
-            ),
-            Name::Expect => self.saying.fail(
+            Kind::Expects => self.saying.fail(
                 alloc,
                 b"Expect() is valid only when connected in NVT mode",
             ),
-            Name::Bell => {
+            Kind::Rings => {
                 self.saying.say(alloc, b"(ding)")?;
                 Ok(Outcome::Done)
             }
-            _ => Ok(Outcome::Done),
+            Kind::Types
+            | Kind::TypesKey
+            | Kind::Waits
+            | Kind::Prints
+            | Kind::Checks
+            | Kind::Rests => Ok(Outcome::Done),
         }
     }
 
@@ -245,6 +277,9 @@ impl Worker {
     ) -> Result<Outcome, AllocError>
         ensures keeps { Keeps self.old.desk self.new.desk }
         ensures deeds { PressesNone self.old.desk self.new.desk }
+        ensures reads { IfOk result (λ outcome. Reads self.old.code_page reading
+            (map (λ argument. argument.items) arguments.now) self.old.desk self.old.saying outcome
+            self.new.desk self.new.saying) }
     {
         let page = self.code_page;
         read(
@@ -265,6 +300,9 @@ impl Worker {
     ) -> Result<Outcome, AllocError>
         ensures keeps { Keeps self.old.desk self.new.desk }
         ensures deeds { PressesNone self.old.desk self.new.desk }
+        ensures tells { IfOk result (λ outcome. TellsQuery self.old.desk asked
+            (map (λ argument. argument.items) arguments.now) self.old.saying self.new.saying
+            outcome) }
     {
         self.saying.query(alloc, &self.desk, asked, arguments)
     }
@@ -276,7 +314,9 @@ impl Worker {
         doing: Doing,
         came: Came<'_>,
     ) -> Result<Step, AllocError>
-        ensures { HearsCame came.entry self.old.desk self.new.desk }
+        ensures heard { HearsCame came.entry self.old.desk self.new.desk }
+        ensures waits { IfOk result (λ step.
+            WaitsOn doing came.entry self.new.desk step self.old.saying self.new.saying) }
     {
         match came {
             Came::Bytes(bytes) => {
@@ -293,13 +333,25 @@ impl Worker {
 
     /// Goes on after bytes of the host, of which it is known whether a record was shown.
     fn heard(&mut self, alloc: Global, doing: Doing, shown: bool) -> Result<Step, AllocError>
+        ensures keeps { Keeps self.old.desk self.new.desk }
+        ensures waits { IfOk result (λ step.
+            HearsWait doing self.new.desk step self.old.saying self.new.saying) }
+    {
+        match doing {
+            Doing::Arriving => Ok(arrived(&self.desk)),
+            Doing::Waiting(asked) => wait_heard(alloc, &self.desk, asked, &mut self.saying),
+            other => self.heard_for(alloc, other, shown),
+        }
+    }
+
+    /// Goes on after bytes of the host with anything but a wait.
+    fn heard_for(&mut self, alloc: Global, doing: Doing, shown: bool) -> Result<Step, AllocError>
         ensures { Keeps self.old.desk self.new.desk }
     {
         if !self.desk.is_connected() {
             return self.closed(alloc, doing);
         }
         match doing {
-            Doing::Arriving => Ok(Step::Waits(Doing::Arriving, Need::Arrived)),
             Doing::Opening if shown => Ok(Step::Ended(Outcome::Done)),
             Doing::Opening => Ok(Step::Waits(Doing::Opening, Need::Bytes)),
             Doing::Sent => Ok(after_sent(&self.desk)),
@@ -309,16 +361,18 @@ impl Worker {
                 type_code(alloc, &mut self.desk, fills, code, &mut self.saying)
             }
             Doing::Typing(typing) => self.type_on(alloc, typing),
-            Doing::Waiting(asked) => wait_heard(alloc, &self.desk, asked, &mut self.saying),
             Doing::Calling(host) => Ok(Step::Waits(Doing::Calling(host), Need::Connection)),
             Doing::Writing(path) => Ok(Step::Waits(Doing::Writing(path), Need::Page)),
             Doing::Checking(path) => Ok(Step::Waits(Doing::Checking(path), Need::Layout)),
+            Doing::Arriving | Doing::Waiting(_) => Ok(Step::Ended(Outcome::Done)),
         }
     }
 
     /// Goes on after the line to the host ended.
     fn closed(&mut self, alloc: Global, doing: Doing) -> Result<Step, AllocError>
-        ensures { Keeps self.old.desk self.new.desk }
+        ensures keeps { Keeps self.old.desk self.new.desk }
+        ensures waits { IfOk result (λ step.
+            ClosesWait doing step self.old.saying self.new.saying) }
     {
         match doing {
             Doing::Opening | Doing::Calling(_) => disconnected(alloc, &mut self.saying),
@@ -335,7 +389,9 @@ impl Worker {
 
     /// Goes on after something else than the host's bytes.
     fn told(&mut self, alloc: Global, doing: Doing, came: Came<'_>) -> Result<Step, AllocError>
-        ensures { Keeps self.old.desk self.new.desk }
+        ensures keeps { Keeps self.old.desk self.new.desk }
+        ensures waits { IfOk result (λ step.
+            TellsWait doing came.entry step self.old.saying self.new.saying) }
     {
         match (doing, came) {
             (Doing::Calling(host), Came::Connected) => connected(alloc, &mut self.desk, host),

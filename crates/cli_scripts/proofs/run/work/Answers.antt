@@ -63,6 +63,7 @@ turns-preserved g c =
           c.in-Ok.ensures.after c.in-Ok.ensures.before c.in-Ok.ensures.reported;
       busy = c.answer.ensures.busy ∙ sends.6 ∙ ap (λ (m : Scripted). m.is_busy) handed
           ∙ busy_after c.in-Ok-given.next c.turns.machine c.turn-given.new.machine c.in-Ok-given.ensures.answered;
+      passed = OnTrue_at c.if-not-answer.false c.answer.ensures.passed;
     }
 
 pub returns-clause-told : goal.returns-clause-told

@@ -1,4 +1,4 @@
-use Rattle.std.proofs.Common.{◌≡◌}
+use Rattle.std.proofs.Common.{◌≡◌, []}
 use Rattle.cli_scripts.specs.Judged.{Judges}
 use Rattle.cli_scripts.specs.Worlds.{Exchanged, TellsAll, is_need}
 use Rattle.cli_scripts.proofs.run.work.Given as goal
@@ -12,4 +12,5 @@ invariant-turns g l =
       judged : Judges l.initial.machine.desk l.machine.desk l.initial.judge l.judge l.is_told (g.P.TakesBytes.contents l.initial.report)
           (g.P.TakesBytes.contents l.report);
       busy : l.machine.is_busy ≡ is_need l.wants;
+      passed : l.held_back.items ≡ [];
     }

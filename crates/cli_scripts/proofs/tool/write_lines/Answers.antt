@@ -1,7 +1,7 @@
 use Rattle.std.proofs.Common.{◌++◌, take}
 use Rattle.std.proofs.lemmas.List.{take_rest}
 use Rattle.cli_commands.proofs.Prefixes.{appends_more, rest_more}
-use Rattle.cli_scripts.proofs.run.write_lines.Goals as goal
+use Rattle.cli_scripts.proofs.tool.write_lines.Goals as goal
 
 pub writes-preserved : goal.writes-preserved
 writes-preserved g c =
