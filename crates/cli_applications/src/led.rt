@@ -89,7 +89,8 @@ fn reached(alloc: Global, screens: &[PlannedScreen], first: usize) -> Result<Vec
 /// The first of so many screens that isn't found.
 fn missing(count: usize, found: &[usize]) -> Option<usize>
     ensures { MatchOption result ((n : ℕ) → n < count → has found.now n ≡ true)
-        (λ lost. (lost < count) × (has found.now lost ≡ false) × ((m : ℕ) → m < lost → has found.now m ≡ true)) }
+        (λ lost. (lost < count) × (has found.now lost ≡ false)
+            × ((m : ℕ) → m < lost → has found.now m ≡ true)) }
 {
     for index in 0..count {
         if !has(found, index) {
@@ -105,7 +106,8 @@ fn first_lost(
     screens: &[PlannedScreen],
     first: usize,
 ) -> Result<Option<usize>, AllocError>
-    ensures { IfOk result (λ lost. MatchOption lost (AllHaveWays screens.now first) (λ n. IsFirstLost screens.now first n)) }
+    ensures { IfOk result (λ lost. MatchOption lost (AllHaveWays screens.now first)
+        (λ n. IsFirstLost screens.now first n)) }
 {
     let found = reached(alloc, screens, first)?;
     Ok(missing(screens.len(), found.as_slice()))
