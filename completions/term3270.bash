@@ -37,7 +37,7 @@ _term3270_values() { # OPTION
     serve--turns) _term3270_files '*.toml' ;;
     show--map | check--map | draft--map) _term3270_files '*.bms' ;;
     serve--listen | tap--listen) _term3270_offer -A hostname ;;
-    map--map | *--map-name | *--only | *--port | *--listen-port | *--count | *--at-once | serve--answers | *--idle | *--expect | *--timeout) ;;
+    map--map | *--map-name | *--only | *--port | *--listen-port | *--count | *--at-once | serve--answers | *--idle | *--per-second | *--expect | *--timeout) ;;
     *) return 1 ;;
   esac
 }
@@ -67,7 +67,7 @@ _term3270_options() {
     draft) options='--turns --out --map --map-name --freekb --frset' ;;
     bind) options='--text --turns' ;;
     records) options='--from --answers --turns --turn --size --all' ;;
-    serve) options='--turns --any --records --raw --port --count --at-once --answers --idle --listen' ;;
+    serve) options='--turns --any --records --raw --port --count --at-once --answers --idle --per-second --listen' ;;
     attach) options='--strokes --port --device --tolerant --expect --timeout' ;;
     script) options='--device --code-page --layouts --report --report-format' ;;
     tap) options='--port --listen-port --listen --count --layouts --out' ;;
@@ -97,7 +97,7 @@ _term3270() {
   for ((index = 2; index < COMP_CWORD; index++)); do
     case ${COMP_WORDS[index]} in
       = | '<' | '>') index=$((index + 1)) ;;
-      --format | --color | --from | --device | --records | --layout | --only | --map | --map-name | --port | --listen-port | --count | --at-once | --answers | --idle | --listen | --expect | --timeout | --code-page | --layouts | --report | --report-format)
+      --format | --color | --from | --device | --records | --layout | --only | --map | --map-name | --port | --listen-port | --count | --at-once | --answers | --idle | --per-second | --listen | --expect | --timeout | --code-page | --layouts | --report | --report-format)
         # A value comes after =, or as the next word.
         case $command${COMP_WORDS[index]} in map--layout | records--answers) continue ;; esac
         [ "${COMP_WORDS[index + 1]}" = = ] || index=$((index + 1))

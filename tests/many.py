@@ -4,6 +4,7 @@
 Each trial is a function below. Its terminals are threads: good ones work a whole session and answer with a number of their own, the
 others stall, reset, flood, probe or close. The last line is 'N passed, M failed'.
 """
+import fcntl
 import os
 import pathlib
 import random
@@ -53,7 +54,7 @@ def digits(number):
 class Serve:
     """The program, at a port that is free, with what it printed."""
 
-    def __init__(self, program, *words, files=None):
+    def __init__(self, program, *words, files=None, output=None):
         self.folder = tempfile.TemporaryDirectory()
         layout = pathlib.Path(self.folder.name, "layout.toml")
         layout.write_text(LAYOUT)
@@ -62,7 +63,7 @@ class Serve:
         limit = files and (lambda: resource.setrlimit(resource.RLIMIT_NOFILE, (files, files)))
         self.output = open(pathlib.Path(self.folder.name, "stdout"), "w+b")
         self.program = subprocess.Popen([program, "serve", layout, "--port", str(self.port), *words], stdin=subprocess.PIPE,
-                                        stdout=self.output, stderr=subprocess.PIPE, preexec_fn=limit)
+                                        stdout=self.output if output is None else output, stderr=subprocess.PIPE, preexec_fn=limit)
         self.program.stdin.write(RECORD.encode() + b"\n")
         self.program.stdin.close()
         for _ in range(200):
@@ -75,8 +76,8 @@ class Serve:
         wanted = f":{self.port:04X} 00000000:0000 0A"
         return any(wanted in line for line in open("/proc/net/tcp"))
 
-    def line(self):
-        line = socket.create_connection(("127.0.0.1", self.port), timeout=LONGEST)
+    def line(self, address="127.0.0.1"):
+        line = socket.create_connection(("127.0.0.1", self.port), timeout=LONGEST, source_address=(address, 0))
         line.setsockopt(socket.IPPROTO_TCP, socket.TCP_NODELAY, 1)
         return line
 
@@ -117,10 +118,10 @@ def received(line, size):
 # ---- terminals: each gives what is wrong, or None
 
 
-def good(serve, number, session=ENHANCED, pieces=None):
+def good(serve, number, session=ENHANCED, pieces=None, address="127.0.0.1"):
     """Works a session to its end, cut at random where pieces are given."""
     sent, wanted = session[0] + answer(number), session[1]
-    with serve.line() as line:
+    with serve.line(address) as line:
         if pieces is None:
             line.sendall(sent)
         else:
@@ -306,6 +307,7 @@ def limits(program):
     """What floods a session in whole tokens is ended by a limit, and costs the next terminal nothing."""
     serve = Serve(program, "--count", "0", "--at-once", "10", "--answers", "1")
     together(*[quietly(lambda: floods(serve, b"\xff\xfd\x01" * 1000, 70)) for _ in range(3)],
+             *[quietly(lambda: floods(serve, b"\xff\xfe\x01" * 1000, 70)) for _ in range(2)],
              *[quietly(lambda: floods(serve, b"\xff\xf1" * 1000, 105)) for _ in range(3)])
     begun = time.time()
     wrong = together(lambda: good(serve, 8))
@@ -351,6 +353,43 @@ def held(program):
     wrong += wrong_answers(text, range(20))
     if status != 0 or faults_in(text):
         wrong.append(f"status {status}, faults {faults_in(text)}")
+    return wrong
+
+
+def per_second(program):
+    """A flood from one address gets in as often as the limit says, and no line tells of the others; another address isn't kept waiting."""
+    serve = Serve(program, "--count", "0", "--at-once", "1000", "--answers", "21", "--per-second", "5")
+    begun, ends, seen = time.time(), time.time() + 3, [0, 0]
+
+    def flood():
+        while time.time() < ends:
+            try:
+                with serve.line() as line:
+                    seen[1 if line.recv(1) else 0] += 1
+            except OSError:
+                seen[0] += 1
+
+    def others(address):
+        wrong = []
+        for number in range(5):
+            came = time.time()
+            told = good(serve, number, address=address)
+            wrong += [told] if told else []
+            if time.time() - came > SOON:
+                wrong.append(f"{address} waited {time.time() - came:.1f} seconds")
+            time.sleep(0.5)
+        return wrong[0] if wrong else None
+
+    wrong = together(*[flood for _ in range(20)], *[lambda address=address: others(address) for address in ("127.0.0.2", "127.0.0.3", "127.0.0.4", "127.0.0.5")])
+    took = time.time() - begun
+    if not 5 <= seen[1] <= 5 * (int(took) + 1) or seen[0] < 100:
+        wrong.append(f"of a flood {seen[1]} got in in {took:.1f} seconds, and {seen[0]} did not")
+    time.sleep(1)
+    wrong += together(lambda: good(serve, 9))
+    status, text = serve.end()
+    wrong += wrong_answers(text, [9, *range(5), *range(5), *range(5), *range(5)])
+    if status != 0 or len(faults_in(text)) > seen[1] + 20:
+        wrong.append(f"status {status}, {len(faults_in(text))} faults")
     return wrong
 
 
@@ -443,7 +482,38 @@ def closed_output(program):
     return wrong + ([] if status == 3 else [f"status {status}"])
 
 
-TRIALS = [crowd, idle, limits, scan, held, few_files, terminated, in_turn, closed_output]
+def full_output(program):
+    """Standard output that takes nothing ends it, with status 3."""
+    with open("/dev/full", "wb") as full:
+        serve = Serve(program, "--count", "0", "--at-once", "5", output=full)
+        together(quietly(lambda: good(serve, 1)))
+        status, _ = serve.end(5)
+    return [] if status == 3 else [f"status {status}"]
+
+
+def unread_output(program):
+    """Standard output that nobody reads holds it once the pipe is full; from then on that it is read, all are served and told, whole."""
+    ours, theirs = os.pipe()
+    fcntl.fcntl(theirs, 1031, 4096)
+    serve = Serve(program, "--count", "300", "--at-once", "300", output=theirs)
+    os.close(theirs)
+    wrong, text = [], []
+
+    def reads():
+        time.sleep(2)
+        with open(ours, "rb") as pipe:
+            text.append(pipe.read().decode())
+
+    reader = threading.Thread(target=reads)
+    reader.start()
+    wrong += together(*[lambda number=number: good(serve, number) for number in range(300)])
+    status, _ = serve.end()
+    reader.join()
+    wrong += wrong_answers(text[0], range(300))
+    return wrong + ([] if status == 0 else [f"status {status}"])
+
+
+TRIALS = [crowd, idle, limits, scan, held, per_second, few_files, terminated, in_turn, closed_output, full_output, unread_output]
 
 
 def main():

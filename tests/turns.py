@@ -148,6 +148,36 @@ def any_records(program):
         return compared(serve, 0, "terminal 1 aid 7D cursor 1771\nsent 7D5B6BC1\nterminal 2 aid 6D\nsent 6D\n")
 
 
+def deaf(program):
+    """Terminals that never read a record of 32,000 FF, each sent twice, end when they were idle, and keep no other waiting."""
+    with tempfile.TemporaryDirectory() as folder:
+        path = pathlib.Path(folder, "any.hex")
+        path.write_text("F5C3" + "FF" * 32000 + "\n")
+        serve = Serve(program, "--count", "21", "--at-once", "21", "--idle", "3", offer=["--any", "--records", str(path)])
+        wrong, lines = [], []
+        for _ in range(20):
+            line = socket.socket()
+            line.setsockopt(socket.SOL_SOCKET, socket.SO_RCVBUF, 2304)
+            line.connect(("127.0.0.1", serve.port))
+            line.sendall(HELLO)
+            lines.append(line)
+        begun = time.time()
+        with serve.line() as line:
+            line.sendall(HELLO)
+            wanted = HEARD + bytes.fromhex("F5C3") + b"\xff" * 64000 + b"\xff\xef"
+            if received(line, len(wanted)) != wanted:
+                wrong.append("the terminal that reads got something else")
+            line.sendall(ended("6D"))
+            line.recv(1)
+        took = time.time() - begun
+        status, text = serve.end()
+        for line in lines:
+            line.close()
+        if took > 1 or status != 3 or text.count(" fault N12\n") != 20 or "terminal 21 aid 6D\nsent 6D\n" not in text:
+            wrong.append(f"it took {took:.1f} seconds, status {status}, printed {text!r}")
+        return wrong
+
+
 def crowd(program):
     """60 at once, a third of which stop on the way: the lines of each stand together."""
     serve = Serve(program, "--count", "60", "--at-once", "60", "--idle", "3")
@@ -208,7 +238,7 @@ def by_s3270(program):
                             "terminal 1 screen menu aid 7C\n")
 
 
-TRIALS = [worked, again, undeclared, raw, any_records, crowd, terminated, by_s3270]
+TRIALS = [worked, again, undeclared, raw, any_records, deaf, crowd, terminated, by_s3270]
 
 
 def main():

@@ -2,3 +2,4 @@ mod Keys
 mod Rows
 mod Loop
 mod Texts
+pub mod Found

@@ -3,3 +3,4 @@ pub mod Fault
 pub mod Results
 pub mod Values
 pub mod Manifest
+pub mod Chains

@@ -1,5 +1,5 @@
 -- The manifest of an application that a text says, or its first refusal.
-use Rattle.std.specs.Prelude.{ℕ, ◌+◌, Bool, true, false, not, ◌&&◌, ◌||◌, ◌==◌, nat_le, bytes_eq, codes, List, [], ◌∷◌, ◌++◌, length, Option, Some, None, option_map, ok_or, position, Result, Ok, Err, if◌then◌else◌}
+use Rattle.std.specs.Prelude.{ℕ, ◌+◌, Bool, true, false, not, ◌&&◌, ◌==◌, nat_le, bytes_eq, codes, List, [], ◌∷◌, ◌++◌, length, Option, Some, None, option_map, ok_or, position, Result, Ok, Err, if◌then◌else◌}
 use Rattle.std.specs.List.{list_any}
 use Rattle.std.specs.Str.{is_utf8}
 use Rattle.toml.specs.Data.{Data, table, Items, no_items, item, Members, as_array, as_table}
@@ -10,9 +10,9 @@ use Rattle.tn_dialogue.specs.declared.screen.Next.TheVariants.{Shows, Ends}
 use Rattle.cli_applications.specs.declared.fault.ManifestKey.{ManifestKey}
 use Rattle.cli_applications.specs.declared.fault.ManifestKey.TheVariants.{Start, Screen, Name, Records, Layout, Next as NextKey}
 use Rattle.cli_applications.specs.declared.fault.ManifestFault.{ManifestFault}
-use Rattle.cli_applications.specs.declared.fault.Why.TheVariants.{WrongKind, Twice, BadCount, NoSuchScreen, NoWay}
+use Rattle.cli_applications.specs.declared.fault.Why.TheVariants.{WrongKind, Twice, BadCount, NoSuchScreen}
 use Rattle.cli_applications.specs.Attention.{attention_keys, aid_of}
-use Rattle.cli_applications.specs.Fault.{at_key, not_toml, in_screen as in_screen_fault}
+use Rattle.cli_applications.specs.Fault.{at_key, not_toml}
 use Rattle.cli_applications.specs.Results.{◌>>=◌, tested, in_screen}
 use Rattle.cli_applications.specs.Values.{value_at, needed_at, text_of, needed_text, with_only}
 
@@ -161,7 +161,7 @@ plans_from screens n before [] = Ok before
 plans_from screens n before (screen ∷ others) =
     with_planned screens n before screen >>= λ plans. plans_from screens (n + 1) plans others
 
--- ---- a way to each screen
+-- ---- where keys lead
 
 abbrev pub shows : ℕ → Next → Bool
 shows n (Shows screen) = screen == n
@@ -171,28 +171,6 @@ shows n Ends = false
 abbrev pub leads_to : List Lead → ℕ → Bool
 leads_to leads n = list_any (λ lead. shows n lead.next) leads
 
--- one of the screens from the p-th on leads there that isn't the n-th itself
-abbrev pub is_led_from : ℕ → ℕ → List Planned → Bool
-is_led_from p n [] = false
-is_led_from p n (screen ∷ screens) = (not (p == n) && leads_to screen.leads n) || is_led_from (p + 1) n screens
-
--- the first is shown without a key
-abbrev pub has_way : ℕ → List Planned → ℕ → Bool
-has_way first screens n = (n == first) || is_led_from 0 n screens
-
--- the first from the n-th on that has none
-abbrev pub lost_from : ℕ → List Planned → ℕ → List Planned → Option ℕ
-lost_from first screens n [] = None
-lost_from first screens n (screen ∷ others) = if has_way first screens n then lost_from first screens (n + 1) others else Some n
-
-abbrev pub unless_lost : Option ℕ → List Planned → Result (List Planned) ManifestFault
-unless_lost None screens = Ok screens
-unless_lost (Some n) screens = Err (in_screen_fault n (at_key Name NoWay))
-
--- each has one
-abbrev pub with_ways : ℕ → List Planned → Result (List Planned) ManifestFault
-with_ways first screens = unless_lost (lost_from first screens 0 screens) screens
-
 -- ---- the manifest
 
 abbrev pub top_keys : List ManifestKey
@@ -201,7 +179,7 @@ top_keys = Start ∷ Screen ∷ []
 abbrev pub first_of : List ℕ → List Named → Result ℕ ManifestFault
 first_of name screens = ok_or (index_of name screens) (at_key Start NoSuchScreen)
 
--- the keys at the top, each screen in turn, the first screen, where the keys lead, and whether each screen has a way
+-- the keys at the top, each screen in turn, the first screen, and where the keys lead
 unfoldable pub declaration_of : Members → Result Declared ManifestFault
 declaration_of fields = do
   top ← with_only top_keys fields
@@ -209,8 +187,7 @@ declaration_of fields = do
   screens ← screens_at top
   first ← first_of start screens
   plans ← plans_from screens 0 [] screens
-  ways ← with_ways first plans
-  Ok (record { first = first; screens = ways })
+  Ok (record { first = first; screens = plans })
 
 abbrev pub table_of : List ℕ → Result Members ManifestFault
 table_of text = ok_or (parse_document text) not_toml
@@ -218,6 +195,6 @@ table_of text = ok_or (parse_document text) not_toml
 abbrev pub manifest_of : List ℕ → Result Declared ManifestFault
 manifest_of text = table_of text >>= declaration_of
 
--- bytes that are no text are no TOML
-abbrev pub manifest_in : List ℕ → Result Declared ManifestFault
-manifest_in bytes = if is_utf8 bytes then manifest_of bytes else Err not_toml
+-- whether a way leads to each screen is told by `Chains`; bytes that are no text are no TOML
+abbrev pub manifest_said : List ℕ → Result Declared ManifestFault
+manifest_said bytes = if is_utf8 bytes then manifest_of bytes else Err not_toml

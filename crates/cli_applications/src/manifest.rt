@@ -3,8 +3,9 @@
 ghost use Rattle.std.specs.Prelude.{◌≡◌, MatchOption, true, false};
 ghost use Rattle.std.specs.Str.{is_utf8};
 ghost use Rattle.toml.specs.View.{table_view};
+ghost use Rattle.cli_applications.specs.Chains.{Declares};
 ghost use Rattle.cli_applications.specs.Results.{Gives, Tells};
-ghost use Rattle.cli_applications.specs.Manifest.{declaration_of, first_of, manifest_in, manifest_of, table_of};
+ghost use Rattle.cli_applications.specs.Manifest.{declaration_of, first_of, manifest_of, manifest_said, table_of};
 
 use crate::fault::{ManifestError, ManifestFault, ManifestKey, Why};
 use crate::led::with_ways;
@@ -35,8 +36,7 @@ fn declaration_of(alloc: Global, table: &Table) -> Result<Manifest, ManifestErro
     let start = needed_text(alloc, ManifestKey::Start, top)?;
     let named = screens_at(alloc, top)?;
     let first = first_of(start.as_str(), named.as_slice())?;
-    let plans = plans_from(alloc, named.as_slice())?;
-    let screens = with_ways(first, plans)?;
+    let screens = plans_from(alloc, named.as_slice())?;
     Ok(Manifest { first, screens })
 }
 
@@ -74,17 +74,26 @@ fn text_in(bytes: &[u8]) -> Option<&str>
     }
 }
 
-/// The manifest of an application that bytes are.
-///
-/// # Errors
-///
-/// The first refusal: of the keys at the top and of the text of `start`, of each screen in turn, of the screen that is first, of
-/// where the keys of each screen lead, of a screen to which no other one leads; out of memory.
-pub fn manifest_in(alloc: Global, text: &[u8]) -> Result<Manifest, ManifestError>
-    ensures { Gives (λ manifest. manifest) result (manifest_in text.now) }
+/// What bytes say, whether or not a way leads to each screen.
+fn manifest_said(alloc: Global, text: &[u8]) -> Result<Manifest, ManifestError>
+    ensures { Gives (λ manifest. manifest) result (manifest_said text.now) }
 {
     match text_in(text) {
         Some(text) => manifest_of(alloc, text),
         None => Err(ManifestError::Refused(ManifestFault::not_toml())),
     }
+}
+
+/// The manifest of an application that bytes are.
+///
+/// # Errors
+///
+/// The first refusal: of the keys at the top and of the text of `start`, of each screen in turn, of the screen that is first, of
+/// where the keys of each screen lead; of the first screen to which no chain of keys leads from the one that is shown first; out
+/// of memory.
+pub fn manifest_in(alloc: Global, text: &[u8]) -> Result<Manifest, ManifestError>
+    ensures { Declares result (manifest_said text.now) }
+{
+    let manifest = manifest_said(alloc, text)?;
+    with_ways(alloc, manifest)
 }

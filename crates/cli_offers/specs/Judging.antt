@@ -1,5 +1,5 @@
 -- What stands against an application.
-use Rattle.std.specs.Prelude.{ℕ, List, [], ◌∷◌, ◌++◌, codes, Option, Some, None, slice_get, Result, Ok, Err}
+use Rattle.std.specs.Prelude.{ℕ, List, [], ◌∷◌, ◌++◌, length, ◌==◌, map, codes, Option, Some, None, slice_get, Result, Ok, Err, if◌then◌else◌}
 use Rattle.std.specs.List.{flat_map}
 use Rattle.cli_commands.specs.declared.fault.Fault.{Fault}
 use Rattle.cli_commands.specs.declared.output.demo.Demos.TheVariants.{Omitted}
@@ -9,10 +9,9 @@ use Rattle.cli_commands.specs.Check.{check}
 use Rattle.cli_commands.specs.Fault.{fault_line}
 use Rattle.cli_commands.specs.Printed.{Printed}
 use Rattle.cli_commands.specs.Talk.{talk}
-use Rattle.cli_offers.specs.declared.ways.Way.{Way}
-use Rattle.cli_offers.specs.declared.ways.Way.TheVariants.{Alone, Through}
 use Rattle.cli_applications.specs.Manifest.{Planned}
 use Rattle.cli_offers.specs.Sources.{Files, files_at}
+use Rattle.cli_offers.specs.Ways.{Way}
 
 abbrev pub bytes_or : Option (List ℕ) → List ℕ
 bytes_or None = []
@@ -27,13 +26,24 @@ records_text files n = bytes_or (files_at files n).records
 abbrev pub turn_line : List ℕ
 turn_line = codes "\nturn\n"
 
--- ---- one way: what `check` says of a screen, and `talk` of three
+-- ---- one way: what `check` says of a screen, and `talk` of more
+
+abbrev pub way_layouts : List Files → Way → List (List ℕ)
+way_layouts files way = layout_text files way.first ∷ map (layout_text files) way.others
+
+abbrev pub turn_of : List Files → ℕ → List ℕ
+turn_of files n = turn_line ++ records_text files n
+
+-- the records of each, with a line 'turn' between them
+abbrev pub turns_text : List Files → Way → List ℕ
+turns_text files way = records_text files way.first ++ flat_map (turn_of files) way.others
+
+abbrev pub talk_of : List Files → Way → Result Printed Fault
+talk_of files way = talk (way_layouts files way) (turns_text files way)
 
 abbrev pub answer_of : List Files → Way → Result Printed Fault
-answer_of files (Alone n) = check Omitted (layout_text files n) (records_text files n)
-answer_of files (Through p s n) =
-    talk (layout_text files p ∷ layout_text files s ∷ layout_text files n ∷ [])
-    (records_text files p ++ (turn_line ++ (records_text files s ++ (turn_line ++ records_text files n))))
+answer_of files way =
+    if length way.others == 0 then check Omitted (layout_text files way.first) (records_text files way.first) else talk_of files way
 
 abbrev pub name_in : Option Planned → List ℕ
 name_in None = []
@@ -42,13 +52,12 @@ name_in (Some plan) = plan.name
 abbrev pub name_at : List Planned → ℕ → List ℕ
 name_at plans n = name_in (slice_get plans n)
 
-abbrev pub three_names : List ℕ → List ℕ → List ℕ → List ℕ
-three_names first second third = first ++ (codes " then " ++ (second ++ (codes " then " ++ third)))
+abbrev pub then_name : List ℕ → List ℕ
+then_name name = codes " then " ++ name
 
 -- the screens of the way
 abbrev pub way_names : List Planned → Way → List ℕ
-way_names plans (Alone n) = name_at plans n
-way_names plans (Through p s n) = three_names (name_at plans p) (name_at plans s) (name_at plans n)
+way_names plans way = name_at plans way.first ++ flat_map (λ n. then_name (name_at plans n)) way.others
 
 abbrev pub way_line : List Planned → Way → List ℕ
 way_line plans way = codes "screen " ++ (way_names plans way ++ codes "\n")

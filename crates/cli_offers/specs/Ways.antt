@@ -1,11 +1,9 @@
 -- The ways through an application that are judged.
-use Rattle.std.specs.Prelude.{ℕ, ◌==◌, Bool, true, false, not, ◌&&◌, ◌||◌, List, [], ◌∷◌, ◌++◌, length, Option, Some, None, slice_get, if◌then◌else◌}
-use Rattle.std.specs.List.{flat_map, range_with_len}
+use Rattle.std.specs.Prelude.{ℕ, zero, suc, ◌==◌, Bool, true, false, not, ◌&&◌, ◌||◌, List, [], ◌∷◌, ◌++◌, length, map, Option, Some, None, slice_get, if◌then◌else◌}
+use Rattle.std.specs.List.{flat_map, list_any, range_with_len}
 use Rattle.ds_codec.specs.declared.command.CommandCode.{CommandCode}
 use Rattle.ds_codec.specs.declared.command.CommandCode.TheVariants.{EraseWrite, EraseWriteAlternate}
 use Rattle.ds_codec.specs.Command.{command_code_at}
-use Rattle.cli_offers.specs.declared.ways.Way.{Way}
-use Rattle.cli_offers.specs.declared.ways.Way.TheVariants.{Alone, Through}
 use Rattle.cli_applications.specs.Manifest.{Planned, leads_to}
 
 -- ---- which screens begin with an erase
@@ -50,27 +48,68 @@ is_erased shown n = is_true (slice_get shown.erased n)
 abbrev pub is_over : Shown → ℕ → ℕ → Bool
 is_over shown s n = not (is_erased shown n) && ((s == n) || leads_on (slice_get shown.plans s) n)
 
--- ---- the ways
-
 abbrev pub all_of : Shown → List ℕ
 all_of shown = range_with_len 0 (length shown.plans)
+
+-- ---- a way
+
+-- screens that come one after the other, by their numbers: the first, the others in turn, and the last of all
+pub record Way : Type 0 where
+  pub first : ℕ
+  pub others : List ℕ
+  pub last : ℕ
+
+abbrev pub alone : ℕ → Way
+alone n = record { first = n; others = []; last = n }
+
+abbrev pub with_screen : Way → ℕ → Way
+with_screen way n = record { first = way.first; others = way.others ++ n ∷ []; last = n }
+
+-- ---- screens by themselves
 
 abbrev pub is_alone : Shown → ℕ → Bool
 is_alone shown n = (n == shown.first) || is_erased shown n
 
 -- each screen that begins with an erase by itself, and the first in any case
 abbrev pub alone_at : Shown → ℕ → List Way
-alone_at shown n = if is_alone shown n then Alone n ∷ [] else []
+alone_at shown n = if is_alone shown n then alone n ∷ [] else []
 
-abbrev pub third_at : Shown → ℕ → ℕ → ℕ → List Way
-third_at shown p s n = if is_over shown s n then Through p s n ∷ [] else []
+-- ---- screens that don't erase, over one that does
 
-abbrev pub second_at : Shown → ℕ → ℕ → List Way
-second_at shown p s = if is_over shown p s then flat_map (third_at shown p s) (all_of shown) else []
+abbrev pub on_at : Shown → Way → ℕ → List Way
+on_at shown way n = if is_over shown way.last n then with_screen way n ∷ [] else []
 
--- two screens that don't erase, over each that does
+-- the ways of one screen more
+abbrev pub ways_on : Shown → Way → List Way
+ways_on shown way = flat_map (on_at shown way) (all_of shown)
+
+abbrev pub all_on : Shown → List Way → List Way
+all_on shown ways = flat_map (ways_on shown) ways
+
+abbrev pub ends_of : List Way → List ℕ
+ends_of ways = map (λ way. way.last) ways
+
+abbrev pub is_known : List ℕ → ℕ → Bool
+is_known known n = list_any (λ m. n == m) known
+
+-- those of the ways that come to a screen that isn't known, nor came before
+abbrev pub fresh : List ℕ → List Way → List Way
+fresh known [] = []
+fresh known (way ∷ ways) = if is_known known way.last then fresh known ways else way ∷ fresh (known ++ way.last ∷ []) ways
+
+-- The ways go on, by one screen in each round, from those that came first to a screen, so that each pair of a screen and a next one
+-- is the end of one of them.
+abbrev pub rounds : Shown → ℕ → List ℕ → List Way → List Way
+rounds shown zero known ways = []
+rounds shown (suc more) known ways =
+    all_on shown ways ++ rounds shown more (known ++ ends_of (fresh known (all_on shown ways))) (fresh known (all_on shown ways))
+
+-- over the p-th screen: two screens in the first round, three in the second, and so on
+abbrev pub ways_over : Shown → ℕ → List Way
+ways_over shown p = rounds shown (length shown.plans) (ends_of (ways_on shown (alone p))) (ways_on shown (alone p))
+
 abbrev pub over_at : Shown → ℕ → List Way
-over_at shown p = if is_erased shown p then flat_map (second_at shown p) (all_of shown) else []
+over_at shown p = if is_erased shown p then ways_over shown p else []
 
 abbrev pub ways : Shown → List Way
 ways shown = flat_map (alone_at shown) (all_of shown) ++ flat_map (over_at shown) (all_of shown)

@@ -1,13 +1,13 @@
 //! What stands against an application: each way through it, by `check` and `talk`.
 
-ghost use Rattle.std.specs.Prelude.{◌≡◌, ◌++◌, OnOk, IfOk, Result as AResult};
+ghost use Rattle.std.specs.Prelude.{◌≡◌, ◌++◌, OnOk, IfOk, map, Result as AResult};
 ghost use Rattle.std.specs.List.{flat_map};
 ghost use Rattle.std.specs.String.{string_bytes};
 ghost use Rattle.cli_commands.specs.Fault.{Gives};
 ghost use Rattle.cli_commands.specs.Held.{answer_seen};
 ghost use Rattle.cli_commands.specs.Printed.{Printed};
 ghost use Rattle.cli_commands.specs.declared.fault.Fault.{Fault as AFault};
-ghost use Rattle.cli_offers.specs.Judging.{answer_of, layout_text, lines_by, lines_told, name_at, records_text, three_names, turn_line, way_line, way_lines, way_names, ways_text};
+ghost use Rattle.cli_offers.specs.Judging.{answer_of, layout_text, lines_by, lines_told, name_at, records_text, talk_of, then_name, turn_line, turns_text, way_layouts, way_line, way_lines, way_names, ways_text};
 
 use crate::sources::Files;
 use crate::ways::Way;
@@ -44,59 +44,59 @@ fn records_text(files: &[Files], index: usize) -> &[u8]
     }
 }
 
-/// The records of three turns as one text.
-fn turns_text(
+/// The layouts of the screens of a way.
+fn way_layouts<'a>(
     alloc: Global,
-    first: &[u8],
-    second: &[u8],
-    third: &[u8],
-) -> Result<Vec<u8>, AllocError>
-    ensures { IfOk result (λ text. text.items
-        ≡ first.now ++ (turn_line ++ (second.now ++ (turn_line ++ third.now)))) }
+    files: &'a [Files],
+    way: &Way,
+) -> Result<Vec<&'a [u8]>, AllocError>
+    ensures { IfOk result (λ v. map (λ text. text.now) v.items
+        ≡ way_layouts files.now way.now) }
+{
+    let mut layouts = Vec::new(alloc);
+    layouts.push(layout_text(files, way.first))?;
+    for index in way.others.as_slice() {
+        layouts.push(layout_text(files, *index))?;
+    }
+    Ok(layouts)
+}
+
+/// The records of the screens of a way as the text of turns.
+fn turns_text(alloc: Global, files: &[Files], way: &Way) -> Result<Vec<u8>, AllocError>
+    ensures { IfOk result (λ text. text.items ≡ turns_text files.now way.now) }
 {
     let mut text = Vec::new(alloc);
-    text.extend_from_slice(first)?;
-    text.extend_from_slice(TURN_LINE)?;
-    text.extend_from_slice(second)?;
-    text.extend_from_slice(TURN_LINE)?;
-    text.extend_from_slice(third)?;
+    text.extend_from_slice(records_text(files, way.first))?;
+    for index in way.others.as_slice() {
+        text.extend_from_slice(TURN_LINE)?;
+        text.extend_from_slice(records_text(files, *index))?;
+    }
     Ok(text)
 }
 
-/// What `talk` says of three screens.
-fn talk_three(
-    alloc: Global,
-    files: &[Files],
-    first: usize,
-    second: usize,
-    third: usize,
-) -> Result<Answer, CommandError>
-    ensures { Gives answer_seen result (answer_of files.now (Way.Through first second third)) }
+/// What `talk` says of the screens of a way.
+fn talk_way(alloc: Global, files: &[Files], way: &Way) -> Result<Answer, CommandError>
+    ensures { Gives answer_seen result (talk_of files.now way.now) }
 {
-    let layouts = [
-        layout_text(files, first),
-        layout_text(files, second),
-        layout_text(files, third),
-    ];
-    let records = turns_text(
-        alloc,
-        records_text(files, first),
-        records_text(files, second),
-        records_text(files, third),
-    )?;
-    talk_texts(alloc, &layouts, records.as_slice())
+    let layouts = way_layouts(alloc, files, way)?;
+    let records = turns_text(alloc, files, way)?;
+    talk_texts(alloc, layouts.as_slice(), records.as_slice())
 }
 
 /// What is said of a way.
-fn answer_of(alloc: Global, files: &[Files], way: Way) -> Result<Answer, CommandError>
-    ensures { Gives answer_seen result (answer_of files.now way) }
+fn answer_of(alloc: Global, files: &[Files], way: &Way) -> Result<Answer, CommandError>
+    ensures { Gives answer_seen result (answer_of files.now way.now) }
 {
-    match way {
-        Way::Alone(index) => {
-            let (layout, records) = (layout_text(files, index), records_text(files, index));
-            check_texts(alloc, layout, records, Demos::Omitted)
-        }
-        Way::Through(first, second, third) => talk_three(alloc, files, first, second, third),
+    if way.others.is_empty() {
+        let layout = layout_text(files, way.first);
+        check_texts(
+            alloc,
+            layout,
+            records_text(files, way.first),
+            Demos::Omitted,
+        )
+    } else {
+        talk_way(alloc, files, way)
     }
 }
 
@@ -110,35 +110,30 @@ fn name_at(plans: &[PlannedScreen], index: usize) -> &str
     }
 }
 
-/// The names of three screens.
-fn push_three(out: &mut String, first: &str, second: &str, third: &str) -> Result<(), AllocError>
-    ensures { OnOk result (string_bytes out.new
-        ≡ string_bytes out.old ++ three_names first.now second.now third.now) }
+/// A further name.
+fn push_then(out: &mut String, name: &str) -> Result<(), AllocError>
+    ensures { OnOk result (string_bytes out.new ≡ string_bytes out.old ++ then_name name.now) }
 {
-    out.push_str(first)?;
     out.push_str(" then ")?;
-    out.push_str(second)?;
-    out.push_str(" then ")?;
-    out.push_str(third)
+    out.push_str(name)
 }
 
 /// The names of the screens of a way.
-fn push_names(out: &mut String, plans: &[PlannedScreen], way: Way) -> Result<(), AllocError>
+fn push_names(out: &mut String, plans: &[PlannedScreen], way: &Way) -> Result<(), AllocError>
     ensures { OnOk result (string_bytes out.new
-        ≡ string_bytes out.old ++ way_names plans.now way) }
+        ≡ string_bytes out.old ++ way_names plans.now way.now) }
 {
-    match way {
-        Way::Alone(index) => out.push_str(name_at(plans, index)),
-        Way::Through(first, second, third) => {
-            let name = name_at(plans, first);
-            push_three(out, name, name_at(plans, second), name_at(plans, third))
-        }
+    out.push_str(name_at(plans, way.first))?;
+    for index in way.others.as_slice() {
+        push_then(out, name_at(plans, *index))?;
     }
+    Ok(())
 }
 
 /// The line that names the screens of a way.
-fn push_way(out: &mut String, plans: &[PlannedScreen], way: Way) -> Result<(), AllocError>
-    ensures { OnOk result (string_bytes out.new ≡ string_bytes out.old ++ way_line plans.now way) }
+fn push_way(out: &mut String, plans: &[PlannedScreen], way: &Way) -> Result<(), AllocError>
+    ensures { OnOk result (string_bytes out.new
+        ≡ string_bytes out.old ++ way_line plans.now way.now) }
 {
     out.push_str("screen ")?;
     push_names(out, plans, way)?;
@@ -149,11 +144,11 @@ fn push_way(out: &mut String, plans: &[PlannedScreen], way: Way) -> Result<(), A
 fn push_lines(
     out: &mut String,
     plans: &[PlannedScreen],
-    way: Way,
+    way: &Way,
     text: &str,
 ) -> Result<(), AllocError>
     ensures { OnOk result (string_bytes out.new
-        ≡ string_bytes out.old ++ (way_line plans.now way ++ text.now)) }
+        ≡ string_bytes out.old ++ (way_line plans.now way.now ++ text.now)) }
 {
     push_way(out, plans, way)?;
     out.push_str(text)
@@ -164,11 +159,12 @@ fn push_told(
     alloc: Global,
     out: &mut String,
     plans: &[PlannedScreen],
-    way: Way,
+    way: &Way,
     answer: Result<Answer, CommandError>,
 ) -> Result<(), AllocError>
     ensures { (due : AResult Printed AFault) → Gives answer_seen answer due → OnOk result
-        (string_bytes out.new ≡ string_bytes out.old ++ lines_told (way_line plans.now way) due) }
+        (string_bytes out.new
+            ≡ string_bytes out.old ++ lines_told (way_line plans.now way.now) due) }
 {
     match answer {
         Ok(answer) => match answer.status {
@@ -190,10 +186,10 @@ fn push_judged(
     out: &mut String,
     plans: &[PlannedScreen],
     files: &[Files],
-    way: Way,
+    way: &Way,
 ) -> Result<(), AllocError>
     ensures { OnOk result (string_bytes out.new
-        ≡ string_bytes out.old ++ way_lines plans.now files.now way) }
+        ≡ string_bytes out.old ++ way_lines plans.now files.now way.now) }
 {
     let answer = answer_of(alloc, files, way);
     push_told(alloc, out, plans, way, answer)
@@ -210,7 +206,7 @@ pub(crate) fn ways_text(
 {
     let mut out = String::new(alloc);
     for way in ways {
-        push_judged(alloc, &mut out, plans, files, *way)?;
+        push_judged(alloc, &mut out, plans, files, way)?;
     }
     Ok(out)
 }

@@ -106,8 +106,9 @@ fn application_of(
 /// What is to be done with an application: it is served, or there is an answer to print: the first file that can't be read or is
 /// refused, a screen of other sizes, or what `check` and `talk` find.
 ///
-/// Each screen that begins with an erase is checked by itself, and the first in any case. Two screens that don't are judged as
-/// turns after each one that does, where keys lead so, or where a key without a lead shows a screen again.
+/// Each screen that begins with an erase is checked by itself, and the first in any case. Those that don't are judged as turns
+/// after each one that does, as far as keys lead, or where a key without a lead shows a screen again: each screen and a next one
+/// after the first way that comes to the former.
 ///
 /// # Errors
 ///

@@ -18,6 +18,8 @@ pub struct Many {
     pub answers: u16,
     /// For how many seconds nothing need come of a terminal; 0 is any time.
     pub idle: u16,
+    /// How many of one address are accepted in a second; 0 is any number.
+    pub per_second: u16,
 }
 
 /// How many terminals are served, and how many at once.
@@ -29,6 +31,7 @@ pub(crate) fn many_of(words: &ArgMatches<'_>) -> Many
         at_once: number_in(words, "at-once"),
         answers: number_in(words, "answers"),
         idle: number_in(words, "idle"),
+        per_second: number_in(words, "per-second"),
     }
 }
 
@@ -36,5 +39,8 @@ pub(crate) fn many_of(words: &ArgMatches<'_>) -> Many
 pub(crate) fn has_many_words(words: &ArgMatches<'_>) -> bool
     ensures { HasManyWords (rows_of (found_of words.now)) result }
 {
-    is_named(words, "at-once") || is_named(words, "answers") || is_named(words, "idle")
+    is_named(words, "at-once")
+        || is_named(words, "answers")
+        || is_named(words, "idle")
+        || is_named(words, "per-second")
 }

@@ -11,4 +11,6 @@ pub struct Asked {
     pub answers: u16,
     /// For how many seconds nothing need come of a terminal; 0 is any time.
     pub idle: u16,
+    /// How many of one address are accepted in a second; 0 is any number.
+    pub per_second: u16,
 }

@@ -7,6 +7,7 @@ ghost use Rattle.host_server.specs.Serving.{serving, is_done, Keeps, Serves, End
 use crate::asked::Asked;
 use crate::one_line::work_line;
 use crate::tally::Tally;
+use accept_limit::{AcceptLimit, Arrival};
 use cli_commands::{Status, TakesBytes};
 use cli_hosts::Hosts;
 use cli_sessions::Output;
@@ -15,7 +16,7 @@ use mio::{Events, Interest, Poll, Token};
 use std::alloc::{AllocError, Global};
 use std::io;
 use std::marker::Model;
-use std::net::{Net, ToSocketAddrs};
+use std::net::{IpAddr, Net, SocketAddr, ToSocketAddrs};
 use std::time::{Clock, Duration, Instant};
 
 /// The listener's token. The others are those of the hub.
@@ -46,6 +47,8 @@ pub struct Server<H: Hosts> {
     tally: Tally,
     /// Whether a terminal could not be given a session.
     has_refused: bool,
+    /// Which connections are accepted of those of one address.
+    limit: AcceptLimit,
 }
 
 impl<H: Hosts> Model for Server<H> {
@@ -70,6 +73,14 @@ fn listen<R: Net>(rt: &R, host: &str, port: u16) -> io::Result<TcpListener> {
         }
     }
     Err(last)
+}
+
+/// The number of an address. Those of IPv4 are told apart as the addresses of IPv6 that stand for them.
+fn number_of(peer: &SocketAddr) -> u128 {
+    match peer.ip() {
+        IpAddr::V4(address) => u128::from(address.to_bits()) | 0xFFFF_0000_0000,
+        IpAddr::V6(address) => address.to_bits(),
+    }
 }
 
 /// Has a line reported whenever it can be read or written.
@@ -138,6 +149,7 @@ impl<H: Hosts> Server<H> {
             asked,
             tally: Tally::new(),
             has_refused: false,
+            limit: AcceptLimit::new(alloc, asked.per_second),
         })
     }
 
@@ -159,6 +171,32 @@ impl<H: Hosts> Server<H> {
     /// Whether another terminal is served beside those that are there.
     fn has_room(&self) -> bool {
         self.open < self.asked.at_once.max(1) && self.hosts.came() < self.most()
+    }
+
+    /// Whether a terminal is served that came from there, by how many did in the last second.
+    fn admits(&mut self, peer: &SocketAddr, now: u64) -> bool
+        ensures { Keeps H.content self.old self.new }
+    {
+        if self.asked.per_second == 0 {
+            return true;
+        }
+        let address = number_of(peer);
+        match self.limit.admit(Arrival { address, at: now }) {
+            Ok(is_admitted) => is_admitted,
+            Err(_) => {
+                self.has_refused = true;
+                false
+            }
+        }
+    }
+
+    /// A terminal came from there: it is served, or its line goes.
+    fn take_one(&mut self, alloc: Global, now: u64, stream: TcpStream, peer: &SocketAddr)
+        ensures { Keeps H.content self.old self.new }
+    {
+        if self.admits(peer, now) {
+            self.open(alloc, now, stream);
+        }
     }
 
     /// A terminal came.
@@ -189,7 +227,7 @@ impl<H: Hosts> Server<H> {
                 return;
             }
             match self.listener.accept() {
-                Ok((stream, _)) => self.open(alloc, now, stream),
+                Ok((stream, peer)) => self.take_one(alloc, now, stream, &peer),
                 Err(error) if error.kind() == io::ErrorKind::WouldBlock => {
                     self.may_accept = false;
                     return;

@@ -460,6 +460,11 @@ const SESSIONS: &[Described<'_>] = &[
                 help: "End a terminal of which nothing came for so long: 1 to 65535",
             },
             Argument {
+                name: "per-second",
+                takes: Takes::UpTo("N", 1000),
+                help: "Accept at most so many terminals of one address in a second: 1 to 1000",
+            },
+            Argument {
                 name: "listen",
                 takes: Takes::Text("ADDRESS", "127.0.0.1"),
                 help: "The address that is listened at",

@@ -32,12 +32,14 @@ pub(crate) fn asked_of(many: Many) -> Asked {
         at_once,
         answers,
         idle,
+        per_second,
     } = many;
     Asked {
         count,
         at_once,
         answers,
         idle,
+        per_second,
     }
 }
 

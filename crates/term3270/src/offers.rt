@@ -274,6 +274,7 @@ fn many_in(words: &ArgMatches<'_>) -> Many {
         at_once: number_in(words, "at-once"),
         answers: number_in(words, "answers"),
         idle: number_in(words, "idle"),
+        per_second: number_in(words, "per-second"),
     }
 }
 

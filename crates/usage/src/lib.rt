@@ -1,6 +1,7 @@
 //! The examples of the crates, as their README.md show them.
 #![tactic(auto)]
 
+mod of_accept_limit;
 mod of_bms_map;
 mod of_bms_source;
 mod of_buffer_lines;

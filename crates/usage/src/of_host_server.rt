@@ -22,6 +22,7 @@ fn serve_three<R: Net + Clock, W: TakesBytes>(
         at_once: 3,
         answers: 0,
         idle: 60,
+        per_second: 10,
     };
     let hosts = ScreenHosts::new(alloc, &screen.layout, records, 60_000);
     let mut server = Server::at(rt, alloc, "127.0.0.1", 3270, hosts, asked)?;
