@@ -90,7 +90,7 @@ fn reached(alloc: Global, screens: &[PlannedScreen], first: usize) -> Result<Vec
 fn missing(count: usize, found: &[usize]) -> Option<usize>
     ensures { MatchOption result ((n : ℕ) → n < count → has found.now n ≡ true)
         (λ lost. (lost < count) × (has found.now lost ≡ false)
-            × ((m : ℕ) → m < lost → has found.now m ≡ true)) }
+        × ((m : ℕ) → m < lost → has found.now m ≡ true)) }
 {
     for index in 0..count {
         if !has(found, index) {

@@ -164,7 +164,7 @@ fn push_told(
 ) -> Result<(), AllocError>
     ensures { (due : AResult Printed AFault) → Gives answer_seen answer due → OnOk result
         (string_bytes out.new
-            ≡ string_bytes out.old ++ lines_told (way_line plans.now way.now) due) }
+        ≡ string_bytes out.old ++ lines_told (way_line plans.now way.now) due) }
 {
     match answer {
         Ok(answer) => match answer.status {
