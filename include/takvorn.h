@@ -247,8 +247,25 @@ int32_t takvorn_terminal_buffer(const uint8_t *state, size_t state_length, uint8
 /* The cells of the size in use, as the bytes of so many takvorn_cell: `*needed` is twice their number. */
 int32_t takvorn_terminal_cells(const uint8_t *state, size_t state_length, uint8_t *out, size_t out_length, size_t *needed);
 
+/* A field: the position of its attribute, the position after that (0 after the last one), how many positions it governs, and the attribute's six bits. */
+typedef struct takvorn_field {
+  uint32_t attribute;
+  uint32_t first;
+  uint32_t length;
+  uint8_t bits;
+} takvorn_field;
+
+/* The fields in rising order of their attributes. What fits of `count` is written, and the rest stays; `*needed` is how many there are. */
+int32_t takvorn_terminal_fields(const uint8_t *state, size_t state_length, takvorn_field *fields, size_t count, size_t *needed);
+
 /* What it keeps beside its cells. */
 int32_t takvorn_terminal_status(const uint8_t *state, size_t state_length, takvorn_status *status);
+
+/* Checks the screen as it stands against a layout, as takvorn_check checks the record that draws it: an Erase/Write, or Erase/Write Alternate, with each
+ * cell and the cursor, and the keyboard restored. So it says nothing of the records that made the screen, nor of the keyboard's lock. Where that record has
+ * more than TAKVORN_MOST_RECORD_BYTES the text is `input too long`. TAKVORN_BAD_INPUT with no text where the bytes are no state. */
+int32_t takvorn_terminal_check(const uint8_t *state, size_t state_length, const uint8_t *layout, size_t layout_length, bool demos,
+                               uint8_t *out, size_t out_length, size_t *needed);
 
 #ifdef __cplusplus
 }

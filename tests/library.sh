@@ -117,13 +117,39 @@ each_terminal() { # PROGRAM ..: with these words before it
   if "$@" > "$work/stdout" 2> "$work/stderr"; then good; else bad "terminals: $*: $(tail -n 5 "$work/stderr")"; fi
 }
 each_terminal "$work/terminal" both 71 20000
+each_terminal "$work/terminal" rows
 each_terminal "$work/terminal" threads
 each_terminal "$work/terminal" changed
 each_terminal "$work/terminal_refused"
 if has valgrind "terminals under valgrind"; then
   each_terminal valgrind -q --leak-check=full --error-exitcode=120 "$work/terminal" both 5 20
   each_terminal valgrind -q --leak-check=full --error-exitcode=120 "$work/terminal" changed
+  each_terminal valgrind -q --leak-check=full --error-exitcode=120 "$work/terminal" rows
 fi
+
+# Golden cases of `check` at a terminal of the layout's sizes whose records are all shown. The screen is checked, so only findings of its fields, F8
+# and on, are those of the records.
+build terminal_check tests/terminal_check.c || bad "a C program that checks a terminal isn't built"
+tried=0
+for case in "$root"/tests/cases/check/*/; do
+  [ -f "$case/stdin" ] && [ -f "$case/layout.toml" ] && [ -f "$case/stdout" ] && [ ! -f "$case/make-stdin" ] || continue
+  # The record that draws 65,025 positions is longer than `check` takes.
+  case $case in */last_cell_of_16_bits/) continue ;; esac
+  case $(tr '\n' ' ' < "$case/args") in
+    'check layout.toml ') demos=no ;;
+    'check layout.toml --demo ' | 'check --demo layout.toml ') demos=yes ;;
+    *) continue ;;
+  esac
+  grep -qE '^(yes|F[89]|F1[0-9])' "$case/stdout" || continue
+  "$work/terminal_check" "$case/stdin" "$case/layout.toml" $demos > "$work/stdout" 2> "$work/stderr"
+  status=$?
+  [ $status != 9 ] || continue
+  tried=$((tried + 1))
+  if [ $status = "$(cat "$case/status" 2> /dev/null || echo 0)" ] && cmp -s "$work/stdout" "$case/stdout"; then good; else
+    bad "the check of a terminal: $case: status $status"
+  fi
+done
+[ $tried -ge 25 ] && good || bad "only $tried golden cases of check at a terminal"
 
 # ---- as a system has it
 if [ ! -x "$program" ]; then echo "the program isn't built: what is installed left out"

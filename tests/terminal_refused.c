@@ -26,6 +26,8 @@ void free(void *block) {
 }
 
 static uint8_t state[8192], before[8192], out[8192], pressed;
+static takvorn_field fields[64];
+static const char layout[] = "default = \"24x80\"\n";
 static const uint8_t record[] = {0xF5, 0xC3, 0x1D, 0x60, 0xC1, 0x1D, 0x40, 0x13};
 static size_t length, needed;
 static takvorn_effect effect;
@@ -36,11 +38,18 @@ static int32_t press(void) { return takvorn_terminal_press(state, length, TAKVOR
 static int32_t answer(void) { return takvorn_terminal_answer(state, length, true, out, sizeof out, &needed); }
 static int32_t buffer(void) { return takvorn_terminal_buffer(state, length, out, sizeof out, &needed); }
 static int32_t cells(void) { return takvorn_terminal_cells(state, length, out, sizeof out, &needed); }
+static int32_t field(void) { return takvorn_terminal_fields(state, length, fields, 64, &needed); }
+/* That there are findings is no fault. */
+static int32_t judge(void) {
+  int32_t told = takvorn_terminal_check(state, length, (const uint8_t *)layout, sizeof layout - 1, true, out, sizeof out, &needed);
+  return told == TAKVORN_FINDINGS ? TAKVORN_DONE : told;
+}
 static int32_t tell(void) { return takvorn_terminal_status(state, length, &status); }
 static int32_t make(void) { return takvorn_terminal_new(24, 80, 24, 80, false, state, length); }
 
 static const struct { const char *name; int32_t (*call)(void); } calls[] = {
-  {"new", make}, {"apply", apply}, {"press", press}, {"answer", answer}, {"buffer", buffer}, {"cells", cells}, {"status", tell},
+  {"new", make}, {"apply", apply}, {"press", press}, {"answer", answer}, {"buffer", buffer}, {"cells", cells}, {"fields", field},
+  {"check", judge}, {"status", tell},
 };
 
 static int wrong(const char *name, const char *what) { return fprintf(stderr, "%s: %s\n", name, what), 1; }

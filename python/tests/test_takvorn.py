@@ -175,3 +175,52 @@ def test_a_terminal_is_checked():
     terminal.apply(bytes.fromhex("F1C011C44B40"))
     (finding,) = terminal.check(LAYOUT)
     assert (finding.number, finding.length) == (11, 69)
+
+
+def test_fields_of_a_terminal():
+    terminal = takvorn.Terminal(default=(2, 10))
+    assert terminal.fields == ()
+    # Protected at 0 with two positions, unprotected at 3 with eight, protected, numeric and modified at 12 with seven.
+    terminal.apply(bytes.fromhex("F5C31D60C1C21D401311404C1DF1"))
+    assert terminal.fields == (takvorn.Span(0, 1, 2, 0x20), takvorn.Span(3, 4, 8, 0), takvorn.Span(12, 13, 7, 0x31))
+    assert all(terminal.cells[it.attribute] == takvorn.Cell("attribute", it.bits) for it in terminal.fields)
+    # A character that is typed into a field sets its modified data tag, which a copy of before has not.
+    before = terminal.copy()
+    terminal.press("type C1")
+    assert [it.bits for it in terminal.fields] == [0x20, 0x01, 0x31]
+    assert [it.bits for it in before.fields] == [0x20, 0, 0x31]
+    # The field of an attribute at the last position begins at the first.
+    terminal.apply(bytes.fromhex("F5C31140D31D40"))
+    assert terminal.fields == (takvorn.Span(19, 0, 19, 0),)
+
+
+def test_a_check_is_of_the_screen_as_it_stands():
+    layout = 'default = "2x10"\n[[field]]\nname = "code"\nrow = 2\ncol = 9\nlength = 4\n'
+    terminal = takvorn.Terminal(default=(2, 10))
+    # An input from 18 over the end to 2, of five positions, and a protected field from 3 on.
+    terminal.apply(bytes.fromhex("F5C21140D11D40131140C31D60"))
+    (finding,) = terminal.check(layout)
+    assert (finding.number, finding.length, finding.declared) == (11, 5, 4)
+    before = terminal.state
+    assert terminal.check(layout.replace("length = 4", "length = 5")) == []
+    assert terminal.state == before
+    with pytest.raises(takvorn.Refused):
+        terminal.check("no layout")
+
+
+def test_a_suite_of_a_folder(tmp_path):
+    for name, text in (("good", SIGNON), ("flawed", SIGNON.replace("1DF0E2C9", "1DF1E2C9"))):
+        (tmp_path / f"{name}.hex").write_text(text)
+        (tmp_path / f"{name}.toml").write_bytes(LAYOUT.text)
+    (tmp_path / "alone.hex").write_text(SIGNON)
+    (tmp_path / ".hidden.hex").write_text(SIGNON)
+    alone, flawed, good = takvorn.suite(tmp_path)
+    assert (alone.name, alone.verdict) == (f"{tmp_path}/alone.hex", "refused")
+    assert alone.refused.words == f"no {tmp_path}/alone.toml beside it"
+    assert (flawed.name, flawed.verdict, [it.number for it in flawed.findings]) == (f"{tmp_path}/flawed", "no", [9])
+    assert (good.name, good.verdict, good.findings) == (f"{tmp_path}/good", "yes", ())
+
+
+def test_a_suite_of_named_screens():
+    told = takvorn.suite([("one", LAYOUT, SIGNON), ("two", "no layout", SIGNON)])
+    assert [(it.name, it.verdict) for it in told] == [("one", "yes"), ("two", "refused")]

@@ -16,4 +16,4 @@ pub use calls::{apply_record, new_state, press_key};
 pub use laws::one_picture;
 pub use opened::open_state;
 pub use reading::{Status, read_buffer, read_cells, read_modified, read_status};
-pub use spelled::{state_length, state_of};
+pub use spelled::{record_of, state_length, state_of};

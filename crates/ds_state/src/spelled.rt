@@ -88,8 +88,13 @@ fn push_cursor<C: Cells>(out: &mut Vec<u8>, screen: &Screen<C>) -> Result<(), Al
     Ok(())
 }
 
-/// The record that draws a screen: it erases, and writes each cell and the cursor.
-fn record_of<C: Cells>(alloc: Global, screen: &Screen<C>) -> Result<Vec<u8>, AllocError>
+/// The record that draws a screen: it erases, restores the keyboard, and writes each cell and the cursor. Takes memory for these bytes, and
+/// time linear in the cells.
+///
+/// # Errors
+///
+/// Where a request for memory was refused.
+pub fn record_of<C: Cells>(alloc: Global, screen: &Screen<C>) -> Result<Vec<u8>, AllocError>
     ensures written { IfOk result (λ bytes. bytes.items ≡ record_of screen.now) }
     ensures whole { OnOk result (IsWhole screen.now) }
 {

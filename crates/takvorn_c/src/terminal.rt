@@ -3,14 +3,15 @@
 ghost use Rattle.std.specs.Prelude.{◌≡◌};
 ghost use Rattle.ds_inbound.specs.Answer.{buffer_of, bytes_sent};
 ghost use Rattle.ds_state.specs.Calls.{cell_pairs};
+ghost use Rattle.terminal_calls.specs.Items.{LeavesFields};
 ghost use Rattle.terminal_calls.specs.Left.{LeavesBytes, LeavesEffect, LeavesNew, LeavesPressed, LeavesStatus};
 ghost use Rattle.terminal_calls.specs.Numbers.{geometry_told, length_of};
 
 use ds_codec::Size;
 use std::alloc::Global;
 use terminal_calls::{
-    Effect, TerminalStatus, apply_left, buffer_left, cells_left, length_told, modified_left,
-    new_left, press_left, status_left,
+    Effect, TerminalField, TerminalStatus, apply_left, buffer_left, cells_left, fields_left,
+    length_told, modified_left, new_left, press_left, status_left,
 };
 
 fn size(rows: u16, cols: u16) -> Size
@@ -122,6 +123,19 @@ pub extern "C" fn takvorn_terminal_cells(
     ensures { LeavesBytes (λ v. cell_pairs v.cells) state.now out.old out.new needed.new result }
 {
     i32::from(cells_left(alloc, state, out, needed))
+}
+
+/// The fields.
+#[unsafe(no_mangle)]
+pub extern "C" fn takvorn_terminal_fields(
+    alloc: Global,
+    state: &[u8],
+    fields: &mut [TerminalField],
+    needed: &mut usize,
+) -> i32
+    ensures { LeavesFields state.now fields.old fields.new needed.new result }
+{
+    i32::from(fields_left(alloc, state, fields, needed))
 }
 
 /// The size in use, the cursor, the keyboard's lock and the attention identifier.

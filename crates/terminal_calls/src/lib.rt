@@ -2,6 +2,8 @@
 #![tactic(auto)]
 
 mod applied;
+mod drawing;
+mod items;
 mod key;
 mod made;
 mod pressed;
@@ -9,6 +11,8 @@ mod status;
 mod texts;
 
 pub use applied::{Effect, apply_left};
+pub use drawing::state_drawing;
+pub use items::{TerminalField, fields_left};
 pub use made::{length_told, new_left};
 pub use pressed::press_left;
 pub use status::{TerminalStatus, status_left};

@@ -23,10 +23,12 @@ from ._finding import Finding
 from ._records import Records
 from ._refused import Refused
 from ._screen import Field, Screen, drawing, show
-from ._terminal import Cell, Effect, Status, Terminal
+from ._suite import Case, suite
+from ._terminal import Cell, Effect, Span, Status, Terminal
 
 __all__ = [
     "Answer",
+    "Case",
     "Cell",
     "Effect",
     "Field",
@@ -37,6 +39,7 @@ __all__ = [
     "Records",
     "Refused",
     "Screen",
+    "Span",
     "Status",
     "Terminal",
     "bind",
@@ -51,5 +54,6 @@ __all__ = [
     "press",
     "records",
     "show",
+    "suite",
     "talk",
 ]

@@ -46,6 +46,15 @@ class _Effect(ctypes.Structure):
     ]
 
 
+class _Field(ctypes.Structure):
+    _fields_ = [
+        ("attribute", ctypes.c_uint32),
+        ("first", ctypes.c_uint32),
+        ("length", ctypes.c_uint32),
+        ("bits", ctypes.c_uint8),
+    ]
+
+
 class _Status(ctypes.Structure):
     _fields_ = [
         ("rows", ctypes.c_uint16),
@@ -86,6 +95,17 @@ class Cell:
     code: int
 
 
+@dataclass(frozen=True)
+class Span:
+    """A field as it stands: the position of its attribute, the position after that (0 after the last one), how many positions it governs, and the
+    attribute's six bits. Positions count from 0 row by row."""
+
+    attribute: int
+    first: int
+    length: int
+    bits: int
+
+
 def _numbers(key: str) -> "tuple[int, int]":
     """The numbers of a key by its word, as `press` takes it."""
     if key in _AIDS:
@@ -99,8 +119,8 @@ def _numbers(key: str) -> "tuple[int, int]":
 
 
 class Terminal:
-    """A terminal: it takes records and keys, and tells its cells, its screen and what it sends. `state` is all of it, as bytes: two terminals
-    that show and keep the same have equal states, and `Terminal.of` makes a terminal of them again."""
+    """A terminal: it takes records and keys, and tells its cells, its fields, its screen and what it sends. `state` is all of it, as bytes: two
+    terminals that show and keep the same have equal states, and `Terminal.of` makes a terminal of them again."""
 
     def __init__(self, default: Size = (24, 80), alternate: Optional[Size] = None, wide: bool = False) -> None:
         """A new terminal of a default and an alternate size, which without one is the default; with `wide` its addresses are of 16 bits. Its
@@ -186,6 +206,14 @@ class Terminal:
         """The cells of the size in use, row by row."""
         pairs = self._bytes("cells")
         return tuple(Cell(_KINDS[pairs[at]], pairs[at + 1]) for at in range(0, len(pairs), 2))
+
+    @property
+    def fields(self) -> "tuple[Span, ...]":
+        """The fields, in rising order of their attributes."""
+        room, needed = len(self._state), ctypes.c_size_t()
+        fields = (_Field * room)()
+        self._call("fields", fields, ctypes.c_size_t(room), ctypes.byref(needed))
+        return tuple(Span(it.attribute, it.first, it.length, it.bits) for it in fields[: needed.value])
 
     @property
     def status(self) -> Status:
