@@ -208,6 +208,18 @@ pub(crate) fn push_places(row: &mut Row, layout: &Layout, words: &str) {
     }
 }
 
+/// The sizes and the entries of a copy of a layout, and the indexes of the entries at some places.
+pub(crate) fn push_copy(row: &mut Row, layout: &Layout, words: &str) {
+    match layout.copy(row.alloc()) {
+        Ok(copy) => {
+            push_all(row, &copy);
+            row.word("; ");
+            push_places(row, &copy, words);
+        }
+        Err(_) => row.spoil(),
+    }
+}
+
 /// What is told of a text of a front, a part so many times, and a back.
 fn push_repeated(row: &mut Row, front: &str, part: &str, count: u32, back: &str) {
     let mut text = Row::new(row.alloc());

@@ -45,7 +45,7 @@ pub(crate) struct Setup {
 /// The verbs of the setup's layout.
 const OF_LAYOUT: &[&str] = &[
     "check", "count", "often", "bind", "conforms", "bound", "pressed", "origins", "traced",
-    "shape", "entries", "at", "taken", "pen",
+    "shape", "entries", "copy", "at", "taken", "pen",
 ];
 
 fn take_list(row: &mut Row, setup: &mut Setup, words: &str) {
@@ -88,6 +88,7 @@ fn push_declared(row: &mut Row, setup: &Setup, layout: &Layout, verb: &str, word
         "taken" => taken::push_taken(row, layout, words),
         "shape" => promise::push_after(row, setup, layout, Told::Shape, words),
         "entries" => layouts::push_all(row, layout),
+        "copy" => layouts::push_copy(row, layout, words),
         _ => layouts::push_places(row, layout, words),
     }
 }

@@ -9,6 +9,7 @@ pub mod Keys
 pub mod Strokes
 pub mod Drafts
 pub mod LayoutText
+pub mod LastLayout
 pub mod Printed
 pub mod Shown
 pub mod Screen

@@ -5,6 +5,7 @@ pub mod bytes;
 pub mod checking;
 pub mod drafts;
 pub mod keys;
+pub mod last_layout;
 pub mod layout;
 pub mod layouts;
 pub mod lines;

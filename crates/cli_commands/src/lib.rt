@@ -20,6 +20,7 @@ pub use fault::{CommandError, Fault, failure};
 pub use input::ahead::ReadAhead;
 pub use input::bytes::{read_text, within_limit};
 pub use input::keys::{Keys, keys_in, read_keys};
+pub use input::last_layout::LastLayout;
 pub use input::layout::{layout_in, read_layout};
 pub use input::next::{next_line, without_end};
 pub use input::records::{Records, read_records, records_in};

@@ -5,7 +5,6 @@ pub mod Values
 pub mod Tables
 pub mod Manifest
 pub mod Count
-pub mod LastLayout
 pub mod Answers
 pub mod Settled
 pub mod Text

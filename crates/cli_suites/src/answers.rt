@@ -9,9 +9,9 @@ ghost use Rattle.cli_suites.specs.Answers.{Reads, alone, answer_in, answer_of, a
 
 use crate::files::Files;
 use crate::job::{Job, Kind};
-use crate::last_layout::{LastLayout, check_remembering};
+use crate::last_layout::check_remembering;
 use bms_map::Control;
-use cli_commands::{Answer, CommandError, Fault, Status, lent, talk_texts};
+use cli_commands::{Answer, CommandError, Fault, LastLayout, Status, lent, talk_texts};
 use cli_findings::Pen;
 use cli_maps::{Asked, Report, check_map_text};
 use cli_reports::{TalkForm, explained_texts, talk_report_texts};

@@ -12,12 +12,11 @@ use crate::folder::jobs_of_paths;
 use crate::job::{Accepted, Job};
 use crate::json::push_json_refusal;
 use crate::junit::push_junit_refusal;
-use crate::last_layout::LastLayout;
 use crate::manifest::{Manifest, has_name, manifest_in};
 use crate::report::{Form, Report, add, log_text, no_report, printed_report};
 use crate::settled::settle;
 use crate::told::job_told;
-use cli_commands::{Answer, Status};
+use cli_commands::{Answer, LastLayout, Status};
 use cli_findings::refused_results;
 use std::alloc::{AllocError, Global};
 

@@ -11,9 +11,8 @@ use crate::answers::{Detail, Inputs, ReadError, alone, answer_of, job_read, miss
 use crate::files::Files;
 use crate::found::{alone_results, answered_results, missing_results};
 use crate::job::{Accepted, Job, Kind};
-use crate::last_layout::LastLayout;
 use crate::report::Form;
-use cli_commands::{Answer, Status};
+use cli_commands::{Answer, LastLayout, Status};
 use cli_findings::Results;
 use std::alloc::{AllocError, Global};
 

@@ -35,7 +35,7 @@ module _ {T : Type 0} where
       let capacity = λ (x : heap.Vec T). vec_capacity x in
       map-set_same capacity blocks k v was (same ∙ ap capacity is)
 
-  pub room_more : (blocks : List (heap.Vec T)) (k : ℕ) (v : heap.Vec T) (j : ℕ) → k < length blocks → 64 ≤ vec_capacity v → 64 ≤ get_or (rooms_of blocks) j 0 → 64 ≤ get_or (rooms_of (set blocks k v)) j 0
+  pub room_more : (blocks : List (heap.Vec T)) (k : ℕ) (v : heap.Vec T) (j : ℕ) → k < length blocks → 512 ≤ vec_capacity v → 512 ≤ get_or (rooms_of blocks) j 0 → 512 ≤ get_or (rooms_of (set blocks k v)) j 0
   room_more blocks k v j lt more had =
       let capacity = λ (x : heap.Vec T). vec_capacity x in
       elim (cases_eq j k) [
@@ -77,7 +77,7 @@ module _ {T : Type 0} where
       record {
         each = each;
         enough = same_lists old new same ∙ are.enough;
-        roomy = λ k lt. subst (λ (r : List ℕ). 64 ≤ get_or r k 0) (sym same) (are.roomy k (omega (arith, lt, same_lists old new same)));
+        roomy = λ k lt. subst (λ (r : List ℕ). 512 ≤ get_or r k 0) (sym same) (are.roomy k (omega (arith, lt, same_lists old new same)));
         rising = rising;
         listed = listed;
       }

@@ -89,13 +89,13 @@ module _ {T : Type 0} (place : T → ℕ) where
   first_of_all : (base : ℕ) (xs : List T) (lists : List (List T)) → ((k : ℕ) → IsBlock place (base + k) (list_at (xs ∷ lists) k)) → IsBlock place base xs
   first_of_all base xs lists each = let same : base + zero ≡ base = omega arith in subst (λ j. IsBlock place j xs) same (each zero)
 
-  none_below : (base : ℕ) (lists : List (List T)) (q : ℕ) → ((k : ℕ) → IsBlock place (base + k) (list_at lists k)) → q / 64 < base → at_place place (entries_in lists) q ≡ None
+  none_below : (base : ℕ) (lists : List (List T)) (q : ℕ) → ((k : ℕ) → IsBlock place (base + k) (list_at lists k)) → q / 512 < base → at_place place (entries_in lists) q ≡ None
   none_below base [] q each lt = refl
   none_below base (xs ∷ lists) q each lt =
       at_append place xs (entries_in lists) q ∙ ap (λ o. either place o (at_place place (entries_in lists) q)) ((first_of_all base xs lists each).inside q (λ same. omega (arith, same, lt)))
       ∙ none_either _ ∙ none_below (base + 1) lists q (rest_of base xs lists each) (omega (arith, lt))
 
-  at_some : (base : ℕ) (lists : List (List T)) (q k : ℕ) → ((k : ℕ) → IsBlock place (base + k) (list_at lists k)) → q / 64 ≡ base + k
+  at_some : (base : ℕ) (lists : List (List T)) (q k : ℕ) → ((k : ℕ) → IsBlock place (base + k) (list_at lists k)) → q / 512 ≡ base + k
       → at_place place (entries_in lists) q ≡ at_place place (list_at lists k) q
   at_some base [] q k each is = refl
   at_some base (xs ∷ lists) q zero each is =
@@ -107,27 +107,27 @@ module _ {T : Type 0} (place : T → ℕ) where
       ∙ none_either _ ∙ at_some (base + 1) lists q k (rest_of base xs lists each) (omega (arith, is))
 
   -- what is held at a place is held in its block
-  pub at_flat : (lists : List (List T)) → ((k : ℕ) → IsBlock place k (list_at lists k)) → (q : ℕ) → at_place place (entries_in lists) q ≡ at_place place (list_at lists (q / 64)) q
-  at_flat lists each q = at_some 0 lists q (q / 64) (λ k. let same : k ≡ 0 + k = omega arith in subst (λ j. IsBlock place j (list_at lists k)) same (each k)) (omega arith)
+  pub at_flat : (lists : List (List T)) → ((k : ℕ) → IsBlock place k (list_at lists k)) → (q : ℕ) → at_place place (entries_in lists) q ≡ at_place place (list_at lists (q / 512)) q
+  at_flat lists each q = at_some 0 lists q (q / 512) (λ k. let same : k ≡ 0 + k = omega arith in subst (λ j. IsBlock place j (list_at lists k)) same (each k)) (omega arith)
 
   -- ---- one block
-  pub block_rises : (k : ℕ) (xs : List T) → IsBlock place k xs → RisesFrom place (64 * k) xs
-  block_rises k xs own = rises_lift (64 * k) xs own.rising (λ q lt. own.inside q (λ same. omega (arith, same, lt)))
+  pub block_rises : (k : ℕ) (xs : List T) → IsBlock place k xs → RisesFrom place (512 * k) xs
+  block_rises k xs own = rises_lift (512 * k) xs own.rising (λ q lt. own.inside q (λ same. omega (arith, same, lt)))
 
-  pub block_within : (k : ℕ) (xs : List T) → IsBlock place k xs → IsWithin place (64 * k + 64) xs
+  pub block_within : (k : ℕ) (xs : List T) → IsBlock place k xs → IsWithin place (512 * k + 512) xs
   block_within k xs own q far = own.inside q (λ same. omega (arith, same, far))
 
-  pub block_few : (k : ℕ) (xs : List T) → IsBlock place k xs → length xs ≤ 64
-  block_few k xs own = let all : length xs ≤ 64 * k + 64 - 64 * k = few place (64 * k) (64 * k + 64) xs (block_rises k xs own) (block_within k xs own) in omega (arith, all)
+  pub block_few : (k : ℕ) (xs : List T) → IsBlock place k xs → length xs ≤ 512
+  block_few k xs own = let all : length xs ≤ 512 * k + 512 - 512 * k = few place (512 * k) (512 * k + 512) xs (block_rises k xs own) (block_within k xs own) in omega (arith, all)
 
-  pub block_room : (k p : ℕ) (xs : List T) → IsBlock place k xs → p / 64 ≡ k → at_place place xs p ≡ None → length xs < 64
+  pub block_room : (k p : ℕ) (xs : List T) → IsBlock place k xs → p / 512 ≡ k → at_place place xs p ≡ None → length xs < 512
   block_room k p xs own is none =
-      let more : length xs + 1 ≤ 64 * k + 64 - 64 * k = few_but (64 * k) (64 * k + 64) p xs (block_rises k xs own) (block_within k xs own) (omega (arith, is)) (omega (arith, is)) none in
+      let more : length xs + 1 ≤ 512 * k + 512 - 512 * k = few_but (512 * k) (512 * k + 512) p xs (block_rises k xs own) (block_within k xs own) (omega (arith, is)) (omega (arith, is)) none in
       omega (arith, more)
 
   -- an entry of a block has its place there
-  pub in_block : (k q : ℕ) (x : T) (xs : List T) → IsBlock place k xs → at_place place xs q ≡ Some x → q / 64 ≡ k
-  in_block k q x xs own held = elim (cases_eq (q / 64) k) [
+  pub in_block : (k q : ℕ) (x : T) (xs : List T) → IsBlock place k xs → at_place place xs q ≡ Some x → q / 512 ≡ k
+  in_block k q x xs own held = elim (cases_eq (q / 512) k) [
     | inl same ↦ same
     | inr apart ↦ let e : Some x ≡ None = sym held ∙ own.inside q apart in absurd cc
   ]
@@ -136,16 +136,16 @@ module _ {T : Type 0} (place : T → ℕ) where
   empty_block k = record { rising = tt; inside = λ q apart. refl }
 
   -- the list rises
-  rises_all : (base : ℕ) (lists : List (List T)) → ((k : ℕ) → IsBlock place (base + k) (list_at lists k)) → RisesFrom place (64 * base) (entries_in lists)
+  rises_all : (base : ℕ) (lists : List (List T)) → ((k : ℕ) → IsBlock place (base + k) (list_at lists k)) → RisesFrom place (512 * base) (entries_in lists)
   rises_all base [] each = tt
   rises_all base (xs ∷ lists) each =
       let own : IsBlock place base xs = first_of_all base xs lists each in
-      let within : IsWithin place (64 * (base + 1)) xs = λ q far. own.inside q (λ same. omega (arith, same, far)) in
-      rises_append (64 * base) (64 * (base + 1)) xs (entries_in lists) (block_rises base xs own) within (omega arith) (rises_all (base + 1) lists (rest_of base xs lists each))
+      let within : IsWithin place (512 * (base + 1)) xs = λ q far. own.inside q (λ same. omega (arith, same, far)) in
+      rises_append (512 * base) (512 * (base + 1)) xs (entries_in lists) (block_rises base xs own) within (omega arith) (rises_all (base + 1) lists (rest_of base xs lists each))
 
   pub rises_flat : (lists : List (List T)) → ((k : ℕ) → IsBlock place k (list_at lists k)) → IsRising place (entries_in lists)
   rises_flat lists each =
-      rises_weaken place 0 (64 * 0) (entries_in lists) (omega arith)
+      rises_weaken place 0 (512 * 0) (entries_in lists) (omega arith)
       (rises_all 0 lists (λ k. let same : k ≡ 0 + k = omega arith in subst (λ j. IsBlock place j (list_at lists k)) same (each k)))
 
   pub empty_flat : (lists : List (List T)) → ((k : ℕ) → list_at lists k ≡ []) → entries_in lists ≡ []
@@ -155,36 +155,36 @@ module _ {T : Type 0} (place : T → ℕ) where
   -- ---- searches
   -- a block that isn't listed holds nothing
   unlisted_none : (lists : List (List T)) (used : List ℕ) → ((k : ℕ) → IsBlock place k (list_at lists k)) → ((k : ℕ) → at_place itself used k ≡ listed_if k (list_at lists k))
-      → (r : ℕ) → at_place itself used (r / 64) ≡ None → at_place place (entries_in lists) r ≡ None
+      → (r : ℕ) → at_place itself used (r / 512) ≡ None → at_place place (entries_in lists) r ≡ None
   unlisted_none lists used each listed r none =
-      at_flat lists each r ∙ ap (λ l. at_place place l r) (unlisted (r / 64) (list_at lists (r / 64)) (sym (listed (r / 64)) ∙ none))
+      at_flat lists each r ∙ ap (λ l. at_place place l r) (unlisted (r / 512) (list_at lists (r / 512)) (sym (listed (r / 512)) ∙ none))
 
-  pub first_in : (lists : List (List T)) (p : ℕ) (x : T) → ((k : ℕ) → IsBlock place k (list_at lists k)) → IsFirstFrom place (list_at lists (p / 64)) p (Some x)
+  pub first_in : (lists : List (List T)) (p : ℕ) (x : T) → ((k : ℕ) → IsBlock place k (list_at lists k)) → IsFirstFrom place (list_at lists (p / 512)) p (Some x)
       → IsFirstFrom place (entries_in lists) p (Some x)
   first_in lists p x each found =
-      let here : place x / 64 ≡ p / 64 = in_block (p / 64) (place x) x (list_at lists (p / 64)) (each (p / 64)) found.1 in (
+      let here : place x / 512 ≡ p / 512 = in_block (p / 512) (place x) x (list_at lists (p / 512)) (each (p / 512)) found.1 in (
         found.0,
         at_flat lists each (place x) ∙ ap (λ k. at_place place (list_at lists k) (place x)) here ∙ found.1,
         λ r from below.
-            let same : r / 64 ≡ p / 64 = omega (arith, from, below, here) in
+            let same : r / 512 ≡ p / 512 = omega (arith, from, below, here) in
             at_flat lists each r ∙ ap (λ k. at_place place (list_at lists k) r) same ∙ found.2 r from below,
       )
 
   pub first_later : (lists : List (List T)) (used : List ℕ) (p j : ℕ) (x : T) → ((k : ℕ) → IsBlock place k (list_at lists k)) → ((k : ℕ) → at_place itself used k ≡ listed_if k (list_at lists k))
-      → IsFirstFrom place (list_at lists (p / 64)) p None → IsFirstFrom itself used (p / 64 + 1) (Some j) → x ≡ get_or (list_at lists j) 0 x
+      → IsFirstFrom place (list_at lists (p / 512)) p None → IsFirstFrom itself used (p / 512 + 1) (Some j) → x ≡ get_or (list_at lists j) 0 x
       → IsFirstFrom place (entries_in lists) p (Some x)
   first_later lists used p j x each listed none found is =
       let some : 0 < length (list_at lists j) = listed_some j j (list_at lists j) (sym (listed j) ∙ found.1) in
       let held : at_place place (list_at lists j) (place x) ≡ Some x =
       ap (λ y. at_place place (list_at lists j) (place y)) is ∙ at_held place 0 (list_at lists j) (each j).rising 0 x some ∙ ap Some (sym is) in
-      let here : place x / 64 ≡ j = in_block j (place x) x (list_at lists j) (each j) held in (
+      let here : place x / 512 ≡ j = in_block j (place x) x (list_at lists j) (each j) held in (
         omega (arith, here, found.0),
         at_flat lists each (place x) ∙ ap (λ k. at_place place (list_at lists k) (place x)) here ∙ held,
-        λ r from below. elim (cases_eq (r / 64) (p / 64)) [
+        λ r from below. elim (cases_eq (r / 512) (p / 512)) [
           | inl same ↦ at_flat lists each r ∙ ap (λ k. at_place place (list_at lists k) r) same ∙ none r from
-          | inr apart ↦ elim (cases_eq (r / 64) j) [
+          | inr apart ↦ elim (cases_eq (r / 512) j) [
             | inl last ↦ at_flat lists each r ∙ ap (λ k. at_place place (list_at lists k) r) last ∙ before_first (list_at lists j) x r (each j).rising is some below
-            | inr other ↦ unlisted_none lists used each listed r (found.2 (r / 64) (omega (arith, from, apart)) (omega (arith, below, here, other)))
+            | inr other ↦ unlisted_none lists used each listed r (found.2 (r / 512) (omega (arith, from, apart)) (omega (arith, below, here, other)))
           ]
         ],
       )
@@ -196,39 +196,39 @@ module _ {T : Type 0} (place : T → ℕ) where
           cond-false (eqb (place y) r) _ _ (ne_eqb _ _ (λ same. omega (arith, same, e, below))) ∙ at_low (place y + 1) ys r rising.1 (omega (arith, e, below))
 
   pub first_nowhere : (lists : List (List T)) (used : List ℕ) (p : ℕ) → ((k : ℕ) → IsBlock place k (list_at lists k)) → ((k : ℕ) → at_place itself used k ≡ listed_if k (list_at lists k))
-      → IsFirstFrom place (list_at lists (p / 64)) p None → IsFirstFrom itself used (p / 64 + 1) None → IsFirstFrom place (entries_in lists) p None
-  first_nowhere lists used p each listed none later r from = elim (cases_eq (r / 64) (p / 64)) [
+      → IsFirstFrom place (list_at lists (p / 512)) p None → IsFirstFrom itself used (p / 512 + 1) None → IsFirstFrom place (entries_in lists) p None
+  first_nowhere lists used p each listed none later r from = elim (cases_eq (r / 512) (p / 512)) [
     | inl same ↦ at_flat lists each r ∙ ap (λ k. at_place place (list_at lists k) r) same ∙ none r from
-    | inr apart ↦ unlisted_none lists used each listed r (later (r / 64) (omega (arith, from, apart)))
+    | inr apart ↦ unlisted_none lists used each listed r (later (r / 512) (omega (arith, from, apart)))
   ]
 
   -- the block k holds the places below p that no earlier block holds
-  pub last_in : (lists : List (List T)) (k p : ℕ) (x : T) → p ≤ 64 * k + 64 → ((k : ℕ) → IsBlock place k (list_at lists k)) → IsLastBelow place (list_at lists k) p (Some x)
+  pub last_in : (lists : List (List T)) (k p : ℕ) (x : T) → p ≤ 512 * k + 512 → ((k : ℕ) → IsBlock place k (list_at lists k)) → IsLastBelow place (list_at lists k) p (Some x)
       → IsLastBelow place (entries_in lists) p (Some x)
   last_in lists k p x high each found =
-      let here : place x / 64 ≡ k = in_block k (place x) x (list_at lists k) (each k) found.1 in (
+      let here : place x / 512 ≡ k = in_block k (place x) x (list_at lists k) (each k) found.1 in (
         found.0,
         at_flat lists each (place x) ∙ ap (λ k. at_place place (list_at lists k) (place x)) here ∙ found.1,
         λ r from below.
-            let same : r / 64 ≡ k = omega (arith, from, below, here, high) in
+            let same : r / 512 ≡ k = omega (arith, from, below, here, high) in
             at_flat lists each r ∙ ap (λ k. at_place place (list_at lists k) r) same ∙ found.2 r from below,
       )
 
-  pub last_earlier : (lists : List (List T)) (used : List ℕ) (k p j i : ℕ) (x : T) → 64 * k < p → p ≤ 64 * k + 64 → ((k : ℕ) → IsBlock place k (list_at lists k))
+  pub last_earlier : (lists : List (List T)) (used : List ℕ) (k p j i : ℕ) (x : T) → 512 * k < p → p ≤ 512 * k + 512 → ((k : ℕ) → IsBlock place k (list_at lists k))
       → ((k : ℕ) → at_place itself used k ≡ listed_if k (list_at lists k))
       → IsLastBelow place (list_at lists k) p None → IsLastBelow itself used k (Some j) → i + 1 ≡ length (list_at lists j) → x ≡ get_or (list_at lists j) i x
       → IsLastBelow place (entries_in lists) p (Some x)
   last_earlier lists used k p j i x low high each listed none found last is =
       let held : at_place place (list_at lists j) (place x) ≡ Some x =
       ap (λ y. at_place place (list_at lists j) (place y)) is ∙ at_held place 0 (list_at lists j) (each j).rising i x (omega (arith, last)) ∙ ap Some (sym is) in
-      let here : place x / 64 ≡ j = in_block j (place x) x (list_at lists j) (each j) held in (
+      let here : place x / 512 ≡ j = in_block j (place x) x (list_at lists j) (each j) held in (
         omega (arith, here, found.0, low),
         at_flat lists each (place x) ∙ ap (λ k. at_place place (list_at lists k) (place x)) here ∙ held,
-        λ r from below. elim (cases_eq (r / 64) k) [
+        λ r from below. elim (cases_eq (r / 512) k) [
           | inl same ↦ at_flat lists each r ∙ ap (λ k. at_place place (list_at lists k) r) same ∙ none r below
-          | inr apart ↦ elim (cases_eq (r / 64) j) [
+          | inr apart ↦ elim (cases_eq (r / 512) j) [
             | inl there ↦ at_flat lists each r ∙ ap (λ k. at_place place (list_at lists k) r) there ∙ after_last (list_at lists j) x i r (each j).rising last is from
-            | inr other ↦ unlisted_none lists used each listed r (found.2 (r / 64) (omega (arith, from, here, other)) (omega (arith, below, apart, high)))
+            | inr other ↦ unlisted_none lists used each listed r (found.2 (r / 512) (omega (arith, from, here, other)) (omega (arith, below, apart, high)))
           ]
         ],
       )
@@ -245,11 +245,11 @@ module _ {T : Type 0} (place : T → ℕ) where
                 omega (arith, rise, e, same, above)
           ])
 
-  pub last_nowhere : (lists : List (List T)) (used : List ℕ) (k p : ℕ) → p ≤ 64 * k + 64 → ((k : ℕ) → IsBlock place k (list_at lists k)) → ((k : ℕ) → at_place itself used k ≡ listed_if k (list_at lists k))
+  pub last_nowhere : (lists : List (List T)) (used : List ℕ) (k p : ℕ) → p ≤ 512 * k + 512 → ((k : ℕ) → IsBlock place k (list_at lists k)) → ((k : ℕ) → at_place itself used k ≡ listed_if k (list_at lists k))
       → IsLastBelow place (list_at lists k) p None → IsLastBelow itself used k None → IsLastBelow place (entries_in lists) p None
-  last_nowhere lists used k p high each listed none earlier r below = elim (cases_eq (r / 64) k) [
+  last_nowhere lists used k p high each listed none earlier r below = elim (cases_eq (r / 512) k) [
     | inl same ↦ at_flat lists each r ∙ ap (λ k. at_place place (list_at lists k) r) same ∙ none r below
-    | inr apart ↦ unlisted_none lists used each listed r (earlier (r / 64) (omega (arith, below, apart, high)))
+    | inr apart ↦ unlisted_none lists used each listed r (earlier (r / 512) (omega (arith, below, apart, high)))
   ]
 
   -- nothing is held past the blocks
@@ -263,7 +263,7 @@ module _ {T : Type 0} (place : T → ℕ) where
       → IsLastBelow itself used (length lists) (Some j) → i + 1 ≡ length (list_at lists j) → x ≡ get_or (list_at lists j) i x
       → (q : ℕ) → IsWithin place q (entries_in lists) → IsLastBelow place (entries_in lists) q (Some x)
   last_of_all lists used j i x each listed found last is q within =
-      let p : ℕ = 64 * length lists + 64 in
+      let p : ℕ = 512 * length lists + 512 in
       let base : IsLastBelow place (entries_in lists) p (Some x) =
       last_earlier lists used (length lists) p j i x (omega arith) (omega arith) each listed (λ r below. past_blocks lists (length lists) r (omega arith)) found last is in (
         elim (cases_lt (place x) q) [
@@ -273,7 +273,7 @@ module _ {T : Type 0} (place : T → ℕ) where
         base.1,
         λ r from below. elim (cases_lt r p) [
           | inl less ↦ base.2 r from less
-          | inr far ↦ at_flat lists each r ∙ past_blocks lists (r / 64) r (omega (arith, far))
+          | inr far ↦ at_flat lists each r ∙ past_blocks lists (r / 512) r (omega (arith, far))
         ],
       )
 
@@ -351,14 +351,14 @@ module _ {T : Type 0} (place : T → ℕ) where
         ]
       ]
 
-  pub cut_before : (from to : ℕ) (old : List (List T)) (k : ℕ) → IsBlock place k (list_at old k) → k < from / 64 → IsCut from to old k (list_at old k)
+  pub cut_before : (from to : ℕ) (old : List (List T)) (k : ℕ) → IsBlock place k (list_at old k) → k < from / 512 → IsCut from to old k (list_at old k)
   cut_before from to old k own lt = (own.rising, λ q. uncut from to (list_at old k) q (λ at below. own.inside q (λ same. omega (arith, same, lt, at))))
 
-  pub cut_after : (from to : ℕ) (old : List (List T)) (k : ℕ) → IsBlock place k (list_at old k) → (to - 1) / 64 < k → IsCut from to old k (list_at old k)
+  pub cut_after : (from to : ℕ) (old : List (List T)) (k : ℕ) → IsBlock place k (list_at old k) → (to - 1) / 512 < k → IsCut from to old k (list_at old k)
   cut_after from to old k own lt = (own.rising, λ q. uncut from to (list_at old k) q (λ at below. own.inside q (λ same. omega (arith, same, lt, below))))
 
   -- a block that is not the one of all these places
-  pub cut_other : (from to : ℕ) (old : List (List T)) (k : ℕ) → IsBlock place k (list_at old k) → from / 64 ≡ (to - 1) / 64 → k ≢ from / 64 → IsCut from to old k (list_at old k)
+  pub cut_other : (from to : ℕ) (old : List (List T)) (k : ℕ) → IsBlock place k (list_at old k) → from / 512 ≡ (to - 1) / 512 → k ≢ from / 512 → IsCut from to old k (list_at old k)
   cut_other from to old k own one apart = (own.rising, λ q. uncut from to (list_at old k) q (λ at below. own.inside q (λ same. apart (omega (arith, same, at, below, one)))))
 
   pub cut_own : (from to : ℕ) (old now : List (List T)) (k : ℕ) → IsBlock place k (list_at old k) → ((q : ℕ) → at_place place (list_at now k) q ≡ cond (leb from q && ltb q to) None (at_place place (list_at old k) q))
@@ -368,13 +368,13 @@ module _ {T : Type 0} (place : T → ℕ) where
 
   -- all blocks are cut once those between the first and the last are
   pub cut_done : (from to i : ℕ) (old now : List (List T)) (used : List ℕ) → IsRising itself used → ((k : ℕ) → IsBlock place k (list_at old k)) → ((k : ℕ) → at_place itself used k ≡ listed_if k (list_at old k))
-      → Parts itself used ((to - 1) / 64 + 1) i → i ≤ length used → Walked (IsCut from to old) old now (bound used i) → (k : ℕ) → IsCut from to old k (list_at now k)
+      → Parts itself used ((to - 1) / 512 + 1) i → i ≤ length used → Walked (IsCut from to old) old now (bound used i) → (k : ℕ) → IsCut from to old k (list_at now k)
   cut_done from to i old now used rising each listed parts within walked =
       walk_end (IsCut from to old) old used rising (λ k none. cut_empty from to old k (unlisted k (list_at old k) (sym (listed k) ∙ none))) now (bound used i) walked
-      (λ k low. elim (cases_lt ((to - 1) / 64) k) [
+      (λ k low. elim (cases_lt ((to - 1) / 512) k) [
         | inl above ↦ cut_after from to old k (each k) above
         | inr upto ↦
-            let none = quiet used i k rising within low (λ j late lt. let far : (to - 1) / 64 + 1 ≤ get_or used j 0 = parts.1 j 0 late lt in omega (arith, far, upto)) in
+            let none = quiet used i k rising within low (λ j late lt. let far : (to - 1) / 512 + 1 ≤ get_or used j 0 = parts.1 j 0 late lt in omega (arith, far, upto)) in
             cut_empty from to old k (unlisted k (list_at old k) (sym (listed k) ∙ none))
       ])
 
@@ -388,34 +388,34 @@ module _ {T : Type 0} (place : T → ℕ) where
       omega (arith, next, below, ap (bound used) one)
 
   -- ---- an entry that is stored in its block
-  pub stored_own : (old now : List (List T)) (entry : T) → IsBlock place (place entry / 64) (list_at old (place entry / 64))
-      → ((q : ℕ) → at_place place (list_at now (place entry / 64)) q ≡ cond (eqb (place entry) q) (Some entry) (at_place place (list_at old (place entry / 64)) q))
-      → IsRising place (list_at now (place entry / 64)) → IsBlock place (place entry / 64) (list_at now (place entry / 64))
+  pub stored_own : (old now : List (List T)) (entry : T) → IsBlock place (place entry / 512) (list_at old (place entry / 512))
+      → ((q : ℕ) → at_place place (list_at now (place entry / 512)) q ≡ cond (eqb (place entry) q) (Some entry) (at_place place (list_at old (place entry / 512)) q))
+      → IsRising place (list_at now (place entry / 512)) → IsBlock place (place entry / 512) (list_at now (place entry / 512))
   stored_own old now entry own stored rising =
       record {
         rising = rising;
-        inside = λ q apart. stored q ∙ cond-false (eqb (place entry) q) _ _ (ne_eqb _ _ (λ same. apart (ap (λ p. p / 64) (sym same)))) ∙ own.inside q apart;
+        inside = λ q apart. stored q ∙ cond-false (eqb (place entry) q) _ _ (ne_eqb _ _ (λ same. apart (ap (λ p. p / 512) (sym same)))) ∙ own.inside q apart;
       }
 
   pub stored_each : (old now : List (List T)) (entry : T) → ((k : ℕ) → IsBlock place k (list_at old k))
-      → ((q : ℕ) → at_place place (list_at now (place entry / 64)) q ≡ cond (eqb (place entry) q) (Some entry) (at_place place (list_at old (place entry / 64)) q))
-      → IsRising place (list_at now (place entry / 64)) → ((j : ℕ) → j ≢ place entry / 64 → list_at now j ≡ list_at old j) → (k : ℕ) → IsBlock place k (list_at now k)
+      → ((q : ℕ) → at_place place (list_at now (place entry / 512)) q ≡ cond (eqb (place entry) q) (Some entry) (at_place place (list_at old (place entry / 512)) q))
+      → IsRising place (list_at now (place entry / 512)) → ((j : ℕ) → j ≢ place entry / 512 → list_at now j ≡ list_at old j) → (k : ℕ) → IsBlock place k (list_at now k)
   stored_each old now entry each stored rising others k =
-      elim (cases_eq k (place entry / 64)) [
-        | inl same ↦ subst (λ j. IsBlock place j (list_at now j)) (sym same) (stored_own old now entry (each (place entry / 64)) stored rising)
+      elim (cases_eq k (place entry / 512)) [
+        | inl same ↦ subst (λ j. IsBlock place j (list_at now j)) (sym same) (stored_own old now entry (each (place entry / 512)) stored rising)
         | inr apart ↦ subst (IsBlock place k) (sym (others k apart)) (each k)
       ]
 
   pub stored_flat : (old now : List (List T)) (entry : T) → ((k : ℕ) → IsBlock place k (list_at old k)) → ((k : ℕ) → IsBlock place k (list_at now k))
-      → ((q : ℕ) → at_place place (list_at now (place entry / 64)) q ≡ cond (eqb (place entry) q) (Some entry) (at_place place (list_at old (place entry / 64)) q))
-      → ((j : ℕ) → j ≢ place entry / 64 → list_at now j ≡ list_at old j) → (q : ℕ) → at_place place (entries_in now) q ≡ cond (eqb (place entry) q) (Some entry) (at_place place (entries_in old) q)
+      → ((q : ℕ) → at_place place (list_at now (place entry / 512)) q ≡ cond (eqb (place entry) q) (Some entry) (at_place place (list_at old (place entry / 512)) q))
+      → ((j : ℕ) → j ≢ place entry / 512 → list_at now j ≡ list_at old j) → (q : ℕ) → at_place place (entries_in now) q ≡ cond (eqb (place entry) q) (Some entry) (at_place place (entries_in old) q)
   stored_flat old now entry each after stored others q =
       at_flat now after q
-      ∙ (elim (cases_eq (q / 64) (place entry / 64)) [
+      ∙ (elim (cases_eq (q / 512) (place entry / 512)) [
         | inl same ↦ ap (λ k. at_place place (list_at now k) q) same ∙ stored q ∙ ap (λ k. cond (eqb (place entry) q) (Some entry) (at_place place (list_at old k) q)) (sym same)
         | inr apart ↦
-            ap (λ l. at_place place l q) (others (q / 64) apart)
-            ∙ sym (cond-false (eqb (place entry) q) (Some entry) (at_place place (list_at old (q / 64)) q) (ne_eqb _ _ (λ same. apart (ap (λ p. p / 64) (sym same)))))
+            ap (λ l. at_place place l q) (others (q / 512) apart)
+            ∙ sym (cond-false (eqb (place entry) q) (Some entry) (at_place place (list_at old (q / 512)) q) (ne_eqb _ _ (λ same. apart (ap (λ p. p / 512) (sym same)))))
       ])
       ∙ ap (cond (eqb (place entry) q) (Some entry)) (sym (at_flat old each q))
 
@@ -430,11 +430,11 @@ module _ {T : Type 0} (place : T → ℕ) where
 
   -- the number of the block is listed once more
   pub stored_listed : (old now : List (List T)) (used after : List ℕ) (entry : T) → ((k : ℕ) → at_place itself used k ≡ listed_if k (list_at old k))
-      → ((k : ℕ) → at_place itself after k ≡ cond (eqb (place entry / 64) k) (Some (place entry / 64)) (at_place itself used k))
-      → ((q : ℕ) → at_place place (list_at now (place entry / 64)) q ≡ cond (eqb (place entry) q) (Some entry) (at_place place (list_at old (place entry / 64)) q))
-      → ((j : ℕ) → j ≢ place entry / 64 → list_at now j ≡ list_at old j) → (k : ℕ) → at_place itself after k ≡ listed_if k (list_at now k)
+      → ((k : ℕ) → at_place itself after k ≡ cond (eqb (place entry / 512) k) (Some (place entry / 512)) (at_place itself used k))
+      → ((q : ℕ) → at_place place (list_at now (place entry / 512)) q ≡ cond (eqb (place entry) q) (Some entry) (at_place place (list_at old (place entry / 512)) q))
+      → ((j : ℕ) → j ≢ place entry / 512 → list_at now j ≡ list_at old j) → (k : ℕ) → at_place itself after k ≡ listed_if k (list_at now k)
   stored_listed old now used after entry listed noted stored others k =
-      let number : ℕ = place entry / 64 in
+      let number : ℕ = place entry / 512 in
       let there : 0 < length (list_at now number) =
       not_empty (list_at now number) (place entry) entry (stored (place entry) ∙ cond-true (eqb (place entry) (place entry)) _ _ (eq-eqb _ _ refl)) in
       elim (cases_eq number k) [
@@ -465,9 +465,9 @@ module _ {T : Type 0} (place : T → ℕ) where
 
   -- a block between the first and the last holds nothing
   all_gone : (from to : ℕ) (old now : List (List T)) (k : ℕ) → IsBlock place k (list_at old k)
-      → ((q : ℕ) → at_place place (list_at now k) q ≡ cond (leb from q && ltb q to) None (at_place place (list_at old k) q)) → from / 64 < k → k < (to - 1) / 64 → list_at now k ≡ []
+      → ((q : ℕ) → at_place place (list_at now k) q ≡ cond (leb from q && ltb q to) None (at_place place (list_at old k) q)) → from / 512 < k → k < (to - 1) / 512 → list_at now k ≡ []
   all_gone from to old now k own cut above below =
-      empty_of (list_at now k) (λ q. cut q ∙ (elim (cases_eq (q / 64) k) [
+      empty_of (list_at now k) (λ q. cut q ∙ (elim (cases_eq (q / 512) k) [
         | inl same ↦
             let A : Option T = at_place place (list_at old k) q in
             ap (λ t. cond (t && ltb q to) None A) (le-leb from q (omega (arith, same, above))) ∙ ap (λ t. cond t None A) (lt-ltb q to (omega (arith, same, below)))
@@ -476,10 +476,10 @@ module _ {T : Type 0} (place : T → ℕ) where
 
   -- a block outside holds what it held
   was_empty : (from to : ℕ) (old now : List (List T)) (k : ℕ) → IsBlock place k (list_at old k)
-      → ((q : ℕ) → at_place place (list_at now k) q ≡ cond (leb from q && ltb q to) None (at_place place (list_at old k) q)) → ((q : ℕ) → q / 64 ≡ k → from ≤ q → q < to → ⊥)
+      → ((q : ℕ) → at_place place (list_at now k) q ≡ cond (leb from q && ltb q to) None (at_place place (list_at old k) q)) → ((q : ℕ) → q / 512 ≡ k → from ≤ q → q < to → ⊥)
       → list_at now k ≡ [] → list_at old k ≡ []
   was_empty from to old now k own cut outside none =
-      empty_of (list_at old k) (λ q. uncut from to (list_at old k) q (λ at below. elim (cases_eq (q / 64) k) [
+      empty_of (list_at old k) (λ q. uncut from to (list_at old k) q (λ at below. elim (cases_eq (q / 512) k) [
         | inl same ↦ absurd (outside q same at below)
         | inr apart ↦ own.inside q apart
       ]) ∙ sym (cut q) ∙ ap (λ l. at_place place l q) none)
@@ -487,8 +487,8 @@ module _ {T : Type 0} (place : T → ℕ) where
   pub cut_listed : (from to low high : ℕ) (old now : List (List T)) (used after : List ℕ) → from < to → ((k : ℕ) → IsBlock place k (list_at old k))
       → ((k : ℕ) → at_place itself used k ≡ listed_if k (list_at old k))
       → ((k q : ℕ) → at_place place (list_at now k) q ≡ cond (leb from q && ltb q to) None (at_place place (list_at old k) q))
-      → from / 64 ≤ low → (low ≤ from / 64 → list_at now (from / 64) ≡ []) → (from / 64 < low → (low ≡ from / 64 + 1) × (0 < length (list_at now (from / 64))))
-      → high ≤ (to - 1) / 64 + 1 → ((to - 1) / 64 < high → list_at now ((to - 1) / 64) ≡ []) → (high ≤ (to - 1) / 64 → (high ≡ (to - 1) / 64) × (0 < length (list_at now ((to - 1) / 64))))
+      → from / 512 ≤ low → (low ≤ from / 512 → list_at now (from / 512) ≡ []) → (from / 512 < low → (low ≡ from / 512 + 1) × (0 < length (list_at now (from / 512))))
+      → high ≤ (to - 1) / 512 + 1 → ((to - 1) / 512 < high → list_at now ((to - 1) / 512) ≡ []) → (high ≤ (to - 1) / 512 → (high ≡ (to - 1) / 512) × (0 < length (list_at now ((to - 1) / 512))))
       → ((k : ℕ) → at_place itself after k ≡ cond (leb low k && ltb k high) None (at_place itself used k))
       → (k : ℕ) → at_place itself after k ≡ listed_if k (list_at now k)
   cut_listed from to low high old now used after order each listed cut low_from low_empty low_some high_to high_empty high_some gone k =
@@ -511,25 +511,25 @@ module _ {T : Type 0} (place : T → ℕ) where
       not_some j same some none = let e : length (list_at now j) ≡ 0 = ap (λ i. length (list_at now i)) (sym same) ∙ ap length none in omega (arith, e, some)
 
       back_early : k < low → list_at now k ≡ [] → list_at old k ≡ []
-      back_early early none = elim (cases_lt k (from / 64)) [
+      back_early early none = elim (cases_lt k (from / 512)) [
         | inl less ↦ was_empty from to old now k (each k) (cut k) (λ q same at below. omega (arith, same, less, at)) none
         | inr up ↦
             let some = low_some (omega (arith, up, early)) in
-            absurd (not_some (from / 64) (omega (arith, up, early, some.0)) some.1 none)
+            absurd (not_some (from / 512) (omega (arith, up, early, some.0)) some.1 none)
       ]
 
       back_late : high ≤ k → list_at now k ≡ [] → list_at old k ≡ []
-      back_late late none = elim (cases_lt ((to - 1) / 64) k) [
+      back_late late none = elim (cases_lt ((to - 1) / 512) k) [
         | inl more ↦ was_empty from to old now k (each k) (cut k) (λ q same at below. omega (arith, same, more, below)) none
         | inr upto ↦
             let some = high_some (omega (arith, upto, late)) in
-            absurd (not_some ((to - 1) / 64) (omega (arith, upto, late, some.0)) some.1 none)
+            absurd (not_some ((to - 1) / 512) (omega (arith, upto, late, some.0)) some.1 none)
       ]
 
       empty_here : low ≤ k → k < high → list_at now k ≡ []
-      empty_here from_low inside = elim (cases_eq k (from / 64)) [
+      empty_here from_low inside = elim (cases_eq k (from / 512)) [
         | inl first ↦ ap (list_at now) first ∙ low_empty (omega (arith, first, from_low))
-        | inr above ↦ elim (cases_eq k ((to - 1) / 64)) [
+        | inr above ↦ elim (cases_eq k ((to - 1) / 512)) [
           | inl last ↦ ap (list_at now) last ∙ high_empty (omega (arith, last, inside))
           | inr below ↦ all_gone from to old now k (each k) (cut k) (omega (arith, above, low_from, from_low)) (omega (arith, below, high_to, inside))
         ]
@@ -539,7 +539,7 @@ module _ {T : Type 0} (place : T → ℕ) where
       → ((k q : ℕ) → at_place place (list_at now k) q ≡ cond (leb from q && ltb q to) None (at_place place (list_at old k) q))
       → (q : ℕ) → at_place place (entries_in now) q ≡ cond (leb from q && ltb q to) None (at_place place (entries_in old) q)
   cut_flat from to old now each after cut q =
-      at_flat now after q ∙ cut (q / 64) q ∙ ap (cond (leb from q && ltb q to) None) (sym (at_flat old each q))
+      at_flat now after q ∙ cut (q / 512) q ∙ ap (cond (leb from q && ltb q to) None) (sym (at_flat old each q))
 
   -- nothing is cut where the bounds are crossed
   pub uncut_crossed : (low high : ℕ) (xs : List T) → high ≤ low → (q : ℕ) → at_place place xs q ≡ cond (leb low q && ltb q high) None (at_place place xs q)
@@ -548,17 +548,17 @@ module _ {T : Type 0} (place : T → ℕ) where
   -- ---- a copy
   pub copy_flat : (lists now : List (List T)) → ((k : ℕ) → IsBlock place k (list_at lists k)) → ((k : ℕ) → IsBlock place k (list_at now k)) → ((k : ℕ) → list_at now k ≡ list_at lists k)
       → (q : ℕ) → at_place place (entries_in now) q ≡ at_place place (entries_in lists) q
-  copy_flat lists now each after same q = at_flat now after q ∙ ap (λ l. at_place place l q) (same (q / 64)) ∙ sym (at_flat lists each q)
+  copy_flat lists now each after same q = at_flat now after q ∙ ap (λ l. at_place place l q) (same (q / 512)) ∙ sym (at_flat lists each q)
 
   -- a block that holds something has a place below the room
-  pub block_below : (lists : List (List T)) (room k : ℕ) → ((k : ℕ) → IsBlock place k (list_at lists k)) → IsWithin place room (entries_in lists) → 0 < length (list_at lists k) → k < room / 64 + 1
+  pub block_below : (lists : List (List T)) (room k : ℕ) → ((k : ℕ) → IsBlock place k (list_at lists k)) → IsWithin place room (entries_in lists) → 0 < length (list_at lists k) → k < room / 512 + 1
   block_below lists room k each within some = first_place (list_at lists k) refl some
     where
-      first_place : (xs : List T) → list_at lists k ≡ xs → 0 < length (list_at lists k) → k < room / 64 + 1
+      first_place : (xs : List T) → list_at lists k ≡ xs → 0 < length (list_at lists k) → k < room / 512 + 1
       first_place [] is some = absurd (omega (arith, ap length is, some))
       first_place (x ∷ xs) is some =
           let held : at_place place (list_at lists k) (place x) ≡ Some x = ap (λ l. at_place place l (place x)) is ∙ first_held x xs in
-          let here : place x / 64 ≡ k = in_block k (place x) x (list_at lists k) (each k) held in
+          let here : place x / 512 ≡ k = in_block k (place x) x (list_at lists k) (each k) held in
           let flat : at_place place (entries_in lists) (place x) ≡ Some x = at_flat lists each (place x) ∙ ap (λ j. at_place place (list_at lists j) (place x)) here ∙ held in
           elim (cases_lt (place x) room) [
             | inl less ↦ omega (arith, here, less)
@@ -567,11 +567,11 @@ module _ {T : Type 0} (place : T → ℕ) where
 
   -- no more numbers are listed than there are blocks up to the room
   pub used_below : (lists : List (List T)) (room : ℕ) (used : List ℕ) → ((k : ℕ) → IsBlock place k (list_at lists k)) → IsWithin place room (entries_in lists) → IsRising itself used
-      → ((k : ℕ) → at_place itself used k ≡ listed_if k (list_at lists k)) → length used ≤ room / 64 + 1
+      → ((k : ℕ) → at_place itself used k ≡ listed_if k (list_at lists k)) → length used ≤ room / 512 + 1
   used_below lists room used each within rising listed =
-      let far_none : (k : ℕ) → room / 64 + 1 ≤ k → at_place itself used k ≡ None = λ k far. listed k ∙ none_listed k (list_at lists k) (λ some.
-      let below : k < room / 64 + 1 = block_below lists room k each within some in omega (arith, far, below)) in
-      let all : length used ≤ room / 64 + 1 - 0 = few itself 0 (room / 64 + 1) used rising far_none in
+      let far_none : (k : ℕ) → room / 512 + 1 ≤ k → at_place itself used k ≡ None = λ k far. listed k ∙ none_listed k (list_at lists k) (λ some.
+      let below : k < room / 512 + 1 = block_below lists room k each within some in omega (arith, far, below)) in
+      let all : length used ≤ room / 512 + 1 - 0 = few itself 0 (room / 512 + 1) used rising far_none in
       omega (arith, all)
     where
       none_listed : (k : ℕ) (xs : List T) → (0 < length xs → ⊥) → listed_if k xs ≡ None

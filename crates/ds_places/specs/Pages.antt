@@ -1,4 +1,4 @@
--- A list of entries in blocks: one for each 64 places, and the numbers of those that hold entries.
+-- A list of entries in blocks: one for each 512 places, and the numbers of those that hold entries.
 use Rattle.std.specs.Prelude.{◌≡◌, ◌≢◌, ℕ, ◌+◌, ◌/◌, ◌<◌, ◌≤◌, List, [], ◌∷◌, ◌++◌, length, map, Option, Some, None, slice_index, slice_index_or, vec_capacity, refl}
 use Rattle.std.specs.Global.{Vec}
 use Rattle.std.specs.Coded.{Coded, code_by, coded×, coded_list, coded_ℕ}
@@ -35,10 +35,10 @@ rooms_of {T} blocks = map (λ (v : Vec T). vec_capacity v) blocks
 abbrev pub list_at : {T : Type 0} → List (List T) → ℕ → List T
 list_at lists k = slice_index_or lists k []
 
--- entries in rising order, each at one of the 64 places from 64 k on
+-- entries in rising order, each at one of the 512 places from 512 k on
 pub record IsBlock {T : Type 0} (place : T → ℕ) (k : ℕ) (entries : List T) : Type 0 where
   pub rising : IsRising place entries
-  pub inside : (q : ℕ) → q / 64 ≢ k → at_place place entries q ≡ None
+  pub inside : (q : ℕ) → q / 512 ≢ k → at_place place entries q ≡ None
 
 -- k, where the block of this number holds entries
 abbrev pub listed_if : {T : Type 0} → ℕ → List T → Option ℕ
@@ -49,8 +49,8 @@ listed_if k (x ∷ xs) = Some k
 -- that aren't empty are listed, and no other
 pub record AreBlocks {T : Type 0} (place : T → ℕ) (room : ℕ) (lists : List (List T)) (rooms : List ℕ) (used : List ℕ) : Type 0 where
   pub each : (k : ℕ) → IsBlock place k (list_at lists k)
-  pub enough : length lists ≡ room / 64 + 1
-  pub roomy : (k : ℕ) → k < length lists → 64 ≤ slice_index rooms k
+  pub enough : length lists ≡ room / 512 + 1
+  pub roomy : (k : ℕ) → k < length lists → 512 ≤ slice_index rooms k
   pub rising : IsRising itself used
   pub listed : (k : ℕ) → at_place itself used k ≡ listed_if k (list_at lists k)
 

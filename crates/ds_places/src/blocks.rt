@@ -1,4 +1,4 @@
-//! Blocks of entries, one for each 64 places: an entry stands in the block of its place.
+//! Blocks of entries, one for each 512 places: an entry stands in the block of its place.
 
 ghost use Rattle.std.specs.Prelude.{◌≡◌, ◌≤◌, ◌<◌, ◌+◌, ◌/◌, ◌==◌, ◌&&◌, ℕ, true, false, [], length, map, nat_le, nat_lt, if◌then◌else◌, Some, None, IfOk, slice_index, vec_capacity};
 ghost use Rattle.ds_places.specs.Places.{IsRising, at_place};
@@ -23,16 +23,16 @@ pub(crate) fn block<T: Placed>(blocks: &[Vec<T>], number: u32) -> &[T]
     }
 }
 
-/// So many empty blocks, each with room for 64 entries.
+/// So many empty blocks, each with room for 512 entries.
 pub(crate) fn reserved<T: Placed>(alloc: Global, count: u32) -> Result<Vec<Vec<T>>, AllocError>
     ensures count { IfOk result (λ blocks. length (lists_of blocks.items) ≡ count) }
     ensures empty { IfOk result (λ blocks. (k : ℕ) → list_at (lists_of blocks.items) k ≡ []) }
-    ensures roomy { IfOk result (λ blocks. (k : ℕ) → k < count → 64
+    ensures roomy { IfOk result (λ blocks. (k : ℕ) → k < count → 512
         ≤ slice_index (rooms_of blocks.items) k) }
 {
     let mut blocks = Vec::with_capacity(alloc, count as usize)?;
     'blocks: for _made in 0..count {
-        blocks.push(Vec::with_capacity(alloc, 64)?)?;
+        blocks.push(Vec::with_capacity(alloc, 512)?)?;
     }
     Ok(blocks)
 }
@@ -57,19 +57,19 @@ pub(crate) fn note<T: Placed>(used: &mut Vec<u32>, number: u32, entries: &[T])
 /// Stores an entry in the block of its place, over the one that its place held.
 #[inline(always)]
 pub(crate) fn store_in<T: Placed>(blocks: &mut Vec<Vec<T>>, entry: T)
-    requires own { IsBlock T.place_of (T.place_of entry / 64)
-        (list_at (lists_of blocks.old.items) (T.place_of entry / 64)) }
-    requires below { T.place_of entry / 64 < length (lists_of blocks.old.items) }
-    requires roomy { 64 ≤ slice_index (rooms_of blocks.old.items) (T.place_of entry / 64) }
+    requires own { IsBlock T.place_of (T.place_of entry / 512)
+        (list_at (lists_of blocks.old.items) (T.place_of entry / 512)) }
+    requires below { T.place_of entry / 512 < length (lists_of blocks.old.items) }
+    requires roomy { 512 ≤ slice_index (rooms_of blocks.old.items) (T.place_of entry / 512) }
     ensures stored { (q : ℕ) → at_place T.place_of
-        (list_at (lists_of blocks.new.items) (T.place_of entry / 64)) q
+        (list_at (lists_of blocks.new.items) (T.place_of entry / 512)) q
         ≡ (if T.place_of entry == q then Some entry
-        else at_place T.place_of (list_at (lists_of blocks.old.items) (T.place_of entry / 64)) q) }
+        else at_place T.place_of (list_at (lists_of blocks.old.items) (T.place_of entry / 512)) q) }
     ensures rising { IsRising T.place_of
-        (list_at (lists_of blocks.new.items) (T.place_of entry / 64)) }
-    ensures others { Alters blocks.old.items blocks.new.items (T.place_of entry / 64) }
+        (list_at (lists_of blocks.new.items) (T.place_of entry / 512)) }
+    ensures others { Alters blocks.old.items blocks.new.items (T.place_of entry / 512) }
 {
-    let number = (entry.place() / 64) as usize;
+    let number = (entry.place() / 512) as usize;
     store(&mut blocks[number], entry);
 }
 
@@ -80,13 +80,13 @@ pub(crate) fn can_hold<T: Placed>(blocks: &[Vec<T>], from: u32, to: u32) -> bool
     requires { (k : ℕ) → IsBlock T.place_of k (list_at (lists_of blocks.now) k) }
     ensures order { result ≡ true → from < to }
     ensures none { result ≡ false → (q : ℕ) → from ≤ q → q < to
-        → at_place T.place_of (list_at (lists_of blocks.now) (q / 64)) q ≡ None }
+        → at_place T.place_of (list_at (lists_of blocks.now) (q / 512)) q ≡ None }
 {
     if to <= from {
         return false;
     }
-    let number = from / 64;
-    if number != (to - 1) / 64 {
+    let number = from / 512;
+    if number != (to - 1) / 512 {
         return true;
     }
     !ends_before(block(blocks, number), from)
@@ -105,8 +105,8 @@ fn cut_blocks<T: Placed>(blocks: &mut Vec<Vec<T>>, used: &[u32], from: u32, to: 
     ensures rising { (k : ℕ) → IsRising T.place_of (list_at (lists_of blocks.new.items) k) }
     ensures room { rooms_of blocks.new.items ≡ rooms_of blocks.old.items }
 {
-    let start = rank(used, from / 64);
-    let end = rank_from(used, start, (to - 1) / 64 + 1);
+    let start = rank(used, from / 512);
+    let end = rank_from(used, start, (to - 1) / 512 + 1);
     'blocks: for i in start..end {
         cut(&mut blocks[used[i] as usize], from, to);
     }
@@ -126,8 +126,8 @@ pub(crate) fn cut_places<T: Placed>(blocks: &mut Vec<Vec<T>>, used: &[u32], from
     ensures rising { (k : ℕ) → IsRising T.place_of (list_at (lists_of blocks.new.items) k) }
     ensures room { rooms_of blocks.new.items ≡ rooms_of blocks.old.items }
 {
-    let number = (from / 64) as usize;
-    if number == ((to - 1) / 64) as usize && number < blocks.len() {
+    let number = (from / 512) as usize;
+    if number == ((to - 1) / 512) as usize && number < blocks.len() {
         cut(&mut blocks[number], from, to);
     } else {
         cut_blocks(blocks, used, from, to);
@@ -156,12 +156,12 @@ pub(crate) fn copy_blocks<T: Placed>(blocks: &mut Vec<Vec<T>>, others: &[Vec<T>]
     requires each { (k : ℕ) → IsBlock T.place_of k (list_at (lists_of others.now) k) }
     requires below { (i : ℕ) → i < length used.now → slice_index used.now i
         < length (lists_of blocks.old.items) }
-    requires roomy { (k : ℕ) → k < length (lists_of blocks.old.items) → 64
+    requires roomy { (k : ℕ) → k < length (lists_of blocks.old.items) → 512
         ≤ slice_index (rooms_of blocks.old.items) k }
     ensures copied { (k : ℕ) → list_at (lists_of blocks.new.items) k
         ≡ list_at (lists_of others.now) k }
     ensures count { length (lists_of blocks.new.items) ≡ length (lists_of blocks.old.items) }
-    ensures roomy { (k : ℕ) → k < length (lists_of blocks.old.items) → 64
+    ensures roomy { (k : ℕ) → k < length (lists_of blocks.old.items) → 512
         ≤ slice_index (rooms_of blocks.new.items) k }
 {
     'blocks: for i in 0..used.len() {

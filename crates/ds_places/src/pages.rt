@@ -24,7 +24,7 @@ pub struct Nearest<T> {
 }
 
 /// Entries in the rising order of their places, which are below a number that is set once. They are kept in blocks
-/// of 64 places, so an entry that is put in or taken out moves no more than those of its block; the numbers of the
+/// of 512 places, so an entry that is put in or taken out moves no more than those of its block; the numbers of the
 /// blocks that hold entries are listed. Only `reserved` takes memory.
 #[derive(Drop)]
 pub struct Pages<T: Placed> {
@@ -57,7 +57,7 @@ impl<T: Placed> Pages<T> {
         ensures empty { IfOk result (λ pages. pages.entries ≡ []) }
         ensures room { IfOk result (λ pages. pages.room ≡ room) }
     {
-        let count = room / 64 + 1;
+        let count = room / 512 + 1;
         let blocks = reserved(alloc, count)?;
         let used = Vec::with_capacity(alloc, count as usize)?;
         Ok(Pages { blocks, used, room })
@@ -101,7 +101,7 @@ impl<T: Placed> Pages<T> {
     pub fn held(&self, place: u32) -> Option<T>
         ensures { result ≡ at_place T.place_of self.now.entries place }
     {
-        held(block(&self.blocks, place / 64), place)
+        held(block(&self.blocks, place / 512), place)
     }
 
     /// The entry at the greatest place up to this one: in the block of the place, or else the last of the nearest block
@@ -114,7 +114,7 @@ impl<T: Placed> Pages<T> {
         ensures missed { result.entry ≡ None → AreFew self.now.entries 0 result.looks
             × AreFew self.now.entries 1 result.blocks }
     {
-        let number = place / 64;
+        let number = place / 512;
         let own = last_below(block(&self.blocks, number), u64::from(place) + 1);
         if let Some(entry) = own.entry {
             return Nearest {
@@ -156,7 +156,7 @@ impl<T: Placed> Pages<T> {
     pub fn first_from(&self, place: u32) -> Option<T>
         ensures { IsFirstFrom T.place_of self.now.entries place result }
     {
-        let number = place / 64;
+        let number = place / 512;
         if let Some(entry) = first_from(block(&self.blocks, number), place) {
             return Some(entry);
         }
@@ -177,7 +177,7 @@ impl<T: Placed> Pages<T> {
             → IsWithin T.place_of places self.old.entries → IsWithin T.place_of places self.new.entries }
         ensures room { self.new.room ≡ self.old.room }
     {
-        let number = entry.place() / 64;
+        let number = entry.place() / 512;
         note(&mut self.used, number, block(&self.blocks, number));
         store_in(&mut self.blocks, entry);
     }
@@ -209,8 +209,8 @@ impl<T: Placed> Pages<T> {
         ensures room { self.new.room ≡ self.old.room }
     {
         cut_places(&mut self.blocks, &self.used, from, to);
-        let first = from / 64;
-        let last = (to - 1) / 64;
+        let first = from / 512;
+        let last = (to - 1) / 512;
         let low = if block(&self.blocks, first).is_empty() {
             first
         } else {

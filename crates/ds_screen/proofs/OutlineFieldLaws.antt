@@ -87,6 +87,24 @@ stop_round v cells place mark marked inside none found =
     ])
     first.hit
 
+-- from behind a position, where the first attribute behind it is known
+pub stop_later : (v : Marked) (cells : List Cell) (at : ℕ) (mark : Mark) → IsMarked v cells → IsFirstFrom place_of v.marks (at + 1) (Some mark)
+    → Some mark.at ≡ attribute_from cells (ring_on (length cells) at 1)
+stop_later v cells at mark marked found =
+    let first = first_there v cells (at + 1) mark marked found in
+    stop_ahead v cells (at + 1) mark marked found ∙ ap (attribute_from cells) (sym (on_inside (length cells) at 1 (omega (arith, first.ahead, first.inside))))
+
+pub stop_behind : (v : Marked) (cells : List Cell) (at : ℕ) (mark : Mark) → IsMarked v cells → at < v.size → IsFirstFrom place_of v.marks (at + 1) None → IsFirstFrom place_of v.marks 0 (Some mark)
+    → Some mark.at ≡ attribute_from cells (ring_on (length cells) at 1)
+stop_behind v cells at mark marked inside none found =
+    elim (cases_lt (at + 1) v.size) [
+      | inl lt ↦ stop_round v cells (at + 1) mark marked lt none found ∙ ap (attribute_from cells) (sym (on_inside (length cells) at 1 (omega (arith, lt, marked.sized))))
+      | inr last ↦
+          let begun : at + 1 - length cells ≡ 0 = omega (arith, inside, last, marked.sized) in
+          stop_ahead v cells 0 mark marked found
+          ∙ ap (attribute_from cells) (sym (on_round (length cells) at 1 (omega (arith, inside, last, marked.sized)) ∙ begun))
+    ]
+
 pub stop_never : (v : Marked) (cells : List Cell) (place : ℕ) → IsMarked v cells → IsFirstFrom place_of v.marks 0 None → None ≡ attribute_from cells place
 stop_never v cells place marked none =
     from_none cells (length cells) place refl (λ e few. none_there v cells (ring_on (length cells) place e) marked (none (ring_on (length cells) place e) (omega arith)))

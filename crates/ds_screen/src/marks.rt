@@ -24,6 +24,13 @@ pub(crate) struct Marks {
     limit: u32,
 }
 
+/// A field, and the first attribute behind its own.
+#[derive(Clone, Copy)]
+pub(crate) struct NextField {
+    pub field: FieldAt,
+    pub later: Option<Mark>,
+}
+
 impl Model for Marks {
     ghost use Rattle.std.specs.Prelude.{◌≤◌};
     ghost use Rattle.ds_screen.specs.Marks.{Marked, IsKept, marked};
@@ -95,44 +102,61 @@ impl Marks {
 
 impl Marks {
     ghost use Rattle.std.specs.Prelude.{◌≡◌, ◌<◌, ◌+◌, ◌^◌, true, [], ◌∷◌, length, IfSome, MatchOption};
-    ghost use Rattle.ds_screen.specs.Picture.{cell_at};
     ghost use Rattle.ds_codec.specs.declared.cell.Cell.TheVariants.{Field};
+    ghost use Rattle.ds_places.specs.Nearest.{IsFirstFrom};
+    ghost use Rattle.ds_screen.specs.Ring.{ring_on};
+    ghost use Rattle.ds_screen.specs.Picture.{cell_at};
     ghost use Rattle.ds_screen.specs.Fields.{is_attribute, attribute_from, span_of, attributes_from, field_at, field_there};
     ghost use Rattle.ds_screen.specs.Surface.{Tells};
-    ghost use Rattle.ds_screen.specs.Marks.{IsMarked, bare_cells};
+    ghost use Rattle.ds_screen.specs.Marks.{place_of, IsMarked, bare_cells};
 
-    /// The position of the attribute at the least distance going on round the buffer, `place` itself first.
-    fn next_stop(&self, place: u32) -> Option<u32>
-        requires { place < self.now.size }
-        ensures nearest { Tells IsMarked self.now (λ cells. result ≡ attribute_from cells place) }
+    /// The first attribute that stands at a position or after it.
+    pub(crate) fn next_mark(&self, from: u32) -> Option<Mark>
+        ensures first { IsFirstFrom place_of self.now.marks from result }
+        ensures inside { IfSome result (λ mark. mark.at < self.now.size) }
+        ensures small { IfSome result (λ mark. mark.at + 1 < 2 ^ 32) }
+    {
+        let _positions = self.size;
+        self.marks.first_from(from)
+    }
+
+    /// The position of the attribute at the least distance going on round the buffer from behind a position, where
+    /// `later` is the first that stands behind it.
+    fn stop_after(&self, at: u32, later: Option<Mark>) -> Option<u32>
+        requires inside { at < self.now.size }
+        requires later { IsFirstFrom place_of self.now.marks (at + 1) later }
+        ensures nearest { Tells IsMarked self.now
+            (λ cells. result ≡ attribute_from cells (ring_on (length cells) at 1)) }
         ensures inside { IfSome result (λ q. q < self.now.size) }
     {
-        if let Some(mark) = self.marks.first_from(place) {
+        let _positions = self.size;
+        if let Some(mark) = later {
             return Some(mark.at);
         }
-        match self.marks.first_from(0) {
+        match self.next_mark(0) {
             Some(mark) => Some(mark.at),
             None => None,
         }
     }
 
     /// How many positions the attribute at one governs: up to the next attribute round the buffer.
-    fn governed_length(&self, at: u32) -> u32
-        requires { at < self.now.size }
+    fn length_before(&self, at: u32, later: Option<Mark>) -> u32
+        requires inside { at < self.now.size }
+        requires later { IsFirstFrom place_of self.now.marks (at + 1) later }
         ensures { Tells IsMarked self.now (λ cells. is_attribute (cell_at cells at) ≡ true
             → result ≡ length (span_of cells at)) }
     {
         let n = self.size;
-        let place = next(n, at);
-        match self.next_stop(place) {
-            Some(stop) => distance(n, place, stop),
+        match self.stop_after(at, later) {
+            Some(stop) => distance(n, next(n, at), stop),
             None => 0,
         }
     }
 
-    /// The field of an attribute that is there.
-    fn field_of(&self, mark: Mark) -> FieldAt
-        requires { mark.at < self.now.size }
+    /// The field of an attribute that is there, where `later` is the first attribute behind it.
+    fn field_of(&self, mark: Mark, later: &Option<Mark>) -> FieldAt
+        requires inside { mark.at < self.now.size }
+        requires later { IsFirstFrom place_of self.now.marks (mark.at + 1) later.now }
         ensures field { Tells IsMarked self.now
             (λ cells. cell_at cells mark.at ≡ Field mark.attribute
             → result ≡ field_at cells mark.at) }
@@ -143,7 +167,17 @@ impl Marks {
             at: mark.at,
             attr: mark.attribute,
             place: next(self.size, mark.at),
-            length: self.governed_length(mark.at),
+            length: self.length_before(mark.at, *later),
+        }
+    }
+
+    /// Whether an attribute stands at a position.
+    pub(crate) fn is_marked(&self, p: u32) -> bool
+        ensures { Tells IsMarked self.now (λ cells. result ≡ is_attribute (cell_at cells p)) }
+    {
+        match self.marks.held(p) {
+            Some(_mark) => true,
+            None => false,
         }
     }
 
@@ -151,24 +185,31 @@ impl Marks {
     pub(crate) fn field_held(&self, p: u32) -> Option<FieldAt>
         ensures { Tells IsMarked self.now (λ cells. result ≡ field_there cells p) }
     {
+        let _positions = self.size;
         match self.marks.held(p) {
-            Some(mark) => Some(self.field_of(mark)),
+            Some(mark) => Some(self.field_of(mark, &self.next_mark(mark.at + 1))),
             None => None,
         }
     }
 
-    /// The first field whose attribute stands at a position or after it.
-    pub(crate) fn next_field(&self, from: u32) -> Option<FieldAt>
+    /// The field of the first attribute from a position on, which is found already, and the attribute behind it.
+    pub(crate) fn next_field(&self, from: u32, first: Option<Mark>) -> Option<NextField>
+        requires { IsFirstFrom place_of self.now.marks from first }
         ensures first { MatchOption result (attributes_from (bare_cells self.now) from ≡ [])
-            (λ field. (attributes_from (bare_cells self.now) from
-            ≡ field.at ∷ attributes_from (bare_cells self.now) (field.at + 1))
-            × (field ≡ field_at (bare_cells self.now) field.at)) }
-        ensures small { IfSome result (λ field. field.at + 1 < 2 ^ 32) }
+            (λ next. (attributes_from (bare_cells self.now) from
+            ≡ next.field.at ∷ attributes_from (bare_cells self.now) (next.field.at + 1))
+            × (next.field ≡ field_at (bare_cells self.now) next.field.at)) }
+        ensures later { IfSome result
+            (λ next. IsFirstFrom place_of self.now.marks (next.field.at + 1) next.later) }
+        ensures small { IfSome result (λ next. next.field.at + 1 < 2 ^ 32) }
     {
-        match self.marks.first_from(from) {
-            Some(mark) => Some(self.field_of(mark)),
-            None => None,
-        }
+        let _positions = self.size;
+        let Some(mark) = first else {
+            return None;
+        };
+        let later = self.next_mark(mark.at + 1);
+        let field = self.field_of(mark, &later);
+        Some(NextField { field, later })
     }
 }
 

@@ -44,8 +44,8 @@ impl Model for Outline {
 impl Outline {
     ghost use Rattle.std.specs.Prelude.{◌≡◌, ◌<◌, true, false, IfOk, IfErr, OnOk, OnErr};
     ghost use Rattle.ds_codec.specs.Geometry.{cells_of};
-    ghost use Rattle.ds_screen.specs.Picture.{Picture};
-    ghost use Rattle.ds_screen.specs.Fields.{fields_of, field_there};
+    ghost use Rattle.ds_screen.specs.Picture.{Picture, cell_at};
+    ghost use Rattle.ds_screen.specs.Fields.{is_attribute, fields_of, field_there};
     ghost use Rattle.ds_screen.specs.Records.{new_picture, told_of};
     ghost use Rattle.ds_screen.specs.Outline.{IsOutlineOf, OutlinesShown, OutlinesRefused, OutlinesCleared};
 
@@ -112,6 +112,14 @@ impl Outline {
         self.marks.field_held(p)
     }
 
+    /// Whether an attribute stands at this position: found by halving.
+    pub fn has_attribute(&self, p: u32) -> bool
+        ensures { (v : Picture) → IsOutlineOf self.now v
+            → result ≡ is_attribute (cell_at v.cells p) }
+    {
+        self.marks.is_marked(p)
+    }
+
     /// Erase All Unprotected (GA23-0059, "Commands").
     fn erase_all_unprotected(&mut self) -> Effect
         ensures shown { OutlinesCleared self.old self.new }
@@ -128,7 +136,7 @@ impl Outline {
     /// Does what a record says to the attributes, the cursor and the lock, with the refusals of a screen, and
     /// changes nothing where it refuses. Takes no memory. The copy that a Write begins with and a reset of
     /// modified data tags go over all attributes; each order finds its place by halving, and
-    /// moves no more than the attributes of the 64 positions round the one that it puts in or takes out.
+    /// moves no more than the attributes of the 512 positions round the one that it puts in or takes out.
     pub fn apply(&mut self, outbound: &Record<'_>) -> Result<Effect, Refused>
         ensures shows { OnOk result (OutlinesShown self.old outbound.now self.new) }
         ensures told { IfOk result (λ effect. effect ≡ told_of outbound.now.command) }

@@ -129,10 +129,10 @@ fn has_field(outline: &Outline, place: u32) -> bool
     if cells <= place {
         return false;
     }
-    match outline.field_at(previous(cells, place)) {
-        Some(field) => field.length > 0,
-        None => false,
+    if outline.has_attribute(place) {
+        return false;
     }
+    outline.has_attribute(previous(cells, place))
 }
 
 /// Adds what stands against the fields, in the order of their attributes.

@@ -1,5 +1,6 @@
 //! A field that a layout declares.
 
+use std::alloc::{AllocError, Global};
 use std::marker::Model;
 
 /// Whether an operator may type into a field.
@@ -30,4 +31,20 @@ impl Model for Entry {
     ghost Value = { Declared };
 
     ghost view = { λ e. record { name = string_bytes e.name; place = e.place; length = e.length; kind = e.kind } };
+}
+
+impl Entry {
+    ghost use Rattle.std.specs.Prelude.{◌≡◌, IfOk};
+
+    /// The same entry once more.
+    pub(crate) fn copy(&self, alloc: Global) -> Result<Entry, AllocError>
+        ensures { IfOk result (λ entry. entry ≡ self.now) }
+    {
+        Ok(Entry {
+            name: String::from_str(alloc, self.name.as_str())?,
+            place: self.place,
+            length: self.length,
+            kind: self.kind,
+        })
+    }
 }

@@ -1,6 +1,6 @@
 //! A layout, read from TOML.
 
-ghost use Rattle.std.specs.Prelude.{◌≡◌, []};
+ghost use Rattle.std.specs.Prelude.{◌≡◌, [], IfOk};
 ghost use Rattle.toml.specs.View.{table_view, items_view};
 ghost use Rattle.scr_layout.specs.Results.{Gives, in_field};
 ghost use Rattle.scr_layout.specs.Top.{tables_in};
@@ -18,7 +18,7 @@ use crate::top::{
 };
 use ds_codec::{Geometry, Size};
 use ds_places::held;
-use std::alloc::Global;
+use std::alloc::{AllocError, Global};
 use std::marker::Model;
 use toml::{Table, Value};
 
@@ -108,6 +108,22 @@ impl Layout {
         })
     }
 
+    /// The same layout once more, for less than its text is read for.
+    ///
+    /// # Errors
+    ///
+    /// Where a request for memory was refused.
+    pub fn copy(&self, alloc: Global) -> Result<Layout, AllocError>
+        ensures { IfOk result (λ layout. layout ≡ self.now) }
+    {
+        Ok(Layout {
+            geometry: self.geometry,
+            size: self.size,
+            entries: copied(alloc, &self.entries)?,
+            table: self.table.as_slice().to_vec(alloc)?,
+        })
+    }
+
     /// The terminal that the layout is for.
     pub fn geometry(&self) -> Geometry
         ensures { result ≡ self.now.geometry }
@@ -141,6 +157,17 @@ impl Layout {
             None => None,
         }
     }
+}
+
+/// The same entries once more.
+fn copied(alloc: Global, entries: &[Entry]) -> Result<Vec<Entry>, AllocError>
+    ensures { IfOk result (λ v. v.items ≡ entries.now) }
+{
+    let mut all = Vec::with_capacity(alloc, entries.len())?;
+    for entry in entries {
+        all.push(entry.copy(alloc)?)?;
+    }
+    Ok(all)
 }
 
 /// The table that a text is, by TOML.

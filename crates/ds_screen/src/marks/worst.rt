@@ -13,22 +13,21 @@ use crate::surface::Surface;
 use ds_codec::{Attr, Cell};
 
 impl Marks {
-    ghost use Rattle.std.specs.Prelude.{◌≡◌, ◌<◌, ◌+◌, ◌^◌, ◌&&◌, nat_lt, not, true, length, IfSome};
+    ghost use Rattle.std.specs.Prelude.{◌≡◌, ◌<◌, ◌&&◌, nat_lt, not, true, length};
     ghost use Rattle.ds_codec.specs.Attribute.{is_protected};
-    ghost use Rattle.ds_places.specs.Nearest.{IsFirstFrom};
     ghost use Rattle.ds_screen.specs.Picture.{cell_at};
     ghost use Rattle.ds_screen.specs.Fields.{is_attribute, span_of};
     ghost use Rattle.ds_screen.specs.Surface.{Tells};
-    ghost use Rattle.ds_screen.specs.Marks.{place_of, IsMarked};
+    ghost use Rattle.ds_screen.specs.Marks.{IsMarked};
 
-    /// The first attribute that stands at a position or after it.
-    fn next_mark(&self, from: u32) -> Option<Mark>
-        ensures first { IsFirstFrom place_of self.now.marks from result }
-        ensures inside { IfSome result (λ mark. mark.at < self.now.size) }
-        ensures small { IfSome result (λ mark. mark.at + 1 < 2 ^ 32) }
+    /// How many positions the attribute at one governs.
+    fn governed_length(&self, at: u32) -> u32
+        requires { at < self.now.size }
+        ensures { Tells IsMarked self.now (λ cells. is_attribute (cell_at cells at) ≡ true
+            → result ≡ length (span_of cells at)) }
     {
         let _positions = self.size;
-        self.marks.first_from(from)
+        self.length_before(at, self.next_mark(at + 1))
     }
 
     /// Whether an attribute is unprotected and governs a cell.

@@ -32,8 +32,8 @@ unwrap-requires g c =
     let there : x < length (lists_of old) = c.requires.below c.blocks-2.i lt in
     let inside : x < length now = omega (arith, there, count_lists old, c.blocks-2.invariant.count) in
     let none : was.items ≡ [] = block_read now x was inside c.index_mut.ensures.value ∙ c.blocks-2.invariant.walked.left x (bound_low used c.blocks-2.i c.requires.rising lt) ∙ c.requires.empty x in
-    let room : 64 ≤ get_or (rooms_of now) x 0 = c.blocks-2.invariant.roomy x (omega (arith, there, count_lists old)) in
-    let few : length (list_at (lists_of c.args.others.now) x) ≤ 64 = block_few g.T.Placed.place_of x (list_at (lists_of c.args.others.now) x) (c.requires.each x) in
+    let room : 512 ≤ get_or (rooms_of now) x 0 = c.blocks-2.invariant.roomy x (omega (arith, there, count_lists old)) in
+    let few : length (list_at (lists_of c.args.others.now) x) ≤ 512 = block_few g.T.Placed.place_of x (list_at (lists_of c.args.others.now) x) (c.requires.each x) in
     c.extend_from_slice.ensures.succeeds
     (omega (arith, ap length none, was.ok, room, room_read now x was inside c.index_mut.ensures.value, few, ap length c.block-entries.ensures))
 
@@ -50,7 +50,7 @@ blocks-2-preserved g c =
     let there : x < length (lists_of old) = c.requires.below c.blocks-2.i lt in
     let inside : x < length now = omega (arith, there, count_lists old, c.blocks-2.invariant.count) in
     let none : was.items ≡ [] = block_read now x was inside c.index_mut.ensures.value ∙ c.blocks-2.invariant.walked.left x (bound_low used c.blocks-2.i c.requires.rising lt) ∙ c.requires.empty x in
-    let room : 64 ≤ get_or (rooms_of now) x 0 = c.blocks-2.invariant.roomy x (omega (arith, there, count_lists old)) in
+    let room : 512 ≤ get_or (rooms_of now) x 0 = c.blocks-2.invariant.roomy x (omega (arith, there, count_lists old)) in
     let ok : is_ok c.extend_from_slice.result ≡ true = ap is_ok c.unwrap.ensures in
     let copied : v.items ≡ list_at (lists_of c.args.others.now) x =
     c.extend_from_slice.ensures.items ∙ cond-true (is_ok c.extend_from_slice.result) (was.items ++ entries) was.items ok ∙ ap (λ l. l ++ entries) none ∙ c.block-entries.ensures in

@@ -8,5 +8,5 @@ invariant-blocks-2 g l =
     record {
       walked : Walked (λ k xs. xs ≡ list_at (lists_of l.others) k) (lists_of l.fn.blocks.items) (lists_of l.blocks.items) (bound l.used l.i);
       count : length l.blocks.items ≡ length l.fn.blocks.items;
-      roomy : (k : ℕ) → k < length l.fn.blocks.items → 64 ≤ get_or (rooms_of l.blocks.items) k 0;
+      roomy : (k : ℕ) → k < length l.fn.blocks.items → 512 ≤ get_or (rooms_of l.blocks.items) k 0;
     }

@@ -11,7 +11,7 @@ pub blocks-2-init : goal.blocks-2-init
 blocks-2-init g c =
     let place = g.T.Placed.place_of in
     let lists = lists_of c.args.blocks.now.items in
-    let low = bound_below place c.args.used.now (c.args.from / 64) c.rank-start.result (λ j d lt before. c.rank-start.ensures.parts.0 j d (omega arith) before) c.rank-start.ensures.within in
+    let low = bound_below place c.args.used.now (c.args.from / 512) c.rank-start.result (λ j d lt before. c.rank-start.ensures.parts.0 j d (omega arith) before) c.rank-start.ensures.within in
     record {
       walked = walk_init (IsCut place c.args.from c.args.to lists) lists c.args.used.now c.requires.rising
           (λ k none. cut_empty place c.args.from c.args.to lists k (unlisted k (list_at lists k) (sym (c.requires.listed k) ∙ none))) (bound c.args.used.now c.rank-start.result)
@@ -63,15 +63,15 @@ blocks-2-preserved g c =
 pub returns-clause-cut : goal.returns-clause-cut
 returns-clause-cut g c = λ k q.
     let used = c.args.used.now in
-    let order = parts_order itself used (c.args.from / 64) ((c.args.to - 1) / 64 + 1) c.rank-start.result c.rank_from-end.result (omega (arith, c.requires.order)) c.rank-start.ensures.parts c.rank_from-end.ensures.parts c.rank-start.ensures.within in
+    let order = parts_order itself used (c.args.from / 512) ((c.args.to - 1) / 512 + 1) c.rank-start.result c.rank_from-end.result (omega (arith, c.requires.order)) c.rank-start.ensures.parts c.rank_from-end.ensures.parts c.rank-start.ensures.within in
     let end : c.blocks-2.i ≡ c.rank_from-end.result = omega (arith, c.blocks-2-test.false, c.blocks-2.auto.i-end, order) in
     (cut_done g.T.Placed.place_of c.args.from c.args.to c.blocks-2.i (lists_of c.args.blocks.now.items) (lists_of c.blocks-2.blocks.items) used c.requires.rising c.requires.each c.requires.listed
-    (subst (Parts itself used ((c.args.to - 1) / 64 + 1)) (sym end) c.rank_from-end.ensures.parts) (omega (arith, end, c.rank_from-end.ensures.within)) c.blocks-2.invariant.walked k).1 q
+    (subst (Parts itself used ((c.args.to - 1) / 512 + 1)) (sym end) c.rank_from-end.ensures.parts) (omega (arith, end, c.rank_from-end.ensures.within)) c.blocks-2.invariant.walked k).1 q
 
 pub returns-clause-rising : goal.returns-clause-rising
 returns-clause-rising g c = λ k.
     let used = c.args.used.now in
-    let order = parts_order itself used (c.args.from / 64) ((c.args.to - 1) / 64 + 1) c.rank-start.result c.rank_from-end.result (omega (arith, c.requires.order)) c.rank-start.ensures.parts c.rank_from-end.ensures.parts c.rank-start.ensures.within in
+    let order = parts_order itself used (c.args.from / 512) ((c.args.to - 1) / 512 + 1) c.rank-start.result c.rank_from-end.result (omega (arith, c.requires.order)) c.rank-start.ensures.parts c.rank_from-end.ensures.parts c.rank-start.ensures.within in
     let end : c.blocks-2.i ≡ c.rank_from-end.result = omega (arith, c.blocks-2-test.false, c.blocks-2.auto.i-end, order) in
     (cut_done g.T.Placed.place_of c.args.from c.args.to c.blocks-2.i (lists_of c.args.blocks.now.items) (lists_of c.blocks-2.blocks.items) used c.requires.rising c.requires.each c.requires.listed
-    (subst (Parts itself used ((c.args.to - 1) / 64 + 1)) (sym end) c.rank_from-end.ensures.parts) (omega (arith, end, c.rank_from-end.ensures.within)) c.blocks-2.invariant.walked k).0
+    (subst (Parts itself used ((c.args.to - 1) / 512 + 1)) (sym end) c.rank_from-end.ensures.parts) (omega (arith, end, c.rank_from-end.ensures.within)) c.blocks-2.invariant.walked k).0

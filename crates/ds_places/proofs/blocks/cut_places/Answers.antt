@@ -9,7 +9,7 @@ use Rattle.ds_places.proofs.blocks.cut_places.Goals as goal
 pub cut-requires-clause-rising : goal.cut-requires-clause-rising
 cut-requires-clause-rising g c =
     let blocks = c.args.blocks.now.items in
-    let n : ℕ = c.args.from / 64 in
+    let n : ℕ = c.args.from / 512 in
     let inside : n < length blocks = omega (arith, c.if-number-len.true, c.len.ensures, c.args.blocks.now.ok) in
     subst (IsRising g.T.Placed.place_of) (sym (block_read blocks n c.index_mut.result.now inside c.index_mut.ensures.value)) (c.requires.each n).rising
 
@@ -17,11 +17,11 @@ pub returns-then-number-len-clause-cut : goal.returns-then-number-len-clause-cut
 returns-then-number-len-clause-cut g c = λ k q.
     let place = g.T.Placed.place_of in
     let blocks = c.args.blocks.now.items in
-    let n : ℕ = c.args.from / 64 in
+    let n : ℕ = c.args.from / 512 in
     let v = c.cut.new.entries in
     let inside : n < length blocks = omega (arith, c.if-number-len.true, c.len.ensures, c.args.blocks.now.ok) in
     let was = block_read blocks n c.index_mut.result.now inside c.index_mut.ensures.value in
-    let one : n ≡ (c.args.to - 1) / 64 = omega (arith, c.if-number-to.true) in
+    let one : n ≡ (c.args.to - 1) / 512 = omega (arith, c.if-number-to.true) in
     elim (cases_eq k n) [
       | inl here ↦
           subst (λ j. at_place place (list_at (lists_of (set blocks n v)) j) q ≡ cond (leb c.args.from q && ltb q c.args.to) None (at_place place (list_at (lists_of blocks) j) q)) (sym here)
@@ -34,7 +34,7 @@ pub returns-then-number-len-clause-rising : goal.returns-then-number-len-clause-
 returns-then-number-len-clause-rising g c = λ k.
     let place = g.T.Placed.place_of in
     let blocks = c.args.blocks.now.items in
-    let n : ℕ = c.args.from / 64 in
+    let n : ℕ = c.args.from / 512 in
     let v = c.cut.new.entries in
     let inside : n < length blocks = omega (arith, c.if-number-len.true, c.len.ensures, c.args.blocks.now.ok) in
     elim (cases_eq k n) [
@@ -44,4 +44,4 @@ returns-then-number-len-clause-rising g c = λ k.
 
 pub returns-then-number-len-clause-room : goal.returns-then-number-len-clause-room
 returns-then-number-len-clause-room g c =
-    rooms_stay c.args.blocks.now.items (c.args.from / 64) c.cut.new.entries c.index_mut.result.now c.index_mut.ensures.value c.cut.ensures.room
+    rooms_stay c.args.blocks.now.items (c.args.from / 512) c.cut.new.entries c.index_mut.result.now c.index_mut.ensures.value c.cut.ensures.room

@@ -7,5 +7,5 @@ invariant-blocks-2 g l =
     record {
       count : length l.blocks.items ≡ l._made;
       empty : (k : ℕ) → list_at (lists_of l.blocks.items) k ≡ [];
-      roomy : (k : ℕ) → k < l._made → 64 ≤ get_or (rooms_of l.blocks.items) k 0;
+      roomy : (k : ℕ) → k < l._made → 512 ≤ get_or (rooms_of l.blocks.items) k 0;
     }

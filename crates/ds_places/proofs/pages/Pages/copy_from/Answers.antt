@@ -17,15 +17,15 @@ copy_blocks-requires-clause-below g c = λ i lt.
     let there = listed_inside lists used i c.other.invariant.0.rising c.other.invariant.0.listed (omega (arith, lt, ap length c.deref-3.ensures.value)) in
     let room = ap (λ (u : Paged g.row.T.Denot). u.room) c.self.view_is in
     let within = subst (λ (u : Paged g.row.T.Denot). IsWithin place c.args.self.now.room u.entries) (sym c.other.view_is) c.requires in
-    let below : x < c.args.self.now.room / 64 + 1 = block_below place lists c.args.self.now.room x c.other.invariant.0.each within there.0 in
+    let below : x < c.args.self.now.room / 512 + 1 = block_below place lists c.args.self.now.room x c.other.invariant.0.each within there.0 in
     let same : get_or c.deref-3.result.now i 0 ≡ x = ap (λ (l : List ℕ). get_or l i 0) c.deref-3.ensures.value in
-    omega (arith, same, below, ap (λ n. n / 64) room, c.self.invariant.0.enough, same_lists old c.clear_blocks.new.blocks.items c.clear_blocks.ensures.room)
+    omega (arith, same, below, ap (λ n. n / 512) room, c.self.invariant.0.enough, same_lists old c.clear_blocks.new.blocks.items c.clear_blocks.ensures.room)
 
 pub copy_blocks-requires-clause-roomy : goal.copy_blocks-requires-clause-roomy
 copy_blocks-requires-clause-roomy g c = λ k lt.
     let old = c.self.inside.blocks.items in
     let new = c.clear_blocks.new.blocks.items in
-    subst (λ (r : List ℕ). 64 ≤ get_or r k 0) (sym c.clear_blocks.ensures.room) (c.self.invariant.0.roomy k (omega (arith, lt, same_lists old new c.clear_blocks.ensures.room)))
+    subst (λ (r : List ℕ). 512 ≤ get_or r k 0) (sym c.clear_blocks.ensures.room) (c.self.invariant.0.roomy k (omega (arith, lt, same_lists old new c.clear_blocks.ensures.room)))
 
 pub unwrap-requires : goal.unwrap-requires
 unwrap-requires g c =
@@ -35,9 +35,9 @@ unwrap-requires g c =
     let lists = lists_of c.other.inside.blocks.items in
     let room = ap (λ (u : Paged g.row.T.Denot). u.room) c.self.view_is in
     let within = subst (λ (u : Paged g.row.T.Denot). IsWithin place c.args.self.now.room u.entries) (sym c.other.view_is) c.requires in
-    let few : length used ≤ c.args.self.now.room / 64 + 1 = used_below place lists c.args.self.now.room used c.other.invariant.0.each within c.other.invariant.0.rising c.other.invariant.0.listed in
+    let few : length used ≤ c.args.self.now.room / 512 + 1 = used_below place lists c.args.self.now.room used c.other.invariant.0.each within c.other.invariant.0.rising c.other.invariant.0.listed in
     c.extend_from_slice.ensures.succeeds
-    (omega (arith, few, ap length c.deref-4.ensures.value, c.clear.ensures.len, c.clear.ensures.capacity, ap (λ n. n / 64) room, c.self.invariant.0.enough, c.self.invariant.1))
+    (omega (arith, few, ap length c.deref-4.ensures.value, c.clear.ensures.len, c.clear.ensures.capacity, ap (λ n. n / 512) room, c.self.invariant.0.enough, c.self.invariant.1))
 
 pub invariant_of-self : goal.invariant_of-self
 invariant_of-self g c =

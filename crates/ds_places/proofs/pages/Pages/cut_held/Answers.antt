@@ -15,8 +15,8 @@ invariant_of-self g c =
     let old = c.self.inside.blocks.items in
     let new = c.cut_places.new.blocks.items in
     let order : from < to = c.requires in
-    let first = c.block.ensures ∙ ap (λ bs. list_at (lists_of bs) (from / 64)) c.deref-2.ensures.value in
-    let last = c.block-2.ensures ∙ ap (λ bs. list_at (lists_of bs) ((to - 1) / 64)) c.deref-3.ensures.value in (
+    let first = c.block.ensures ∙ ap (λ bs. list_at (lists_of bs) (from / 512)) c.deref-2.ensures.value in
+    let last = c.block-2.ensures ∙ ap (λ bs. list_at (lists_of bs) ((to - 1) / 512)) c.deref-3.ensures.value in (
       kept_blocks place c.self.inside.room old new c.self.inside.used.items c.cut.new.entries.items c.self.invariant.0 c.cut_places.ensures.room
           (λ k. cut_own place from to (lists_of old) (lists_of new) k (c.self.invariant.0.each k) (c.cut_places.ensures.cut k) (c.cut_places.ensures.rising k))
           c.cut.ensures.rising
@@ -52,8 +52,8 @@ invariant_of-self-else-low-high g c =
     let old = c.self.inside.blocks.items in
     let new = c.cut_places.new.blocks.items in
     let order : from < to = c.requires in
-    let first = c.block.ensures ∙ ap (λ bs. list_at (lists_of bs) (from / 64)) c.deref-2.ensures.value in
-    let last = c.block-2.ensures ∙ ap (λ bs. list_at (lists_of bs) ((to - 1) / 64)) c.deref-3.ensures.value in (
+    let first = c.block.ensures ∙ ap (λ bs. list_at (lists_of bs) (from / 512)) c.deref-2.ensures.value in
+    let last = c.block-2.ensures ∙ ap (λ bs. list_at (lists_of bs) ((to - 1) / 512)) c.deref-3.ensures.value in (
       kept_blocks place c.self.inside.room old new c.self.inside.used.items c.self.inside.used.items c.self.invariant.0 c.cut_places.ensures.room
           (λ k. cut_own place from to (lists_of old) (lists_of new) k (c.self.invariant.0.each k) (c.cut_places.ensures.cut k) (c.cut_places.ensures.rising k))
           c.self.invariant.0.rising

@@ -9,7 +9,7 @@ pub returns-in-Some-clause-nearest : goal.returns-in-Some-clause-nearest
 returns-in-Some-clause-nearest g c =
     let place = g.T.Placed.place_of in
     let lists = lists_of c.self.inside.blocks.items in
-    let k : ℕ = c.args.place / 64 in
+    let k : ℕ = c.args.place / 512 in
     let p : ℕ = c.args.place + 1 in
     let own = c.block.ensures ∙ ap (λ bs. list_at (lists_of bs) k) c.deref.ensures.value in
     let near = subst (λ l. IsLastBelow place l p (Some c.in-Some.entry)) own
@@ -20,8 +20,8 @@ returns-in-Some-clause-nearest g c =
 pub returns-in-Some-clause-looks : goal.returns-in-Some-clause-looks
 returns-in-Some-clause-looks g c = λ digits small.
     let lists = lists_of c.self.inside.blocks.items in
-    let own = c.block.ensures ∙ ap (λ bs. list_at (lists_of bs) (c.args.place / 64)) c.deref.ensures.value in
-    c.last_below-own.ensures.looks digits (omega (arith, small, ap length own, block_length g.T.Placed.place_of lists (c.args.place / 64), ap (λ (u : Paged g.row.T.Denot). length u.entries) c.self.view_is))
+    let own = c.block.ensures ∙ ap (λ bs. list_at (lists_of bs) (c.args.place / 512)) c.deref.ensures.value in
+    c.last_below-own.ensures.looks digits (omega (arith, small, ap length own, block_length g.T.Placed.place_of lists (c.args.place / 512), ap (λ (u : Paged g.row.T.Denot). length u.entries) c.self.view_is))
 
 pub overflow_add-result : goal.overflow_add-result
 overflow_add-result g c = omega (arith, c.last_below-earlier.ensures.few)
@@ -36,7 +36,7 @@ pub returns-in_default-entry-clause-nearest : goal.returns-in_default-entry-clau
 returns-in_default-entry-clause-nearest g c =
     let place = g.T.Placed.place_of in
     let lists = lists_of c.self.inside.blocks.items in
-    let k : ℕ = c.args.place / 64 in
+    let k : ℕ = c.args.place / 512 in
     let p : ℕ = c.args.place + 1 in
     let own = c.block.ensures ∙ ap (λ bs. list_at (lists_of bs) k) c.deref.ensures.value in
     let none = subst (λ l. IsLastBelow place l p None) own
@@ -49,8 +49,8 @@ returns-in_default-entry-clause-nearest g c =
 pub returns-in_default-entry-clause-looks : goal.returns-in_default-entry-clause-looks
 returns-in_default-entry-clause-looks g c = λ digits small.
     let lists = lists_of c.self.inside.blocks.items in
-    let own = c.block.ensures ∙ ap (λ bs. list_at (lists_of bs) (c.args.place / 64)) c.deref.ensures.value in
-    c.last_below-own.ensures.looks digits (omega (arith, small, ap length own, block_length g.T.Placed.place_of lists (c.args.place / 64), ap (λ (u : Paged g.row.T.Denot). length u.entries) c.self.view_is))
+    let own = c.block.ensures ∙ ap (λ bs. list_at (lists_of bs) (c.args.place / 512)) c.deref.ensures.value in
+    c.last_below-own.ensures.looks digits (omega (arith, small, ap length own, block_length g.T.Placed.place_of lists (c.args.place / 512), ap (λ (u : Paged g.row.T.Denot). length u.entries) c.self.view_is))
 
 pub returns-in_default-entry-clause-blocks : goal.returns-in_default-entry-clause-blocks
 returns-in_default-entry-clause-blocks g c = λ digits small.
@@ -63,8 +63,8 @@ pub returns-in_default-entry-clause-missed : goal.returns-in_default-entry-claus
 returns-in_default-entry-clause-missed g c = λ none. (
   λ digits small.
       let lists = lists_of c.self.inside.blocks.items in
-      let own = c.block.ensures ∙ ap (λ bs. list_at (lists_of bs) (c.args.place / 64)) c.deref.ensures.value in
-      c.last_below-own.ensures.missed c.in_default.is digits (omega (arith, small, ap length own, block_length g.T.Placed.place_of lists (c.args.place / 64), ap (λ (u : Paged g.row.T.Denot). length u.entries) c.self.view_is)),
+      let own = c.block.ensures ∙ ap (λ bs. list_at (lists_of bs) (c.args.place / 512)) c.deref.ensures.value in
+      c.last_below-own.ensures.missed c.in_default.is digits (omega (arith, small, ap length own, block_length g.T.Placed.place_of lists (c.args.place / 512), ap (λ (u : Paged g.row.T.Denot). length u.entries) c.self.view_is)),
   λ digits small.
       let lists = lists_of c.self.inside.blocks.items in
       let used = used_few g.T.Placed.place_of lists c.self.inside.used.items c.self.invariant.0.rising c.self.invariant.0.listed in
@@ -77,7 +77,7 @@ returns-clause-nearest g c =
     let place = g.T.Placed.place_of in
     let lists = lists_of c.self.inside.blocks.items in
     let used = c.self.inside.used.items in
-    let k : ℕ = c.args.place / 64 in
+    let k : ℕ = c.args.place / 512 in
     let p : ℕ = c.args.place + 1 in
     let earlier = c.in-Some-entry.used in
     let own = c.block.ensures ∙ ap (λ bs. list_at (lists_of bs) k) c.deref.ensures.value in
@@ -96,8 +96,8 @@ returns-clause-nearest g c =
 pub returns-clause-looks : goal.returns-clause-looks
 returns-clause-looks g c = λ digits small.
     let lists = lists_of c.self.inside.blocks.items in
-    let own = c.block.ensures ∙ ap (λ bs. list_at (lists_of bs) (c.args.place / 64)) c.deref.ensures.value in
-    let looks = c.last_below-own.ensures.missed c.in_default.is digits (omega (arith, small, ap length own, block_length g.T.Placed.place_of lists (c.args.place / 64), ap (λ (u : Paged g.row.T.Denot). length u.entries) c.self.view_is)) in
+    let own = c.block.ensures ∙ ap (λ bs. list_at (lists_of bs) (c.args.place / 512)) c.deref.ensures.value in
+    let looks = c.last_below-own.ensures.missed c.in_default.is digits (omega (arith, small, ap length own, block_length g.T.Placed.place_of lists (c.args.place / 512), ap (λ (u : Paged g.row.T.Denot). length u.entries) c.self.view_is)) in
     omega (arith, looks)
 
 pub returns-clause-blocks : goal.returns-clause-blocks

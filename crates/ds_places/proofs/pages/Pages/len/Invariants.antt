@@ -6,5 +6,5 @@ abbrev pub invariant-blocks-2 : goal.invariant-blocks-2
 invariant-blocks-2 g l =
     record {
       counted : length (entries_in (lists_of l.self-inside.blocks.items)) ≡ l.total + length (entries_in (drop l.i (lists_of l.self-inside.blocks.items)));
-      few : l.total ≤ 64 * l.i;
+      few : l.total ≤ 512 * l.i;
     }

@@ -8,6 +8,17 @@ use Rattle.ds_screen.proofs.MarkLaws.{held_there, held_inside, none_there}
 use Rattle.ds_screen.proofs.OutlineFieldLaws.{bare_marked}
 use Rattle.ds_screen.proofs.marks.Marks.field_held.Goals as goal
 
+pub overflow_add-mark : goal.overflow_add-mark
+overflow_add-mark c =
+    let same = ap (λ (u : Marked). u.marks) c.self.view_is in
+    let size = ap (λ (u : Marked). u.size) c.self.view_is in
+    let kept : IsKept c.args.self.now = subst IsKept c.self.view_is c.self.invariant.0 in
+    let shown : IsMarked c.args.self.now (bare_cells c.args.self.now) = bare_marked c.args.self.now kept.inside in
+    let found : at_place place_of c.args.self.now.marks c.args.p ≡ Some c.in-Some.mark = subst (λ l. at_place place_of l c.args.p ≡ Some c.in-Some.mark) same (sym c.in-Some.ensures) in
+    let at = (held_there c.args.self.now (bare_cells c.args.self.now) c.args.p c.in-Some.mark shown found).1 in
+    let inside = held_inside c.args.self.now c.args.p c.in-Some.mark kept found in
+    omega (arith, at, inside, size)
+
 pub field_of-requires : goal.field_of-requires
 field_of-requires c =
     let same = ap (λ (u : Marked). u.marks) c.self.view_is in
@@ -16,7 +27,7 @@ field_of-requires c =
     let found : at_place place_of c.args.self.now.marks c.args.p ≡ Some c.in-Some.mark = subst (λ l. at_place place_of l c.args.p ≡ Some c.in-Some.mark) same (sym c.in-Some.ensures) in
     let at = (held_there c.args.self.now (bare_cells c.args.self.now) c.args.p c.in-Some.mark shown found).1 in
     let inside = held_inside c.args.self.now c.args.p c.in-Some.mark kept found in
-    omega (arith, at, inside)
+    record { inside = omega (arith, at, inside); later = c.next_mark.ensures.first }
 
 pub returns-in-Some : goal.returns-in-Some
 returns-in-Some c = λ cells shown.

@@ -8,5 +8,5 @@ use Rattle.ds_screen.proofs.marks.Marks.field_of.Goals as goal
 pub returns-clause-field : goal.returns-clause-field
 returns-clause-field c = λ cells shown there.
     let size : c.self.inside.size ≡ length cells = ap (λ (u : Marked). u.size) c.self.view_is ∙ sym shown.sized in
-    field_made cells c.args.mark c.next.result c.governed_length.result there (c.next.ensures.on ∙ ap (λ n. ring_on n c.args.mark.at 1) size)
-    (c.governed_length.ensures cells shown (ap is_attribute there))
+    field_made cells c.args.mark c.next.result c.length_before.result there (c.next.ensures.on ∙ ap (λ n. ring_on n c.args.mark.at 1) size)
+    (c.length_before.ensures cells shown (ap is_attribute there))

@@ -1,4 +1,4 @@
--- The layout that a screen was checked against last.
+-- The layout that was read last.
 use Rattle.std.specs.Prelude.{ℕ, List}
 use Rattle.scr_layout.specs.Layout.{Declaration}
 
