@@ -10,7 +10,7 @@ use Rattle.ds_codec.specs.Attribute.{is_protected, is_modified}
 use Rattle.ds_screen.specs.declared.field.FieldAt.{FieldAt}
 use Rattle.ds_screen.specs.Ring.{ring_on, ring_back}
 use Rattle.ds_screen.specs.Picture.{Picture, cell_at}
-use Rattle.ds_screen.specs.Fields.{is_attribute, field_at, field_there, fields_of}
+use Rattle.ds_screen.specs.Fields.{is_attribute, span_of, field_at, fields_of}
 use Rattle.ds_screen.proofs.RingLaws.{on_cases, back_cases}
 use Rattle.scr_layout.specs.Entry.{Declared}
 use Rattle.scr_layout.specs.Layout.{Declaration}
@@ -18,7 +18,6 @@ use Rattle.scr_check.specs.declared.finding.Finding.{Finding}
 use Rattle.scr_check.specs.declared.finding.Finding.TheVariants.{Missing}
 use Rattle.scr_check.specs.Findings.{entry_at, is_of_kind, empty_finding, undeclared_finding, declared_finding, at_entry, entry_finding, field_finding, has_field, missing_from, findings_of}
 use Rattle.scr_check.proofs.ListLaws.{Each, each_at, each_append, each_map, each_kept, some_same, none_some, position_there, position_passes}
-use Rattle.scr_check.proofs.FieldLaws.{field_counts}
 use Rattle.scr_draft.specs.Drafted.{is_drafted, drafted_fields, kind_of, Named, named, drafts_from, drafts_of, entry_of, declared_by}
 use Rattle.scr_draft.specs.Best.{left_of, left_over}
 
@@ -124,11 +123,12 @@ field_once cells f g one other same =
 
 -- it governs cells at its place
 field_stands : (cells : List Cell) (f : FieldAt) → IsField cells f → nat_lt 0 f.length ≡ true → has_field cells f.place ≡ true
+unfolding has_field
 field_stands cells f one some =
     let back : one.q ≡ ring_back (length cells) (ring_on (length cells) one.q 1) 1 = back_again (length cells) one.q one.inside in
-    let there : Some (field_at cells one.q) ≡ field_there cells one.q = sym (cond-true (is_attribute (cell_at cells one.q)) _ _ one.stands) in
-    let counts = field_counts cells (ring_on (length cells) one.q 1) one.q (field_at cells one.q) back there in
-    ap (λ (x : FieldAt). has_field cells x.place) one.is ∙ sym counts ∙ ap (λ (x : FieldAt). nat_lt 0 x.length) (sym one.is) ∙ some
+    ap (λ (x : FieldAt). has_field cells x.place) one.is
+    ∙ ap (λ p. is_attribute (cell_at cells p) && nat_lt 0 (length (span_of cells p))) (sym back)
+    ∙ ap (λ b. b && nat_lt 0 (length (span_of cells one.q))) one.stands ∙ ap (λ (x : FieldAt). nat_lt 0 x.length) (sym one.is) ∙ some
 
 -- ---- what a draft declares
 abbrev pub IsNamed : List Cell → Named → Type 0
