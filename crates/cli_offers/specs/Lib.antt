@@ -1,4 +1,5 @@
 pub mod Ways
+pub mod Judged
 pub mod Sources
 pub mod Held
 pub mod Judging

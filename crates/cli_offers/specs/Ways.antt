@@ -86,6 +86,15 @@ ways_on shown way = flat_map (on_at shown way) (all_of shown)
 abbrev pub all_on : Shown → List Way → List Way
 all_on shown ways = flat_map (ways_on shown) ways
 
+-- all ways from the p-th screen with so many screens after it, in the order of the manifest
+abbrev pub ways_of : Shown → ℕ → ℕ → List Way
+ways_of shown p zero = alone p ∷ []
+ways_of shown p (suc count) = all_on shown (ways_of shown p count)
+
+-- those with one screen after it, those with two, and so on
+abbrev pub ways_up_to : Shown → ℕ → ℕ → List Way
+ways_up_to shown p count = flat_map (ways_of shown p) (range_with_len 1 count)
+
 abbrev pub ends_of : List Way → List ℕ
 ends_of ways = map (λ way. way.last) ways
 
@@ -97,16 +106,9 @@ abbrev pub fresh : List ℕ → List Way → List Way
 fresh known [] = []
 fresh known (way ∷ ways) = if is_known known way.last then fresh known ways else way ∷ fresh (known ++ way.last ∷ []) ways
 
--- The ways go on, by one screen in each round, from those that came first to a screen, so that each pair of a screen and a next one
--- is the end of one of them.
-abbrev pub rounds : Shown → ℕ → List ℕ → List Way → List Way
-rounds shown zero known ways = []
-rounds shown (suc more) known ways =
-    all_on shown ways ++ rounds shown more (known ++ ends_of (fresh known (all_on shown ways))) (fresh known (all_on shown ways))
-
--- over the p-th screen: two screens in the first round, three in the second, and so on
+-- Of all ways over the p-th screen those that come first to their last one; each of them with each screen over that.
 abbrev pub ways_over : Shown → ℕ → List Way
-ways_over shown p = rounds shown (length shown.plans) (ends_of (ways_on shown (alone p))) (ways_on shown (alone p))
+ways_over shown p = all_on shown (fresh [] (ways_up_to shown p (length shown.plans)))
 
 abbrev pub over_at : Shown → ℕ → List Way
 over_at shown p = if is_erased shown p then ways_over shown p else []

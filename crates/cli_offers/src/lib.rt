@@ -3,11 +3,13 @@
 
 mod any;
 mod judging;
+mod laws;
 mod prepare;
 mod sizes;
 mod sources;
 mod ways;
 
 pub use any::any_application;
+pub use laws::ways_law;
 pub use prepare::{Prepared, prepare_application};
 pub use sources::{Files, refusal};

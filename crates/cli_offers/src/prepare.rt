@@ -108,7 +108,7 @@ fn application_of(
 ///
 /// Each screen that begins with an erase is checked by itself, and the first in any case. Those that don't are judged as turns
 /// after each one that does, as far as keys lead, or where a key without a lead shows a screen again: each screen and a next one
-/// after the first way that comes to the former.
+/// after the first way that comes to the former (`ways_law`).
 ///
 /// # Errors
 ///

@@ -203,7 +203,8 @@ impl<'a> Shown<'a> {
         Ok(longer)
     }
 
-    /// Adds the ways over a screen that begins with an erase, by one screen more in each round.
+    /// Adds the ways over a screen that begins with an erase, by one screen more in each round: of those that come first to their
+    /// last screen.
     fn push_rounds(&self, alloc: Global, from: usize, ways: &mut Vec<Way>) -> Result<(), AllocError>
         ensures { OnOk result (ways.new.items ≡ ways.old.items ++ ways_over self.now from) }
     {

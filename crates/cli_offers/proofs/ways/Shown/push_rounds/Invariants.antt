@@ -1,7 +1,6 @@
-use Rattle.std.proofs.Common.{◌≡◌, ◌++◌, ◌-◌, length}
-use Rattle.cli_offers.specs.Ways.{rounds, ways_over}
+use Rattle.cli_offers.proofs.Layers.{OneMore}
 use Rattle.cli_offers.proofs.ways.Shown.push_rounds.Given as goal
 
--- the ways so far, with those of the rounds that are left
+-- the ways of the rounds so far; those that go on, and the screens to which they or others came
 abbrev pub invariant-loop-round : goal.invariant-loop-round
-invariant-loop-round l = l.ways.items ++ rounds l.self (length l.self.plans - l._round) l.known.items l.found.items ≡ l.fn.ways.items ++ ways_over l.self l.from
+invariant-loop-round l = OneMore l.self l.from l._round l.fn.ways.items l.ways.items l.known.items l.found.items
