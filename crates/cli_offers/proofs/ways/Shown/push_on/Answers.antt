@@ -1,4 +1,4 @@
-use Rattle.std.proofs.Common.{◌≡◌, ◌∙◌, ◌++◌, true, false, [], ◌∷◌, ap, sym}
+use Rattle.std.proofs.Common.{◌≡◌, ◌∙◌, ◌++◌, [], ◌∷◌, ap, sym}
 use Rattle.cli_offers.specs.Ways.{Way, is_over, on_at}
 use Rattle.cli_offers.proofs.Ranges.{added, unchanged, chosen, left_out}
 use Rattle.cli_offers.proofs.ways.Shown.push_on.Goals as goal
