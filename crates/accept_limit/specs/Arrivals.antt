@@ -57,6 +57,10 @@ pub record Limit : Type 0 where
 abbrev pub limit_of : ℕ → Limit
 limit_of most = record { most = most; kept = [] }
 
+-- those that came a second ago or earlier go
+abbrev pub forgotten : Limit → ℕ → Limit
+forgotten limit now = record limit { kept = recent now limit.kept }
+
 abbrev pub added : ℕ → List Arrival → Arrival → List Arrival
 added most kept arrival = if has_room most kept arrival then kept ++ arrival ∷ [] else kept
 

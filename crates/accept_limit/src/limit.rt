@@ -1,7 +1,7 @@
 //! Which connections are accepted, by those that were accepted in the second before.
 
-ghost use Rattle.std.specs.Prelude.{◌≡◌, [], IfOk, OnOk};
-ghost use Rattle.accept_limit.specs.Arrivals.{after, count_of, has_room, is_accepted, limit_of, recent};
+ghost use Rattle.std.specs.Prelude.{◌≡◌, [], true, IfOk, OnOk, OnErr};
+ghost use Rattle.accept_limit.specs.Arrivals.{after, count_of, forgotten, has_room, is_accepted, limit_of, recent};
 
 use std::alloc::{AllocError, Global};
 use std::marker::Model;
@@ -77,11 +77,13 @@ impl AcceptLimit {
     ///
     /// # Errors
     ///
-    /// Where a request for memory was refused: the connection isn't kept in mind.
+    /// Where a request for memory was refused, of a connection that would be accepted: it isn't kept in mind.
     pub fn admit(&mut self, arrival: Arrival) -> Result<bool, AllocError>
         ensures told { IfOk result (λ yes. yes
             ≡ is_accepted self.old.most self.old.kept arrival) }
         ensures kept { OnOk result (self.new ≡ after self.old arrival) }
+        ensures refused { OnErr result ((is_accepted self.old.most self.old.kept arrival ≡ true)
+            × (self.new ≡ forgotten self.old arrival.at)) }
     {
         forget(&mut self.kept, arrival.at);
         if !has_room(self.most, self.kept.as_slice(), arrival) {

@@ -1,1 +1,2 @@
 pub mod Served
+mod Arriving

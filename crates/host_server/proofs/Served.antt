@@ -107,6 +107,14 @@ settles_stops IsTold before after Done settles = absurd settles
 settles_stops IsTold before after Findings settles = absurd settles
 settles_stops IsTold before after BadInput settles = absurd settles
 
+pub keeps_then : {H C : Type 0} (content : H → C) (old mid new : Serving H) → Keeps content old mid → Keeps content mid new → Keeps content old new
+keeps_then content old mid new a b = record {
+  served = b.served ∙ a.served;
+  asked = b.asked ∙ a.asked;
+  address = b.address ∙ a.address;
+  tally = b.tally ∙ a.tally;
+}
+
 -- a server that keeps what it serves
 pub settled_kept : {H C : Type 0} (content : H → C) (IsTold : Telling C) (old mid new : Serving H) (before after : Printing)
     → Keeps content mid new → Settled content IsTold old mid before after → Settled content IsTold old new before after

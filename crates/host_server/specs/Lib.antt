@@ -1,2 +1,4 @@
 pub mod Tallies
+pub mod Places
 pub mod Serving
+pub mod Arriving

@@ -1,5 +1,7 @@
 -- What a server prints of its terminals, and how it ends.
 use Rattle.std.specs.Prelude.{ℕ, ◌≡◌, ◌⊎◌, Bool, true, false, List, [], ◌∷◌, ◌++◌, Result, Ok, Err}
+use Rattle.std.specs.declared.net.socket_addr.SocketAddr.{SocketAddr}
+use Rattle.accept_limit.specs.Arrivals.{Limit, limit_of}
 use Rattle.cli_commands.specs.declared.status.Status.{Status}
 use Rattle.cli_commands.specs.declared.status.Status.TheVariants.{Failed, NoMemory}
 use Rattle.cli_sessions.specs.Printing.{Printing, IsPrinted}
@@ -10,22 +12,34 @@ use Rattle.host_server.specs.declared.asked.Asked.{Asked}
 use Rattle.host_server.specs.declared.tally.Tally.{Tally}
 use Rattle.host_server.specs.Tallies.{no_tally, tally_after, is_done_by, status_of}
 
--- the hosts, what is asked for, and what became of the terminals that came and went
+-- the hosts, what is asked for, and where is listened; what came of each address in the last second; whether memory was refused to one
+-- that came; and what became of the terminals that came and went
 pub record Serving (H : Type 0) : Type 0 where
   pub hosts : H
   pub asked : Asked
+  pub address : SocketAddr
+  pub limit : Limit
+  pub refused : Bool
   pub tally : Tally
 
-abbrev pub serving : {H : Type 0} → H → Asked → Serving H
-serving hosts asked = record { hosts = hosts; asked = asked; tally = no_tally }
+abbrev pub serving : {H : Type 0} → H → Asked → SocketAddr → Serving H
+serving hosts asked address = record {
+  hosts = hosts;
+  asked = asked;
+  address = address;
+  limit = limit_of asked.per_second;
+  refused = false;
+  tally = no_tally;
+}
 
 abbrev pub is_done : {H : Type 0} → Serving H → Bool
 is_done server = is_done_by server.asked server.tally
 
--- what is served, what is asked for and what was counted stay
+-- what is served, what is asked for, where is listened and what was counted stay
 pub record Keeps {H C : Type 0} (content : H → C) (old new : Serving H) : Type 0 where
   pub served : content new.hosts ≡ content old.hosts
   pub asked : new.asked ≡ old.asked
+  pub address : new.address ≡ old.address
   pub tally : new.tally ≡ old.tally
 
 -- ---- terminals that went
@@ -87,9 +101,9 @@ abbrev pub Serves : {H C A : Type 0} → (H → C) → Telling C → Serving H �
 Serves content IsTold old new before after (Ok done) = Settled content IsTold old new before after
 Serves content IsTold old new before after (Err status) = Stops (IsTold (content old.hosts)) before after status
 
--- the status is that of the tally, where a terminal was refused a session or none was
+-- the status is that of the tally, and of whether memory was refused to one that came
 abbrev pub EndsSo : {H : Type 0} → Serving H → Status → Type 0
-EndsSo server status = (refused : Bool) × (status ≡ status_of server.asked server.tally refused)
+EndsSo server status = status ≡ status_of server.asked server.tally server.refused
 
 -- the status of the terminals that went; or that of the lines that could not be written
 abbrev pub EndsAfter : {H C : Type 0} → (H → C) → Telling C → Serving H → Printing → Printing → Status → Type 0

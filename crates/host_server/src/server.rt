@@ -2,7 +2,11 @@
 //! event waits.
 
 ghost use Rattle.std.specs.Prelude.{◌≡◌, IfOk};
+ghost use Rattle.std.specs.Net.Socket.{socket_ip};
+ghost use Rattle.std.specs.declared.net.socket_addr.SocketAddr.{SocketAddr as Address};
+ghost use Rattle.host_server.specs.Places.{number_of, IsPlace};
 ghost use Rattle.host_server.specs.Serving.{serving, is_done, Keeps, Serves, EndsSo, ServesAll};
+ghost use Rattle.host_server.specs.Arriving.{arrival_of, most_of, Accepts, Admits, Opens, TakesOne};
 
 use crate::asked::Asked;
 use crate::one_line::work_line;
@@ -36,6 +40,8 @@ const MOST_READ: usize = 4_096;
 pub struct Server<H: Hosts> {
     poll: Poll,
     listener: TcpListener,
+    /// Where it listens.
+    address: SocketAddr,
     /// Whether a terminal may wait that was not accepted.
     may_accept: bool,
     hosts: H,
@@ -59,16 +65,27 @@ impl<H: Hosts> Model for Server<H> {
     ghost view = { λ s. record {
       hosts = s.hosts;
       asked = s.asked;
+      address = s.address;
+      limit = s.limit;
+      refused = s.has_refused;
       tally = s.tally;
     } };
 }
 
-/// Listens at the first address of a place that can be had.
-fn listen<R: Net>(rt: &R, host: &str, port: u16) -> io::Result<TcpListener> {
+/// Listens at the first address of a place that can be had, and tells it. A host that is an address isn't looked up.
+fn listen<R: Net>(rt: &R, host: &str, port: u16) -> io::Result<(TcpListener, SocketAddr)>
+    ensures { IfOk result (λ listening. IsPlace host.now port listening.1) }
+{
+    if let Ok(ip) = host.parse::<IpAddr>() {
+        let address = SocketAddr::new(ip, port);
+        return Ok((TcpListener::bind(rt, address)?, address));
+    }
     let mut last = io::Error::from(io::ErrorKind::InvalidInput);
-    for address in (host, port).to_socket_addrs(rt)? {
+    for found in (host, port).to_socket_addrs(rt)? {
+        let mut address = found;
+        address.set_port(port);
         match TcpListener::bind(rt, address) {
-            Ok(listener) => return Ok(listener),
+            Ok(listener) => return Ok((listener, address)),
             Err(error) => last = error,
         }
     }
@@ -76,9 +93,11 @@ fn listen<R: Net>(rt: &R, host: &str, port: u16) -> io::Result<TcpListener> {
 }
 
 /// The number of an address. Those of IPv4 are told apart as the addresses of IPv6 that stand for them.
-fn number_of(peer: &SocketAddr) -> u128 {
+fn number_of(peer: &SocketAddr) -> u128
+    ensures { result ≡ number_of (socket_ip peer.now) }
+{
     match peer.ip() {
-        IpAddr::V4(address) => u128::from(address.to_bits()) | 0xFFFF_0000_0000,
+        IpAddr::V4(address) => address.to_ipv6_mapped().to_bits(),
         IpAddr::V6(address) => address.to_bits(),
     }
 }
@@ -133,15 +152,17 @@ impl<H: Hosts> Server<H> {
         hosts: H,
         asked: Asked,
     ) -> io::Result<Server<H>>
-        ensures { IfOk result (λ server. server ≡ serving hosts asked) }
+        ensures { IfOk result (λ server. (address : Address) × IsPlace host.now port address
+            × (server ≡ serving hosts asked address)) }
     {
         let poll = Poll::new(rt)?;
-        let mut listener = listen(rt, host, port)?;
+        let (mut listener, address) = listen(rt, host, port)?;
         poll.registry()
             .register(&mut listener, LISTENER, Interest::READABLE)?;
         Ok(Server {
             poll,
             listener,
+            address,
             may_accept: false,
             hosts,
             lines: Vec::new(alloc),
@@ -154,7 +175,9 @@ impl<H: Hosts> Server<H> {
     }
 
     /// How many terminals may come in all.
-    fn most(&self) -> u64 {
+    fn most(&self) -> u64
+        ensures { result ≡ most_of self.now.asked.count }
+    {
         match self.asked.count {
             0 => u64::MAX,
             count => u64::from(count),
@@ -175,7 +198,8 @@ impl<H: Hosts> Server<H> {
 
     /// Whether a terminal is served that came from there, by how many did in the last second.
     fn admits(&mut self, peer: &SocketAddr, now: u64) -> bool
-        ensures { Keeps H.content self.old self.new }
+        ensures kept { Keeps H.content self.old self.new }
+        ensures asked { Admits self.old (arrival_of (number_of (socket_ip peer.now)) now) result self.new }
     {
         if self.asked.per_second == 0 {
             return true;
@@ -192,7 +216,9 @@ impl<H: Hosts> Server<H> {
 
     /// A terminal came from there: it is served, or its line goes.
     fn take_one(&mut self, alloc: Global, now: u64, stream: TcpStream, peer: &SocketAddr)
-        ensures { Keeps H.content self.old self.new }
+        ensures kept { Keeps H.content self.old self.new }
+        ensures taken { TakesOne H.content H.takes H.room
+            (arrival_of (number_of (socket_ip peer.now)) now) self.old self.new }
     {
         if self.admits(peer, now) {
             self.open(alloc, now, stream);
@@ -201,7 +227,8 @@ impl<H: Hosts> Server<H> {
 
     /// A terminal came.
     fn open(&mut self, alloc: Global, now: u64, mut stream: TcpStream)
-        ensures { Keeps H.content self.old self.new }
+        ensures kept { Keeps H.content self.old self.new }
+        ensures opened { Opens H.content H.takes H.room now self.old self.new }
     {
         if self.hosts.came() >= self.most() {
             return;
@@ -220,7 +247,8 @@ impl<H: Hosts> Server<H> {
 
     /// Accepts the terminals that wait, where any may, as long as there is room.
     fn accept_all(&mut self, alloc: Global, now: u64)
-        ensures { Keeps H.content self.old self.new }
+        ensures kept { Keeps H.content self.old self.new }
+        ensures accepted { Accepts H.content H.takes H.room now self.old self.new }
     {
         for _ in 0..MOST_EVENTS {
             if !self.may_accept || !self.has_room() {
