@@ -1,2 +1,3 @@
 pub mod Served
 mod Arriving
+mod Printed

@@ -1,4 +1,5 @@
 pub mod Tallies
 pub mod Places
+pub mod Waiting
 pub mod Serving
 pub mod Arriving

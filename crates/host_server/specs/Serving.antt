@@ -1,16 +1,19 @@
 -- What a server prints of its terminals, and how it ends.
-use Rattle.std.specs.Prelude.{ℕ, ◌≡◌, ◌⊎◌, Bool, true, false, List, [], ◌∷◌, ◌++◌, Result, Ok, Err}
+use Rattle.std.specs.Prelude.{ℕ, ◌≡◌, ◌<◌, ◌⊎◌, Bool, true, false, List, [], ◌∷◌, ◌++◌, length, Result, Ok, Err}
+use Rattle.std.specs.Io.KnownBytes.{Appends}
 use Rattle.std.specs.declared.net.socket_addr.SocketAddr.{SocketAddr}
 use Rattle.accept_limit.specs.Arrivals.{Limit, limit_of}
 use Rattle.cli_commands.specs.declared.status.Status.{Status}
 use Rattle.cli_commands.specs.declared.status.Status.TheVariants.{Failed, NoMemory}
+use Rattle.cli_commands.specs.Causes.{HasFailed}
+use Rattle.cli_commands.specs.Streams.{AppendsFront}
 use Rattle.cli_sessions.specs.Printing.{Printing, IsPrinted}
 use Rattle.cli_hosts.specs.declared.settling.Settled.{Settled as Outcome}
 use Rattle.cli_hosts.specs.Hosts.{Told}
-use Rattle.cli_hosts.specs.Writing.{Writes}
 use Rattle.host_server.specs.declared.asked.Asked.{Asked}
 use Rattle.host_server.specs.declared.tally.Tally.{Tally}
 use Rattle.host_server.specs.Tallies.{no_tally, tally_after, is_done_by, status_of}
+use Rattle.host_server.specs.Waiting.{Waiting, added, most_waiting}
 
 -- the hosts, what is asked for, and where is listened; what came of each address in the last second; whether memory was refused to one
 -- that came; and what became of the terminals that came and went
@@ -44,7 +47,7 @@ pub record Keeps {H C : Type 0} (content : H → C) (old new : Serving H) : Type
 
 -- ---- terminals that went
 
--- one: its number, what became of it, and the text that was printed of it
+-- one: its number, what became of it, and the text that tells of it
 pub record Went : Type 0 where
   pub number : ℕ
   pub outcome : Outcome
@@ -64,52 +67,76 @@ abbrev pub AreTold : Told → List Went → Type 0
 AreTold IsTold [] = Unit {0}
 AreTold IsTold (one ∷ went) = IsTold one.number one.outcome one.text × AreTold IsTold went
 
--- These terminals went: their lines were written, whole, and no others.
-pub record PrintsTerminals (IsTold : Told) (before after : Printing) : Type 0 where
-  pub went : List Went
-  pub told : AreTold IsTold went
-  pub written : IsPrinted before after (texts_of went) true
+-- the text tells of a terminal of some number
+abbrev pub TellsOf : Told → Outcome → List ℕ → Type 0
+TellsOf IsTold outcome text = (number : ℕ) × IsTold number outcome text
 
 -- what hosts tell of terminals, by what they serve
 abbrev pub Telling : Type 0 → Type 1
 Telling C = C → Told
 
--- and what became of them was counted
-pub record Settled {H C : Type 0} (content : H → C) (IsTold : Telling C) (old new : Serving H) (before after : Printing) : Type 0 where
+-- These terminals went, and what became of them was counted.
+pub record Settled {H C : Type 0} (content : H → C) (IsTold : Telling C) (old new : Serving H) : Type 0 where
   pub went : List Went
   pub told : AreTold (IsTold (content old.hosts)) went
-  pub written : IsPrinted before after (texts_of went) true
   pub served : content new.hosts ≡ content old.hosts
   pub asked : new.asked ≡ old.asked
+  pub address : new.address ≡ old.address
   pub tally : new.tally ≡ tally_after old.tally (outcomes_of went)
 
--- the lines of one more could not be written
-abbrev pub PrintsPart : Told → Printing → Printing → Type 0
-PrintsPart IsTold old new = (number : ℕ) × (outcome : Outcome) × (text : List ℕ) × IsTold number outcome text × Writes old new text false
+-- ---- their texts
 
--- The lines of terminals were written, whole, and then no more, or a front of those of one more.
-pub record PrintsFront (IsTold : Told) (before after : Printing) : Type 0 where
-  pub middle : Printing
-  pub whole : PrintsTerminals IsTold before middle
-  pub last : (after ≡ middle) ⊎ PrintsPart IsTold middle after
+abbrev pub all_added : Waiting → List Went → Waiting
+all_added waiting [] = waiting
+all_added waiting (one ∷ went) = all_added (added waiting one.text) went
 
--- the lines of one could not be written, after those of others
-abbrev pub Stops : Told → Printing → Printing → Status → Type 0
-Stops IsTold before after status = PrintsFront IsTold before after × ((status ≡ Failed) ⊎ (status ≡ NoMemory))
+-- Terminals went, and their texts wait after those that did.
+pub record Goes {H C : Type 0} (content : H → C) (IsTold : Telling C) (old new : Serving H) (waiting later : Waiting) : Type 0 where
+  pub settled : Settled content IsTold old new
+  pub waits : later ≡ all_added waiting settled.went
 
-abbrev pub Serves : {H C A : Type 0} → (H → C) → Telling C → Serving H → Serving H → Printing → Printing → Result A Status → Type 0
-Serves content IsTold old new before after (Ok done) = Settled content IsTold old new before after
-Serves content IsTold old new before after (Err status) = Stops (IsTold (content old.hosts)) before after status
+-- all of the texts, or a front of them where one was left out
+abbrev pub IsFront : Bool → List ℕ → List ℕ → Type 0
+IsFront false texts front = texts ≡ front
+IsFront true texts front = (rest : List ℕ) × (texts ≡ front ++ rest)
+
+-- no write failed; or one did, or more would have waited than may
+abbrev pub IsCause : Bool → Printing → Printing → List ℕ → Type 0
+IsCause false before after texts = after.failures ≡ before.failures
+IsCause true before after texts = HasFailed before.failures after.failures ⊎ (most_waiting < length texts)
+
+-- Terminals went: what was written and what waits are their texts, in turn.
+pub record Prints {H C : Type 0} (content : H → C) (IsTold : Telling C) (old new : Serving H) (before after : Printing) (waiting : Waiting) : Type 0 where
+  pub settled : Settled content IsTold old new
+  pub gone : List ℕ
+  pub written : Appends before.written after.written gone
+  pub front : IsFront waiting.cut (texts_of settled.went) (gone ++ waiting.bytes)
+  pub cause : IsCause waiting.cut before after (texts_of settled.went)
+
+-- ---- the end
 
 -- the status is that of the tally, and of whether memory was refused to one that came
 abbrev pub EndsSo : {H : Type 0} → Serving H → Status → Type 0
 EndsSo server status = status ≡ status_of server.asked server.tally server.refused
 
--- the status of the terminals that went; or that of the lines that could not be written
+-- the status, unless a text was left out; memory may be refused for a text
+abbrev pub StopsSo : {H E : Type 0} → Serving H → Waiting → Result Status E → Type 0
+StopsSo server waiting (Ok status) = EndsSo server status ⊎ ((status ≡ NoMemory) ⊎ (waiting.cut ≡ true))
+StopsSo server waiting (Err error) = Unit {0}
+
+-- a front of the texts was written: a write failed, or more would have waited than may
+abbrev pub IsCut : List ℕ → Printing → Printing → Type 0
+IsCut texts before after = AppendsFront before.written after.written texts × IsCause true before after texts
+
+-- Terminals went. Their texts were written, whole and in turn, and the status is theirs, or memory was refused for one more; or a front of
+-- the texts was, and the status says so.
 abbrev pub EndsAfter : {H C : Type 0} → (H → C) → Telling C → Serving H → Printing → Printing → Status → Type 0
 EndsAfter {H = H} content IsTold old before after status =
-    ((new : Serving H) × Settled content IsTold old new before after × EndsSo new status) ⊎ Stops (IsTold (content old.hosts)) before after status
+    (new : Serving H) × (settled : Settled content IsTold old new)
+    × ((IsPrinted before after (texts_of settled.went) true × (EndsSo new status ⊎ (status ≡ NoMemory)))
+    ⊎ (IsCut (texts_of settled.went) before after × (status ≡ Failed)))
 
 abbrev pub ServesAll : {H C E : Type 0} → (H → C) → Telling C → Serving H → Printing → Printing → Result Status E → Type 0
 ServesAll content IsTold old before after (Ok status) = EndsAfter content IsTold old before after status
-ServesAll content IsTold old before after (Err error) = PrintsTerminals (IsTold (content old.hosts)) before after
+ServesAll {H = H} content IsTold old before after (Err error) =
+    (new : Serving H) × (settled : Settled content IsTold old new) × IsPrinted before after (texts_of settled.went) true

@@ -2,9 +2,15 @@
 #![tactic(auto)]
 
 mod asked;
+mod gathered;
 mod one_line;
+mod outlet;
+mod pending;
+mod place;
 mod server;
 mod tally;
+mod watch;
 
 pub use asked::Asked;
+pub use outlet::Outlet;
 pub use server::{Server, serve_all};

@@ -1,30 +1,50 @@
 //! Many terminals at once: a listener, the lines that came of it, and the hub that they are of. Nothing but the wait for the next
 //! event waits.
 
-ghost use Rattle.std.specs.Prelude.{◌≡◌, IfOk};
+ghost use Rattle.std.specs.Prelude.{◌≡◌, ◌<◌, length, true, false, Ok, IfOk, IfSome};
+ghost use Rattle.host_server.specs.Tallies.{counted};
+ghost use Rattle.std.specs.Bool.{OnTrue};
+ghost use Rattle.cli_commands.specs.declared.status.Status.TheVariants.{Failed};
 ghost use Rattle.std.specs.Net.Socket.{socket_ip};
 ghost use Rattle.std.specs.declared.net.socket_addr.SocketAddr.{SocketAddr as Address};
 ghost use Rattle.host_server.specs.Places.{number_of, IsPlace};
-ghost use Rattle.host_server.specs.Serving.{serving, is_done, Keeps, Serves, EndsSo, ServesAll};
+ghost use Rattle.host_server.specs.Serving.{serving, is_done, Keeps, Goes, Prints, TellsOf, EndsSo, StopsSo, ServesAll};
+ghost use Rattle.host_server.specs.Waiting.{nothing_waits, Passes};
 ghost use Rattle.host_server.specs.Arriving.{arrival_of, most_of, Accepts, Admits, Opens, TakesOne};
 
 use crate::asked::Asked;
+use crate::gathered::Gathered;
 use crate::one_line::work_line;
+use crate::outlet::Outlet;
+use crate::pending::{MOST_WAITING, Pending, pass_all, pass_some};
+use crate::place::{listen, number_of};
 use crate::tally::Tally;
+use crate::watch::Watch;
 use accept_limit::{AcceptLimit, Arrival};
 use cli_commands::{Status, TakesBytes};
-use cli_hosts::Hosts;
+use cli_hosts::{Hosts, Settled};
 use cli_sessions::Output;
 use mio::net::{TcpListener, TcpStream};
 use mio::{Events, Interest, Poll, Token};
 use std::alloc::{AllocError, Global};
 use std::io;
+use std::io::Eprint;
 use std::marker::Model;
-use std::net::{IpAddr, Net, SocketAddr, ToSocketAddrs};
+use std::net::{Net, SocketAddr};
+use std::os::fd::RawFd;
 use std::time::{Clock, Duration, Instant};
 
 /// The listener's token. The others are those of the hub.
 const LISTENER: Token = Token(usize::MAX);
+
+/// The token of what lines are written to.
+const OUTPUT: Token = Token(usize::MAX - 1);
+
+/// The token of standard error.
+const ERRORS: Token = Token(usize::MAX - 2);
+
+/// The descriptor of standard error.
+const STANDARD_ERROR: RawFd = 2;
 
 /// The most events of one wait.
 const MOST_EVENTS: usize = 256;
@@ -55,6 +75,11 @@ pub struct Server<H: Hosts> {
     has_refused: bool,
     /// Which connections are accepted of those of one address.
     limit: AcceptLimit,
+    /// What lines are written to.
+    output: Watch,
+    errors: Watch,
+    /// Whether it was said that too much waits to be written.
+    has_told: bool,
 }
 
 impl<H: Hosts> Model for Server<H> {
@@ -70,36 +95,6 @@ impl<H: Hosts> Model for Server<H> {
       refused = s.has_refused;
       tally = s.tally;
     } };
-}
-
-/// Listens at the first address of a place that can be had, and tells it. A host that is an address isn't looked up.
-fn listen<R: Net>(rt: &R, host: &str, port: u16) -> io::Result<(TcpListener, SocketAddr)>
-    ensures { IfOk result (λ listening. IsPlace host.now port listening.1) }
-{
-    if let Ok(ip) = host.parse::<IpAddr>() {
-        let address = SocketAddr::new(ip, port);
-        return Ok((TcpListener::bind(rt, address)?, address));
-    }
-    let mut last = io::Error::from(io::ErrorKind::InvalidInput);
-    for found in (host, port).to_socket_addrs(rt)? {
-        let mut address = found;
-        address.set_port(port);
-        match TcpListener::bind(rt, address) {
-            Ok(listener) => return Ok((listener, address)),
-            Err(error) => last = error,
-        }
-    }
-    Err(last)
-}
-
-/// The number of an address. Those of IPv4 are told apart as the addresses of IPv6 that stand for them.
-fn number_of(peer: &SocketAddr) -> u128
-    ensures { result ≡ number_of (socket_ip peer.now) }
-{
-    match peer.ip() {
-        IpAddr::V4(address) => address.to_ipv6_mapped().to_bits(),
-        IpAddr::V6(address) => address.to_bits(),
-    }
 }
 
 /// Has a line reported whenever it can be read or written.
@@ -171,6 +166,9 @@ impl<H: Hosts> Server<H> {
             tally: Tally::new(),
             has_refused: false,
             limit: AcceptLimit::new(alloc, asked.per_second),
+            output: Watch::new(STANDARD_ERROR, OUTPUT),
+            errors: Watch::new(STANDARD_ERROR, ERRORS),
+            has_told: false,
         })
     }
 
@@ -280,96 +278,204 @@ impl<H: Hosts> Server<H> {
         }
     }
 
-    /// Where the terminal of a token ended, its lines are printed, and its line goes.
-    fn settle<W: TakesBytes>(
+    /// Where the terminal of a token ended, it leaves the hosts: what became of it, and its lines.
+    ///
+    /// # Errors
+    ///
+    /// Where memory is refused for its lines.
+    fn take_told(
         &mut self,
         alloc: Global,
         token: usize,
-        output: &mut Output<W>,
-    ) -> Result<(), Status>
-        ensures { Serves H.content H.IsTold self.old self.new output.old output.new result }
+    ) -> Result<Option<(Settled, Vec<u8>)>, AllocError>
+        ensures kept { Keeps H.content self.old self.new }
+        ensures told { IfOk result (λ found. IfSome found (λ told.
+            TellsOf (H.IsTold (H.content self.old.hosts)) told.0 told.1.items)) }
     {
-        let settled = match self.hosts.settle(alloc, token, output) {
-            Ok(settled) => settled,
-            Err(status) => return Err(status),
+        let mut told = Output::new(Gathered::new(alloc));
+        let Ok(settled) = self.hosts.settle(alloc, token, &mut told) else {
+            return Err(AllocError);
         };
-        if let Some(settled) = settled {
-            drop_line(self.lines.as_mut_slice(), token);
-            self.open = self.open.saturating_sub(1);
-            self.tally.count(settled);
-        }
+        let Some(settled) = settled else {
+            return Ok(None);
+        };
+        Ok(Some((settled, told.into_writer().text)))
+    }
+
+    /// The terminal of a token went, its line goes, and what became of it is counted.
+    fn count(&mut self, token: usize, settled: Settled)
+        ensures { self.new ≡ record self.old { tally = counted self.old.tally settled } }
+    {
+        drop_line(self.lines.as_mut_slice(), token);
+        self.open = self.open.saturating_sub(1);
+        self.tally.count(settled);
+    }
+
+    /// Where the terminal of a token ended, its lines wait to be written, and its line goes.
+    ///
+    /// # Errors
+    ///
+    /// Where memory is refused for its lines.
+    fn settle(
+        &mut self,
+        alloc: Global,
+        token: usize,
+        pending: &mut Pending,
+    ) -> Result<(), AllocError>
+        ensures { Goes H.content H.IsTold self.old self.new pending.old pending.new }
+    {
+        let Some((settled, text)) = self.take_told(alloc, token)? else {
+            return Ok(());
+        };
+        pending.add(text.as_slice())?;
+        self.count(token, settled);
         Ok(())
     }
 
-    /// Ends the terminals whose time is up, and settles all that ended.
-    fn sweep<W: TakesBytes>(
-        &mut self,
-        alloc: Global,
-        now: u64,
-        output: &mut Output<W>,
-    ) -> Result<(), Status>
-        ensures { Serves H.content H.IsTold self.old self.new output.old output.new result }
+    /// It is this time now for the terminals.
+    fn tick(&mut self, now: u64)
+        ensures { Keeps H.content self.old self.new }
     {
         self.hosts.tick(now);
+    }
+
+    /// Ends the terminals whose time is up, and settles all that ended.
+    fn sweep(&mut self, alloc: Global, now: u64, pending: &mut Pending) -> Result<(), AllocError>
+        ensures { Goes H.content H.IsTold self.old self.new pending.old pending.new }
+    {
+        self.tick(now);
         for token in 0..self.lines.len() {
             if self.is_done() {
                 break;
             }
-            if let Err(status) = self.settle(alloc, token, output) {
-                return Err(status);
-            }
+            self.settle(alloc, token, pending)?;
         }
         Ok(())
     }
 
+    /// Does what an event of a line asks for.
+    fn take_line(
+        &mut self,
+        alloc: Global,
+        token: usize,
+        now: u64,
+        buffer: &mut [u8],
+        pending: &mut Pending,
+    ) -> Result<(), AllocError>
+        ensures { Goes H.content H.IsTold self.old self.new pending.old pending.new }
+    {
+        self.work(alloc, token, now, buffer);
+        if self.is_done() {
+            return Ok(());
+        }
+        self.settle(alloc, token, pending)
+    }
+
     /// Does what events ask for.
-    fn take_events<W: TakesBytes>(
+    fn take_events(
         &mut self,
         alloc: Global,
         events: &Events<Global>,
         now: u64,
         buffer: &mut [u8],
-        output: &mut Output<W>,
-    ) -> Result<(), Status>
-        ensures { Serves H.content H.IsTold self.old self.new output.old output.new result }
+        pending: &mut Pending,
+    ) -> Result<(), AllocError>
+        ensures { Goes H.content H.IsTold self.old self.new pending.old pending.new }
     {
         for event in events {
             match event.token() {
                 LISTENER => self.may_accept = true,
-                Token(token) => {
-                    self.work(alloc, token, now, buffer);
-                    if self.is_done() {
-                        break;
-                    }
-                    if let Err(status) = self.settle(alloc, token, output) {
-                        return Err(status);
-                    }
-                }
+                OUTPUT => self.output.hear(event),
+                ERRORS => self.errors.hear(event),
+                Token(token) => self.take_line(alloc, token, now, buffer, pending)?,
             }
         }
         Ok(())
     }
 
     /// Does what events ask for; looks at the time where it is to; and accepts who waits.
-    fn turn<W: TakesBytes>(
+    fn turn(
         &mut self,
         alloc: Global,
         events: &Events<Global>,
         now: u64,
         looks: bool,
         buffer: &mut [u8],
-        output: &mut Output<W>,
-    ) -> Result<(), Status>
-        ensures { Serves H.content H.IsTold self.old self.new output.old output.new result }
+        pending: &mut Pending,
+    ) -> Result<(), AllocError>
+        ensures { Goes H.content H.IsTold self.old self.new pending.old pending.new }
     {
-        if let Err(status) = self.take_events(alloc, events, now, buffer, output) {
-            return Err(status);
-        }
+        self.take_events(alloc, events, now, buffer, pending)?;
         self.accept_all(alloc, now);
         if looks {
-            return self.sweep(alloc, now, output);
+            return self.sweep(alloc, now, pending);
         }
         Ok(())
+    }
+
+    /// Has the system tell when lines can be written without a wait.
+    fn watch(&mut self, descriptor: RawFd)
+        ensures { Keeps H.content self.old self.new }
+    {
+        self.output = Watch::new(descriptor, OUTPUT);
+        self.output.begin(&self.poll);
+        self.errors.begin(&self.poll);
+    }
+
+    /// Whether something waits that can be written now.
+    fn may_print(&self, pending: &Pending) -> bool
+        ensures { OnTrue result (0 < length pending.now.bytes) }
+    {
+        !pending.is_empty() && self.output.takes()
+    }
+
+    /// Writes some of what waits.
+    fn print_some<W: TakesBytes>(&mut self, output: &mut Output<W>, pending: &mut Pending)
+        ensures kept { Keeps H.content self.old self.new }
+        ensures passes { Passes output.old output.new pending.old pending.new }
+        ensures fewer { 0 < length pending.old.bytes
+            → length pending.new.bytes < length pending.old.bytes }
+    {
+        pass_some(output, pending);
+        self.output.go_on(&self.poll);
+    }
+
+    /// Writes of what waits as much as is taken without a wait.
+    fn print<W: TakesBytes>(&mut self, output: &mut Output<W>, pending: &mut Pending)
+        ensures kept { Keeps H.content self.old self.new }
+        ensures passes { Passes output.old output.new pending.old pending.new }
+    {
+        while self.may_print(pending) {
+            self.print_some(output, pending);
+        }
+    }
+
+    /// Says once that a text was left out because too much waited.
+    fn tell_full<R: Eprint>(&mut self, rt: &R, pending: &Pending, name: &str)
+        ensures { Keeps H.content self.old self.new }
+    {
+        if pending.is_full() && !self.has_told {
+            self.has_told = true;
+            let _ = eprintln!(rt;
+                "term3270: {name}: more than {MOST_WAITING} bytes wait to be read; nothing more is printed"
+            );
+        }
+    }
+
+    /// Says it where that can be said without a wait.
+    fn tell_soon<R: Eprint>(&mut self, rt: &R, pending: &Pending, name: &str)
+        ensures { Keeps H.content self.old self.new }
+    {
+        if self.errors.takes() {
+            self.tell_full(rt, pending, name);
+        }
+    }
+
+    /// Whether a write failed of lines that nobody will ever read.
+    fn is_unread(&self, pending: &Pending) -> bool
+        ensures { OnTrue result (pending.now.cut ≡ true) }
+    {
+        pending.is_cut() && self.output.is_closed()
     }
 
     /// How the command ends.
@@ -401,20 +507,19 @@ fn wait<R: Clock, H: Hosts>(
     time(rt, begun)
 }
 
-/// Serves until all terminals came and went, or enough answered, and gives the status: well where enough answered, whoever else
-/// came; else whether memory was refused to a terminal, or one failed. What is written is the lines of terminals, whole; where a
-/// write of them fails, or memory for them is refused, that is the status, and a part of one terminal's may stand at the end.
-///
-/// # Errors
-///
-/// One of the wait itself, or of the clock.
-pub fn serve_all<R: Clock, H: Hosts, W: TakesBytes>(
+/// Serves until all terminals came and went, or enough answered; what they print waits, or was written.
+fn serve_turns<R: Clock + Eprint, H: Hosts, W: TakesBytes>(
     rt: &R,
     alloc: Global,
     server: &mut Server<H>,
+    pending: &mut Pending,
     output: &mut Output<W>,
+    outlet: Outlet<'_>,
 ) -> io::Result<Status>
-    ensures { ServesAll H.content H.IsTold server.old output.old output.new result }
+    requires { pending.old ≡ nothing_waits }
+    ensures prints { Prints H.content H.IsTold server.old server.new output.old output.new
+        pending.new }
+    ensures stops { StopsSo server.new pending.new result }
 {
     let Ok(mut events) = Events::with_capacity(alloc, MOST_EVENTS) else {
         return Err(io::Error::from(io::ErrorKind::OutOfMemory));
@@ -424,6 +529,7 @@ pub fn serve_all<R: Clock, H: Hosts, W: TakesBytes>(
         Ok(begun) => begun,
         Err(error) => return Err(error),
     };
+    server.watch(outlet.descriptor);
     let mut swept = 0;
     'turns: for _ in 0..u64::MAX {
         if server.is_done() {
@@ -437,9 +543,50 @@ pub fn serve_all<R: Clock, H: Hosts, W: TakesBytes>(
         if looks {
             swept = now;
         }
-        if let Err(status) = server.turn(alloc, &events, now, looks, &mut buffer, output) {
-            return Ok(status);
+        let told = server.turn(alloc, &events, now, looks, &mut buffer, pending);
+        server.print(output, pending);
+        server.tell_soon(rt, pending, outlet.name);
+        if told.is_err() {
+            return Ok(Status::NoMemory);
+        }
+        if server.is_unread(pending) {
+            return Ok(Status::Failed);
         }
     }
     Ok(server.status())
+}
+
+/// How the command ends, once nothing waits: `Failed` where a text was left out.
+fn ended(stopped: io::Result<Status>, pending: &Pending) -> io::Result<Status>
+    ensures cut { pending.now.cut ≡ true → result ≡ Ok Failed }
+    ensures whole { pending.now.cut ≡ false → result ≡ stopped }
+{
+    if pending.is_cut() {
+        return Ok(Status::Failed);
+    }
+    stopped
+}
+
+/// Serves until all terminals came and went, or enough answered, and gives the status: well where enough answered, whoever else
+/// came; else whether memory was refused to a terminal, or one failed. What is written is the lines of terminals, whole. They wait in
+/// memory while the outlet takes nothing; where a write fails, or more than 16,777,216 bytes would wait, no others are printed, and
+/// the status is `Failed`; it goes on serving, unless nobody can ever read. Where memory is refused for lines, that is the status.
+///
+/// # Errors
+///
+/// One of the wait itself, or of the clock.
+pub fn serve_all<R: Clock + Eprint, H: Hosts, W: TakesBytes>(
+    rt: &R,
+    alloc: Global,
+    server: &mut Server<H>,
+    output: &mut Output<W>,
+    outlet: Outlet<'_>,
+) -> io::Result<Status>
+    ensures { ServesAll H.content H.IsTold server.old output.old output.new result }
+{
+    let mut pending = Pending::new(alloc);
+    let stopped = serve_turns(rt, alloc, server, &mut pending, output, outlet);
+    pass_all(output, &mut pending);
+    server.tell_full(rt, &pending, outlet.name);
+    ended(stopped, &pending)
 }

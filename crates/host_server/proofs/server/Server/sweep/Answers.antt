@@ -1,10 +1,15 @@
-use Rattle.host_server.proofs.Served.{settled_then, stops_then}
+use Rattle.host_server.proofs.Served.{goes_first, goes_then}
 use Rattle.host_server.proofs.server.Server.sweep.Goals as goal
 
-pub returns-in-Err : goal.returns-in-Err
-returns-in-Err g c =
-    stops_then g.H.Hosts.content g.H.Hosts.IsTold c.args.self.now c.loop-token.self c.args.output.now c.loop-token.output c.settle.new.output c.in-Err.status c.loop-token.invariant c.in-Err.ensures
+pub loop-token-init : goal.loop-token-init
+loop-token-init g c = goes_first g.H.Hosts.content g.H.Hosts.IsTold c.args.self.now c.tick.new.self c.args.pending.now c.tick.ensures
+
+pub returns-in_err-settle : goal.returns-in_err-settle
+returns-in_err-settle g c =
+    goes_then g.H.Hosts.content g.H.Hosts.IsTold c.args.self.now c.loop-token.self c.settle.new.self c.args.pending.now c.loop-token.pending c.settle.new.pending
+    c.loop-token.invariant c.settle.ensures
 
 pub loop-token-preserved : goal.loop-token-preserved
 loop-token-preserved g c =
-    settled_then g.H.Hosts.content g.H.Hosts.IsTold c.args.self.now c.loop-token.self c.settle.new.self c.args.output.now c.loop-token.output c.settle.new.output c.loop-token.invariant c.in_default.ensures
+    goes_then g.H.Hosts.content g.H.Hosts.IsTold c.args.self.now c.loop-token.self c.settle.new.self c.args.pending.now c.loop-token.pending c.settle.new.pending
+    c.loop-token.invariant c.settle.ensures

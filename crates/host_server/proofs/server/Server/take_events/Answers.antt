@@ -1,12 +1,15 @@
-use Rattle.host_server.proofs.Served.{settled_kept, settled_then, stops_then}
+use Rattle.host_server.proofs.Served.{goes_none, goes_then}
 use Rattle.host_server.proofs.server.Server.take_events.Goals as goal
 
-pub returns-in-Err : goal.returns-in-Err
-returns-in-Err g c =
-    stops_then g.H.Hosts.content g.H.Hosts.IsTold c.args.self.now c.work.new.self c.args.output.now c.loop-event.output c.settle.new.output c.in-Err.status
-    (settled_kept g.H.Hosts.content g.H.Hosts.IsTold c.args.self.now c.loop-event.self c.work.new.self c.args.output.now c.loop-event.output c.work.ensures c.loop-event.invariant) c.in-Err.ensures
+pub loop-event-init : goal.loop-event-init
+loop-event-init g c = goes_none g.H.Hosts.content g.H.Hosts.IsTold c.args.self.now c.args.pending.now
 
 pub loop-event-preserved : goal.loop-event-preserved
 loop-event-preserved g c =
-    settled_then g.H.Hosts.content g.H.Hosts.IsTold c.args.self.now c.work.new.self c.settle.new.self c.args.output.now c.loop-event.output c.settle.new.output
-    (settled_kept g.H.Hosts.content g.H.Hosts.IsTold c.args.self.now c.loop-event.self c.work.new.self c.args.output.now c.loop-event.output c.work.ensures c.loop-event.invariant) c.in_default-settle.ensures
+    goes_then g.H.Hosts.content g.H.Hosts.IsTold c.args.self.now c.loop-event.self c.take_line.new.self c.args.pending.now c.loop-event.pending c.take_line.new.pending
+    c.loop-event.invariant c.take_line.ensures
+
+pub returns-in_err-take_line-in_default : goal.returns-in_err-take_line-in_default
+returns-in_err-take_line-in_default g c =
+    goes_then g.H.Hosts.content g.H.Hosts.IsTold c.args.self.now c.loop-event.self c.take_line.new.self c.args.pending.now c.loop-event.pending c.take_line.new.pending
+    c.loop-event.invariant c.take_line.ensures
