@@ -295,12 +295,12 @@ pub prints_first : {H C : Type 0} (content : H → C) (IsTold : Telling C) (old 
 prints_first content IsTold old new at waiting none same =
     prints_kept content IsTold old old new at at waiting (prints_none content IsTold old at waiting none) same
 
--- the server waits, goes on, prints, and says what it has to
-pub prints_turn : {H C : Type 0} (content : H → C) (IsTold : Telling C) (old held woken gone printed new : Serving H) (before mid after : Printing) (waiting more later : Waiting)
-    → Prints content IsTold old held before mid waiting → KeepsServing content held woken → Goes content IsTold woken gone waiting more → KeepsServing content gone printed
-    → Passes mid after more later → KeepsServing content printed new → Prints content IsTold old new before after later
-prints_turn content IsTold old held woken gone printed new before mid after waiting more later a waits goes prints passes tells =
+-- the server waits, goes on, says what it has to, and prints
+pub prints_turn : {H C : Type 0} (content : H → C) (IsTold : Telling C) (old held woken gone told new : Serving H) (before mid after : Printing) (waiting more later : Waiting)
+    → Prints content IsTold old held before mid waiting → KeepsServing content held woken → Goes content IsTold woken gone waiting more → KeepsServing content gone told
+    → KeepsServing content told new → Passes mid after more later → Prints content IsTold old new before after later
+prints_turn content IsTold old held woken gone told new before mid after waiting more later a waits goes tells prints passes =
     prints_kept content IsTold old gone new before after later
     (prints_passes content IsTold old gone before mid after more later
     (prints_goes content IsTold old woken gone before mid waiting more (prints_kept content IsTold old held woken before mid waiting a waits) goes) passes)
-    (keeps_then content gone printed new prints tells)
+    (keeps_then content gone told new tells prints)

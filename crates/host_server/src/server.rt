@@ -419,7 +419,6 @@ impl<H: Hosts> Server<H> {
     {
         self.output = Watch::new(descriptor, OUTPUT);
         self.output.begin(&self.poll);
-        self.errors.begin(&self.poll);
     }
 
     /// Whether something waits that can be written now.
@@ -437,7 +436,17 @@ impl<H: Hosts> Server<H> {
             → length pending.new.bytes < length pending.old.bytes }
     {
         pass_some(output, pending);
-        self.output.go_on(&self.poll);
+        self.output.forget();
+    }
+
+    /// Asks when more of what waits can be written, where anything does.
+    fn ask(&mut self, pending: &Pending)
+        ensures { Keeps H.content self.old self.new }
+    {
+        self.output.forget();
+        if !pending.is_empty() {
+            self.output.ask(&self.poll);
+        }
     }
 
     /// Writes of what waits as much as is taken without a wait.
@@ -448,6 +457,7 @@ impl<H: Hosts> Server<H> {
         while self.may_print(pending) {
             self.print_some(output, pending);
         }
+        self.ask(pending);
     }
 
     /// Says once that a text was left out because too much waited.
@@ -462,12 +472,17 @@ impl<H: Hosts> Server<H> {
         }
     }
 
-    /// Says it where that can be said without a wait.
+    /// Says it where that can be said without a wait. Both may be the same pipe, so lines are written once that was asked again.
     fn tell_soon<R: Eprint>(&mut self, rt: &R, pending: &Pending, name: &str)
         ensures { Keeps H.content self.old self.new }
     {
+        if !pending.is_full() || self.has_told {
+            return;
+        }
+        self.errors.ask(&self.poll);
         if self.errors.takes() {
             self.tell_full(rt, pending, name);
+            self.output.forget();
         }
     }
 
@@ -544,8 +559,8 @@ fn serve_turns<R: Clock + Eprint, H: Hosts, W: TakesBytes>(
             swept = now;
         }
         let told = server.turn(alloc, &events, now, looks, &mut buffer, pending);
-        server.print(output, pending);
         server.tell_soon(rt, pending, outlet.name);
+        server.print(output, pending);
         if told.is_err() {
             return Ok(Status::NoMemory);
         }

@@ -16,18 +16,18 @@ returns-in-Err-wait-clause-prints g c =
 
 pub returns-then-is_err-clause-prints : goal.returns-then-is_err-clause-prints
 returns-then-is_err-clause-prints g c =
-    prints_turn g.H.Hosts.content g.H.Hosts.IsTold c.args.server.now c.turns.server c.wait.new.server c.turn-told.new.self c.print.new.self c.tell_soon.new.self
+    prints_turn g.H.Hosts.content g.H.Hosts.IsTold c.args.server.now c.turns.server c.wait.new.server c.turn-told.new.self c.tell_soon.new.self c.print.new.self
     c.args.output.now c.turns.output c.print.new.output c.turns.pending c.turn-told.new.pending c.print.new.pending
-    c.turns.invariant c.wait.ensures c.turn-told.ensures c.print.ensures.kept c.print.ensures.passes c.tell_soon.ensures
+    c.turns.invariant c.wait.ensures c.turn-told.ensures c.tell_soon.ensures c.print.ensures.kept c.print.ensures.passes
 
 pub returns-then-is_unread-clause-prints : goal.returns-then-is_unread-clause-prints
 returns-then-is_unread-clause-prints g c =
-    prints_turn g.H.Hosts.content g.H.Hosts.IsTold c.args.server.now c.turns.server c.wait.new.server c.turn-told.new.self c.print.new.self c.tell_soon.new.self
+    prints_turn g.H.Hosts.content g.H.Hosts.IsTold c.args.server.now c.turns.server c.wait.new.server c.turn-told.new.self c.tell_soon.new.self c.print.new.self
     c.args.output.now c.turns.output c.print.new.output c.turns.pending c.turn-told.new.pending c.print.new.pending
-    c.turns.invariant c.wait.ensures c.turn-told.ensures c.print.ensures.kept c.print.ensures.passes c.tell_soon.ensures
+    c.turns.invariant c.wait.ensures c.turn-told.ensures c.tell_soon.ensures c.print.ensures.kept c.print.ensures.passes
 
 pub turns-preserved : goal.turns-preserved
 turns-preserved g c =
-    prints_turn g.H.Hosts.content g.H.Hosts.IsTold c.args.server.now c.turns.server c.wait.new.server c.turn-told.new.self c.print.new.self c.tell_soon.new.self
+    prints_turn g.H.Hosts.content g.H.Hosts.IsTold c.args.server.now c.turns.server c.wait.new.server c.turn-told.new.self c.tell_soon.new.self c.print.new.self
     c.args.output.now c.turns.output c.print.new.output c.turns.pending c.turn-told.new.pending c.print.new.pending
-    c.turns.invariant c.wait.ensures c.turn-told.ensures c.print.ensures.kept c.print.ensures.passes c.tell_soon.ensures
+    c.turns.invariant c.wait.ensures c.turn-told.ensures c.tell_soon.ensures c.print.ensures.kept c.print.ensures.passes
