@@ -11,8 +11,14 @@ use cli_commands::{GivesBytes, Status, TakesBytes, finish};
 use cli_hosts::ScreenHosts;
 use cli_sessions::{Output, Prepared, Screen, prepare_serve};
 use cli_words::Many;
-use host_server::{Asked, Server, serve_all};
+use host_server::{Asked, Outlet, Server, serve_all};
 use std::alloc::{AllocError, Global};
+
+/// Standard output, where the lines of terminals go.
+pub(crate) const OUTLET: Outlet<'static> = Outlet {
+    name: "standard output",
+    descriptor: 1,
+};
 
 /// The records as slices.
 fn lent<'a>(alloc: Global, records: &'a [Vec<u8>]) -> Result<Vec<&'a [u8]>, AllocError>
@@ -61,7 +67,7 @@ fn serve_screen<W: TakesBytes>(
         Err(error) => return place.report(rt, &error),
     };
     tell_listening(rt, place);
-    match serve_all(rt, rt.alloc(), &mut server, output) {
+    match serve_all(rt, rt.alloc(), &mut server, output, OUTLET) {
         Ok(status) => status,
         Err(error) => place.report(rt, &error),
     }

@@ -2,7 +2,7 @@
 
 use crate::commands::{output, sized_input};
 use crate::manners::{bare_host, tell_listening};
-use crate::many::asked_of;
+use crate::many::{OUTLET, asked_of};
 use crate::reasons::{heard_file, told_first};
 use crate::suite::{folder_of, heard, read_file};
 use crate::tcp::Place;
@@ -195,7 +195,8 @@ fn serve_application(rt: &HostRuntime, application: &Application, asked: ServeAs
         Err(error) => return place.report(rt, &error),
     };
     tell_listening(rt, place);
-    match serve_all(rt, rt.alloc(), &mut server, &mut Output::new(output(rt))) {
+    let mut lines = Output::new(output(rt));
+    match serve_all(rt, rt.alloc(), &mut server, &mut lines, OUTLET) {
         Ok(status) => status,
         Err(error) => place.report(rt, &error),
     }
