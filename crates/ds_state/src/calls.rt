@@ -48,8 +48,8 @@ pub fn press_key(alloc: Global, state: &mut [u8], key: Key) -> Result<Option<Pre
     Ok(Some(pressed))
 }
 
-/// What becomes of a record on a screen.
-fn applied(screen: &mut Screen<PlaneCells>, bytes: &[u8]) -> Applied
+/// Applies a record to a screen, and tells what becomes of it. One that is refused, a read and a No-operation leave it as it is.
+pub fn take_record(screen: &mut Screen<PlaneCells>, bytes: &[u8]) -> Applied
     ensures told { result ≡ told_by screen.old bytes.now }
     ensures after { screen.new ≡ (received screen.old bytes.now).after }
 {
@@ -86,7 +86,7 @@ pub fn apply_record(
     let Some(mut screen) = opened else {
         return Ok(None);
     };
-    let told = applied(&mut screen, bytes);
+    let told = take_record(&mut screen, bytes);
     close_state(alloc, &screen, state)?;
     Ok(Some(told))
 }

@@ -22,7 +22,8 @@ pub struct Status {
     pub aid: Aid,
 }
 
-fn status_of<C: Cells>(screen: &Screen<C>) -> Status
+/// The size in use, the cursor, the keyboard's lock and the attention identifier of a screen.
+pub fn status_of<C: Cells>(screen: &Screen<C>) -> Status
     ensures { result ≡ status_of screen.now }
 {
     Status {
@@ -87,8 +88,12 @@ fn cell_pair(cell: Cell) -> [u8; 2]
     }
 }
 
-/// The pairs of all cells.
-fn pairs_of<C: Cells>(alloc: Global, screen: &Screen<C>) -> Result<Vec<u8>, AllocError>
+/// Two bytes for each position of a screen, as `read_cells` tells them of a state.
+///
+/// # Errors
+///
+/// Where a request for memory was refused.
+pub fn pairs_of<C: Cells>(alloc: Global, screen: &Screen<C>) -> Result<Vec<u8>, AllocError>
     ensures { IfOk result (λ pairs. pairs.items ≡ cell_pairs screen.now.cells) }
 {
     let cells = screen.size().cells();

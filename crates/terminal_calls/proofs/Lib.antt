@@ -1,1 +1,2 @@
 mod Laid
+pub mod Handles

@@ -1,3 +1,5 @@
+pub mod Screens
 pub mod Numbers
 pub mod Items
 pub mod Left
+pub mod Held

@@ -93,7 +93,8 @@ fn without_refusal(kind: u8, alarm: bool, restored: bool) -> Effect
     }
 }
 
-fn effect_of(told: Applied) -> Effect
+/// An effect as C sees it.
+pub(crate) fn effect_of(told: Applied) -> Effect
     ensures { result ≡ effect_of told }
 {
     match told {
@@ -106,7 +107,8 @@ fn effect_of(told: Applied) -> Effect
     }
 }
 
-fn effect_code(told: Applied) -> u8
+/// The status of a record.
+pub(crate) fn effect_code(told: Applied) -> u8
     ensures { result ≡ effect_code told }
 {
     match told {

@@ -10,7 +10,12 @@ use ds_state::{open_state, record_of};
 use hex::encode_upper;
 use std::alloc::{AllocError, Global};
 
-fn drawing_of(alloc: Global, screen: &Screen<PlaneCells>) -> Result<String, AllocError>
+/// The record that draws a screen, in hexadecimal.
+///
+/// # Errors
+///
+/// Where a request for memory was refused.
+pub(crate) fn drawing_of(alloc: Global, screen: &Screen<PlaneCells>) -> Result<String, AllocError>
     ensures { IfOk result (λ text. string_bytes text ≡ encode_upper (record_of screen.now)) }
 {
     let record = record_of(alloc, screen)?;

@@ -44,7 +44,7 @@ fn lay_next<T: Copy>(out: &mut [T], count: usize, one: T)
 }
 
 /// Lays the fields over a buffer, in rising order of their attributes, as far as they fit; the rest of it stays. Tells how many there are.
-fn lay_fields(screen: &Screen<PlaneCells>, out: &mut [TerminalField]) -> usize
+pub(crate) fn lay_fields(screen: &Screen<PlaneCells>, out: &mut [TerminalField]) -> usize
     ensures laid { out.new ≡ laid out.old (map field_told (fields_of screen.now.cells)) }
     ensures count { result ≡ length (fields_of screen.now.cells) }
 {

@@ -9,7 +9,7 @@ use ds_state::{new_state, state_length};
 use std::alloc::Global;
 
 /// The geometry of two sizes, with addresses of 16 bits where it is wide.
-fn geometry_told(default: Size, alternate: Size, wide: bool) -> Option<Geometry>
+pub(crate) fn geometry_told(default: Size, alternate: Size, wide: bool) -> Option<Geometry>
     ensures { result ≡ geometry_told default alternate wide }
 {
     let mode = if wide { Mode::Bits16 } else { Mode::Bits14 };

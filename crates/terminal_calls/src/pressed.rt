@@ -9,7 +9,8 @@ use ds_keys::Pressed;
 use ds_state::press_key;
 use std::alloc::Global;
 
-fn pressed_code(pressed: Pressed) -> u8
+/// What a key did, as a number.
+pub(crate) fn pressed_code(pressed: Pressed) -> u8
     ensures { result ≡ pressed_code pressed }
 {
     match pressed {

@@ -33,7 +33,8 @@ fn lock_code(lock: Lock) -> u8
     }
 }
 
-fn status_told(status: &Status) -> TerminalStatus
+/// A status as C sees it.
+pub(crate) fn status_told(status: &Status) -> TerminalStatus
     ensures { result ≡ status_told status.now }
 {
     TerminalStatus {

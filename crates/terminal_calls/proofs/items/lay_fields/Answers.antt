@@ -1,7 +1,6 @@
-use Rattle.std.proofs.Common.{◌≡◌, ◌∷◌, [], ◌++◌, List, length, map, sym, ap, ◌∙◌, arith, append_assoc, length-append}
+use Rattle.std.proofs.Common.{◌≡◌, ◌∷◌, [], ◌++◌, length, map, sym, ap, ◌∙◌, arith, append_assoc, length-append}
 use Rattle.std.proofs.lemmas.List.{length-map}
 use Rattle.ds_codec.specs.Geometry.{cells_of}
-use Rattle.ds_screen.specs.Fields.{fields_of}
 use Rattle.terminal_calls.specs.Items.{field_told, laid}
 use Rattle.terminal_calls.proofs.Laid.{room_left, told_more}
 use Rattle.terminal_calls.proofs.items.lay_fields.Goals as goal
