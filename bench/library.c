@@ -1,5 +1,6 @@
-/* Times takvorn_show and takvorn_check, and a key and a record of a full screen of 60 fields at a terminal that is held: library LAYOUT RECORDS
- * COUNT. It prints the least of seven runs of so many calls, in microseconds a call, for each of the four. */
+/* Times takvorn_show and takvorn_check, and a key, a record of a full screen of 60 fields and a check at a terminal that a program holds: by its state, and
+ * by a handle. library LAYOUT RECORDS COUNT prints the least of seven runs of so many calls, in microseconds a call: of show and check of the records; of a
+ * key, a record and a check by state; and of these by handle. */
 #define _POSIX_C_SOURCE 200809L
 #include "takvorn.h"
 #include <stdio.h>
@@ -15,16 +16,22 @@ static int check(void) { return takvorn_check(layout, layout_length, records, re
 /* A terminal of 24x80 that shows that screen. */
 static uint8_t state[8192], full[2048], pressed;
 static size_t state_length, full_length;
+static takvorn_held held = {NULL};
 static takvorn_effect effect;
 
 static unsigned turn;
 
 /* Tab and a character in turn, in fields of 31 positions: no key is inhibited. */
-static int key(void) {
-  uint8_t kind = turn++ % 2 ? TAKVORN_TYPE : TAKVORN_TAB;
-  return takvorn_terminal_press(state, state_length, kind, 0xC1, &pressed) || pressed != TAKVORN_KEY_DONE;
-}
+static uint8_t next_key(void) { return turn++ % 2 ? TAKVORN_TYPE : TAKVORN_TAB; }
+static int key(void) { return takvorn_terminal_press(state, state_length, next_key(), 0xC1, &pressed) || pressed != TAKVORN_KEY_DONE; }
 static int record(void) { return takvorn_terminal_apply(state, state_length, full, full_length, &effect); }
+static int held_key(void) { return takvorn_held_press(&held, next_key(), 0xC1, &pressed) || pressed != TAKVORN_KEY_DONE; }
+static int held_record(void) { return takvorn_held_apply(&held, full, full_length, &effect); }
+
+/* The screen's fields aren't the layout's, so there are findings. */
+static int judged(int32_t status) { return status != TAKVORN_FINDINGS; }
+static int state_check(void) { return judged(takvorn_terminal_check(state, state_length, layout, layout_length, false, out, sizeof out, &needed)); }
+static int held_check(void) { return judged(takvorn_held_check(&held, layout, layout_length, false, out, sizeof out, &needed)); }
 
 static void hold(void) {
   full[full_length++] = 0xF5;
@@ -36,6 +43,7 @@ static void hold(void) {
   }
   state_length = takvorn_terminal_size(24, 80, 24, 80, false);
   if (takvorn_terminal_new(24, 80, 24, 80, false, state, state_length) || record()) exit(1);
+  if (takvorn_held_new(24, 80, 24, 80, false, &held) || held_record()) exit(1);
 }
 
 static size_t contents(const char *name, uint8_t *bytes, size_t room) {
@@ -61,13 +69,13 @@ static double least(int (*call)(void), long count) {
 }
 
 int main(int count, char **words) {
+  static int (*const calls[])(void) = {show, check, key, record, state_check, held_key, held_record, held_check};
   if (count != 4) return 2;
   layout_length = contents(words[1], layout, sizeof layout);
   records_length = contents(words[2], records, sizeof records);
-  long calls = atol(words[3]);
   hold();
-  double records_taken = least(record, calls);
-  double keys_taken = least(key, calls);
-  printf("%.1f %.1f %.1f %.1f\n", least(show, calls), least(check, calls), keys_taken, records_taken);
+  for (size_t i = 0; i < sizeof calls / sizeof calls[0]; i++) printf("%s%.2f", i ? " " : "", least(calls[i], atol(words[3])));
+  puts("");
+  takvorn_held_free(&held);
   return 0;
 }

@@ -267,6 +267,46 @@ int32_t takvorn_terminal_status(const uint8_t *state, size_t state_length, takvo
 int32_t takvorn_terminal_check(const uint8_t *state, size_t state_length, const uint8_t *layout, size_t layout_length, bool demos,
                                uint8_t *out, size_t out_length, size_t *needed);
 
+/*
+ * A terminal that the library holds for the program, behind a handle: a key takes a small part of what it takes at a state, from which the screen is
+ * drawn each time. The calls do to it, and tell of it, what those of the same names do and tell of a state; takvorn_held_save and takvorn_held_load are
+ * between the two, so a state is the snapshot of a terminal that is held.
+ *
+ * A handle begins as `{NULL}`, which is null: takvorn_held_new or takvorn_held_load gives it a terminal, takvorn_held_free frees that and leaves the handle
+ * null again. Every other call with a null handle is TAKVORN_BAD_INPUT. The program writes nothing else to a handle, and uses no copy of one: a copy that
+ * was made before takvorn_held_free points to memory that is gone, as with free(). It frees each handle once it is done with it; nothing else stays
+ * allocated. A handle stays on the thread that made it, and calls with different handles share nothing.
+ *
+ * Where a request for memory was refused it is TAKVORN_NO_MEMORY. With that and TAKVORN_BAD_INPUT the terminal, and what the call tells, are as they were,
+ * but for `*needed`, which is then 0. takvorn_held_apply, _press, _status, _fields and _free ask for no memory.
+ */
+typedef struct takvorn_held {
+  void *terminal;
+} takvorn_held;
+
+/* Makes a new terminal, as takvorn_terminal_new does, in place of one that the handle has, which is then freed. */
+int32_t takvorn_held_new(uint16_t rows, uint16_t columns, uint16_t alternate_rows, uint16_t alternate_columns, bool wide,
+                         takvorn_held *held);
+
+/* Frees the terminal; of a null handle nothing. */
+void takvorn_held_free(takvorn_held *held);
+
+/* Takes the terminal of a state, in place of one that the handle has. TAKVORN_BAD_INPUT where the bytes are no state. */
+int32_t takvorn_held_load(takvorn_held *held, const uint8_t *state, size_t state_length);
+
+/* The state of the terminal, written to `out` as texts are; `*needed` is what takvorn_terminal_size tells. */
+int32_t takvorn_held_save(takvorn_held *held, uint8_t *out, size_t out_length, size_t *needed);
+
+int32_t takvorn_held_apply(takvorn_held *held, const uint8_t *record, size_t record_length, takvorn_effect *effect);
+int32_t takvorn_held_press(takvorn_held *held, uint8_t key, uint8_t code, uint8_t *pressed);
+int32_t takvorn_held_answer(takvorn_held *held, bool all, uint8_t *out, size_t out_length, size_t *needed);
+int32_t takvorn_held_buffer(takvorn_held *held, uint8_t *out, size_t out_length, size_t *needed);
+int32_t takvorn_held_cells(takvorn_held *held, uint8_t *out, size_t out_length, size_t *needed);
+int32_t takvorn_held_fields(takvorn_held *held, takvorn_field *fields, size_t count, size_t *needed);
+int32_t takvorn_held_status(takvorn_held *held, takvorn_status *status);
+int32_t takvorn_held_check(takvorn_held *held, const uint8_t *layout, size_t layout_length, bool demos, uint8_t *out,
+                           size_t out_length, size_t *needed);
+
 #ifdef __cplusplus
 }
 #endif

@@ -1,5 +1,5 @@
 -- What a call leaves that checks the screen which a terminal shows: what `check` prints of the record that draws it.
-use Rattle.std.specs.Prelude.{◌≡◌, ◌⊎◌, ℕ, ℤ, pos, List, Option, Some, None}
+use Rattle.std.specs.Prelude.{◌≡◌, ◌⊎◌, ℕ, ℤ, pos, List, Option, Some, None, option_map}
 use Rattle.hex.specs.Hex.{encode_upper}
 use Rattle.cli_commands.specs.declared.output.demo.Demos.{Demos}
 use Rattle.cli_commands.specs.Check.{printed_check}
@@ -19,6 +19,11 @@ LeavesDrawn demos layout (Some drawing) old new needed status = Leaves (printed_
 -- the record that draws a screen, in hexadecimal
 abbrev pub drawn_line : Picture → List ℕ
 drawn_line v = encode_upper (record_of v)
+
+-- of the screen of a terminal that is held; a null handle has none
+abbrev pub LeavesHeld : Demos → List ℕ → Option Picture → List ℕ → List ℕ → ℕ → ℤ → Type 0
+LeavesHeld demos layout held old new needed status =
+    LeavesDrawn demos layout (option_map drawn_line held) old new needed status ⊎ IsRefused old new needed status
 
 -- of the screen of a state
 abbrev pub LeavesState : Demos → List ℕ → List ℕ → List ℕ → List ℕ → ℕ → ℤ → Type 0

@@ -2,13 +2,13 @@
 
 ghost use Rattle.std.specs.Prelude.{◌≡◌, IfOk, IfErr, option_map, pos, string_bytes};
 ghost use Rattle.takvorn_c.specs.Left.{IsRefused, demos_of};
-ghost use Rattle.takvorn_c.specs.Judged.{LeavesDrawn, LeavesState};
+ghost use Rattle.takvorn_c.specs.Judged.{LeavesDrawn, LeavesHeld, LeavesState};
 
 use crate::demos_of;
 use crate::left::leave;
 use cli_commands::{Demos, check_texts};
 use std::alloc::{AllocError, Global};
-use terminal_calls::state_drawing;
+use terminal_calls::{HeldTerminal, held_drawing, state_drawing};
 
 /// What `check` says of a record that is drawn, in hexadecimal; 2 where none is.
 fn drawing_left(
@@ -55,5 +55,23 @@ pub extern "C" fn takvorn_terminal_check(
         result }
 {
     let drawing = state_drawing(alloc, state);
+    i32::from(drawing_left(alloc, layout, drawing, demos_of(demos), out, needed))
+}
+
+/// `check` of the screen of a terminal that is held.
+#[unsafe(no_mangle)]
+pub extern "C" fn takvorn_held_check(
+    alloc: Global,
+    held: &mut HeldTerminal,
+    layout: &[u8],
+    demos: bool,
+    out: &mut [u8],
+    needed: &mut usize,
+) -> i32
+    ensures told { LeavesHeld (demos_of demos) layout.now held.old.screen
+        out.old out.new needed.new result }
+    ensures unchanged { held.new.screen ≡ held.old.screen }
+{
+    let drawing = held_drawing(held, alloc);
     i32::from(drawing_left(alloc, layout, drawing, demos_of(demos), out, needed))
 }

@@ -19,6 +19,7 @@ ghost use Rattle.cli_maps.specs.Asked.{as_text, name_in};
 ghost use Rattle.cli_maps.specs.Printed.{printed_check_map, printed_map};
 ghost use Rattle.takvorn_c.specs.Left.{Leaves, LeavesRecords, asked_of, control_of, demos_of, drawing_of, form_of, map_form_of, name_of};
 
+mod held;
 mod judged;
 mod left;
 mod terminal;

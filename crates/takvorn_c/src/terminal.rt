@@ -14,7 +14,8 @@ use terminal_calls::{
     length_told, modified_left, new_left, press_left, status_left,
 };
 
-fn size(rows: u16, cols: u16) -> Size
+/// A size of C's.
+pub(crate) fn size(rows: u16, cols: u16) -> Size
     ensures { result ≡ record { rows = rows; cols = cols } }
 {
     Size { rows, cols }

@@ -1,2 +1,3 @@
+pub mod Crossing
 mod Laid
 pub mod Handles

@@ -8,7 +8,7 @@ ghost use Rattle.terminal_calls.specs.Screens.{screen_row};
 use ds_screen::{PlaneCells, Screen};
 use kept_boxes::Kept;
 use std::alloc::Global;
-use std::marker::Model;
+use std::marker::{Model, Send};
 use std::mem::replace;
 
 /// A terminal that is held, or none where its pointer is null. No code can lose it: `free_held` frees it.
@@ -21,6 +21,9 @@ pub struct HeldTerminal {
 impl Model for HeldTerminal {
     ghost also_owns = { λ held. box_at screen_row held.at held.screen };
 }
+
+// It owns what a box of a screen owns, so it may go to another thread.
+unsafe impl Send for HeldTerminal {}
 
 impl HeldTerminal {
     fn from_kept(kept: Kept<Screen<PlaneCells>>) -> HeldTerminal
