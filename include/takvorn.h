@@ -275,7 +275,8 @@ int32_t takvorn_terminal_check(const uint8_t *state, size_t state_length, const 
  * A handle begins as `{NULL}`, which is null: takvorn_held_new or takvorn_held_load gives it a terminal, takvorn_held_free frees that and leaves the handle
  * null again. Every other call with a null handle is TAKVORN_BAD_INPUT. The program writes nothing else to a handle, and uses no copy of one: a copy that
  * was made before takvorn_held_free points to memory that is gone, as with free(). It frees each handle once it is done with it; nothing else stays
- * allocated. A handle stays on the thread that made it, and calls with different handles share nothing.
+ * allocated. Calls with one handle come one at a time, and calls with different handles share nothing. A handle may go to another thread, by a lock, or by
+ * a thread's start or join.
  *
  * Where a request for memory was refused it is TAKVORN_NO_MEMORY. With that and TAKVORN_BAD_INPUT the terminal, and what the call tells, are as they were,
  * but for `*needed`, which is then 0. takvorn_held_apply, _press, _status, _fields and _free ask for no memory.
@@ -306,6 +307,52 @@ int32_t takvorn_held_fields(takvorn_held *held, takvorn_field *fields, size_t co
 int32_t takvorn_held_status(takvorn_held *held, takvorn_status *status);
 int32_t takvorn_held_check(takvorn_held *held, const uint8_t *layout, size_t layout_length, bool demos, uint8_t *out,
                            size_t out_length, size_t *needed);
+
+/*
+ * A terminal's session with a host, TN3270E or classic TN3270, that the library holds behind a handle, as it holds a terminal: the bytes that the host sent
+ * go in, in pieces of any length, keys are pressed, and the bytes that are due to the host come out. It reads and writes nothing: the program has the line.
+ * A handle begins as `{NULL}`, and is kept and freed as a takvorn_held is; but it stays on the thread that made it.
+ *
+ * TAKVORN_FINDINGS is a session that failed: the host's bytes, or their record, are no session's. That, and TAKVORN_NO_MEMORY of takvorn_session_take and
+ * _press, are its last word: each later call with bytes or a key answers it again, and makes nothing due. What was due before can still be had.
+ */
+typedef struct takvorn_session {
+  void *session;
+} takvorn_session;
+
+/* Begins a session of a device by its name, `IBM-3278-` or `IBM-3279-`, a model 2 to 5, and `-E` or not. `enhanced` says whether the terminal takes TN3270E,
+ * `responses` whether it asks for RESPONSES there, and `tolerant` whether it gets through where a strict one fails. Nothing is due first: the host begins. A
+ * session that the handle has is freed. TAKVORN_BAD_INPUT where no device has this name. */
+int32_t takvorn_session_new(const uint8_t *device, size_t device_length, bool enhanced, bool responses, bool tolerant,
+                            takvorn_session *session);
+
+/* Frees the session; of a null handle nothing. */
+void takvorn_session_free(takvorn_session *session);
+
+/* Takes bytes that the host sent, and adds to what is due the replies, RESPONSES and answers to reads. */
+int32_t takvorn_session_take(takvorn_session *session, const uint8_t *bytes, size_t bytes_length);
+
+/* Presses a key, as takvorn_terminal_press does, and adds to what is due what it sends. Before the session is ready every key is TAKVORN_KEY_IGNORED. */
+int32_t takvorn_session_press(takvorn_session *session, uint8_t key, uint8_t code, uint8_t *pressed);
+
+/* The bytes that are due to the host, written to `out` as texts are: where all of them fit nothing is due any more, else all of them stay due. */
+int32_t takvorn_session_due(takvorn_session *session, uint8_t *out, size_t out_length, size_t *needed);
+
+/* What a session agreed on: whether it is `ready`, so that records and answers pass; by TN3270E; with RESPONSES; whether the screen takes input: it has a
+ * field, the keyboard doesn't wait, and the cursor isn't at 0; and the device. Before it is ready all is false, and the model 0. */
+typedef struct takvorn_agreed {
+  bool ready;
+  bool enhanced;
+  bool responses;
+  bool takes_input;
+  bool extended;
+  uint8_t model;
+} takvorn_agreed;
+
+int32_t takvorn_session_agreed(takvorn_session *session, takvorn_agreed *agreed);
+
+/* Holds a copy of the session's screen, in place of a terminal that `screen` has: the calls on it show what the operator sees. */
+int32_t takvorn_session_screen(takvorn_session *session, takvorn_held *screen);
 
 #ifdef __cplusplus
 }

@@ -22,6 +22,7 @@ ghost use Rattle.takvorn_c.specs.Left.{Leaves, LeavesRecords, asked_of, control_
 mod held;
 mod judged;
 mod left;
+mod session;
 mod terminal;
 
 use bms_map::Control;

@@ -16,8 +16,8 @@ use ds_screen::{PlaneCells, Screen};
 use ds_state::{open_state, take_record};
 use std::alloc::{AllocError, Global};
 
-/// Holds a screen, and tells the status: 0, or 4 where there is no memory for a handle to it.
-fn hold(held: &mut HeldTerminal, alloc: Global, screen: Screen<PlaneCells>) -> u8
+/// Holds a screen, in place of one that is held. The status is 0; 4 where a request for memory was refused: then nothing changes.
+pub fn hold_screen(held: &mut HeldTerminal, alloc: Global, screen: Screen<PlaneCells>) -> u8
     ensures held { result ≡ 0 → held.new.screen ≡ Some screen }
     ensures unchanged { result ≡ 4 → held.new.screen ≡ held.old.screen }
     ensures status { (result ≡ 0) ⊎ (result ≡ 4) }
@@ -48,7 +48,7 @@ pub fn new_held(
     };
     let made: Result<Screen<PlaneCells>, AllocError> = Screen::new(alloc, geometry);
     match made {
-        Ok(screen) => hold(held, alloc, screen),
+        Ok(screen) => hold_screen(held, alloc, screen),
         Err(_) => 4,
     }
 }
@@ -67,7 +67,7 @@ pub fn load_held(held: &mut HeldTerminal, alloc: Global, state: &[u8]) -> u8
 {
     let opened: Result<Option<Screen<PlaneCells>>, AllocError> = open_state(alloc, state);
     match opened {
-        Ok(Some(screen)) => hold(held, alloc, screen),
+        Ok(Some(screen)) => hold_screen(held, alloc, screen),
         Ok(None) => 2,
         Err(_) => 4,
     }

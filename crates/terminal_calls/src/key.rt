@@ -37,7 +37,7 @@ fn editing_key(kind: u8) -> Option<Key>
 }
 
 /// The key of a kind: 0 types the code, 13 is the attention key of the identifier, 1 to 12 are the others, in the order of `Key`.
-pub(crate) fn key_at(kind: u8, code: u8) -> Option<Key>
+pub fn key_at(kind: u8, code: u8) -> Option<Key>
     ensures { result ≡ key_at kind code }
 {
     match kind {

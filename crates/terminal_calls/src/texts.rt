@@ -10,7 +10,7 @@ use ds_state::{read_buffer, read_cells, read_modified};
 use std::alloc::{AllocError, Global};
 
 /// Lays bytes over a buffer, as far as they fit.
-pub(crate) fn lay(out: &mut [u8], bytes: &[u8])
+pub fn lay(out: &mut [u8], bytes: &[u8])
     ensures { out.new ≡ laid_over out.old bytes.now }
 {
     let fitting = if bytes.len() < out.len() {
