@@ -1,6 +1,6 @@
 /* Terminals that are held, through the C library. held both SEED COUNT: random records and keys at a handle beside a state, which have to tell the same all
  * the way, and be the same state; held null: every call with a null handle; held threads: eight threads, each with a handle of its own, and handles that go
- * from one thread to the next. It ends with 1 where a result is wrong, which standard error tells. */
+ * from one thread to the next; held session: a session whole and byte by byte, one that fails, and a null handle. It ends with 1 where a result is wrong, which standard error tells. */
 #define _POSIX_C_SOURCE 200809L
 #include "takvorn.h"
 #include <pthread.h>
@@ -187,9 +187,91 @@ static void try_threads(void) {
   for (int i = 0; i < THREADS; i++) takvorn_held_free(&passed[i]);
 }
 
+/* ---- sessions */
+
+/* What a host says that speaks classic TN3270, up to the first record: NAME, protected, and an input of six cells with the cursor. */
+static const uint8_t host[] = {0xFF, 0xFD, 0x18, 0xFF, 0xFA, 0x18, 0x01, 0xFF, 0xF0, 0xFF, 0xFD, 0x19, 0xFF, 0xFB, 0x19, 0xFF, 0xFD, 0x00, 0xFF, 0xFB, 0x00,
+                               0xF5, 0xC3, 0x1D, 0x60, 0xD5, 0xC1, 0xD4, 0xC5, 0x1D, 0x40, 0x13, 0x11, 0x40, 0x4C, 0x1D, 0x60, 0xFF, 0xEF};
+static const uint8_t replies[] = {0xFF, 0xFB, 0x18, 0xFF, 0xFA, 0x18, 0x00, 'I', 'B', 'M', '-', '3', '2', '7', '8', '-', '2', '-', 'E', 0xFF, 0xF0,
+                                  0xFF, 0xFB, 0x19, 0xFF, 0xFD, 0x19, 0xFF, 0xFB, 0x00, 0xFF, 0xFD, 0x00};
+static const uint8_t device[] = "IBM-3278-2-E";
+
+/* The bytes that are due, asked for with no room first. */
+static void is_due(takvorn_session *session, const uint8_t *due, size_t length) {
+  uint8_t out[256] = {0};
+  size_t needed;
+  for (int again = 0; again < 2; again++)
+    if (length && (takvorn_session_due(session, out, length - 1, &needed) || needed != length)) wrong("what is due doesn't stay so");
+  if (takvorn_session_due(session, out, sizeof out, &needed) || !same_bytes(out, needed, due, length)) wrong("what is due");
+  if (takvorn_session_due(session, out, sizeof out, &needed) || needed) wrong("it is due once more");
+}
+
+/* The session's screen beside a terminal that took the record itself. */
+static void is_shown(takvorn_session *session, takvorn_held *beside) {
+  static uint8_t out[ROOM], due[ROOM];
+  takvorn_held shown = {NULL};
+  size_t needed, due_needed;
+  if (takvorn_session_screen(session, &shown) || takvorn_held_save(&shown, out, sizeof out, &needed)) wrong("a session's screen");
+  if (takvorn_held_save(beside, due, sizeof due, &due_needed) || !same_bytes(out, needed, due, due_needed)) wrong("another screen");
+  takvorn_held_free(&shown);
+}
+
+static void work(takvorn_session *session, bool tolerant, size_t piece) {
+  static const uint8_t sent[] = {0x7D, 0x40, 0xC7, 0x11, 0x40, 0xC6, 0xC1, 0xFF, 0xEF};
+  takvorn_held beside = {NULL};
+  takvorn_effect effect;
+  takvorn_agreed agreed;
+  uint8_t pressed;
+  if (takvorn_session_new(device, sizeof device - 1, true, true, tolerant, session)) wrong("a session");
+  if (takvorn_held_new(24, 80, 24, 80, false, &beside)) wrong("a terminal");
+  if (takvorn_session_press(session, TAKVORN_TAB, 0, &pressed) || pressed != TAKVORN_KEY_IGNORED) wrong("a key before the session is ready");
+  if (takvorn_session_agreed(session, &agreed) || agreed.ready || agreed.model) wrong("a session is ready at once");
+  for (size_t at = 0; at < sizeof host; at += piece)
+    if (takvorn_session_take(session, host + at, at + piece < sizeof host ? piece : sizeof host - at)) wrong("bytes of the host");
+  is_due(session, replies, sizeof replies);
+  if (takvorn_session_agreed(session, &agreed) || !agreed.ready || agreed.enhanced || !agreed.takes_input || agreed.model != 2 || !agreed.extended)
+    wrong("what was agreed on");
+  if (takvorn_held_apply(&beside, host + 21, sizeof host - 23, &effect)) wrong("the record");
+  is_shown(session, &beside);
+  if (takvorn_session_press(session, TAKVORN_TYPE, 0xC1, &pressed) || pressed != TAKVORN_KEY_DONE) wrong("a key of a session");
+  if (takvorn_session_press(session, TAKVORN_ATTENTION, 0x7D, &pressed) || pressed != TAKVORN_KEY_SENT) wrong("a key that sends");
+  if (takvorn_held_press(&beside, TAKVORN_TYPE, 0xC1, &pressed) || takvorn_held_press(&beside, TAKVORN_ATTENTION, 0x7D, &pressed)) wrong("the same keys");
+  is_due(session, sent, sizeof sent);
+  is_shown(session, &beside);
+  if (takvorn_session_press(session, 99, 0, &pressed) != TAKVORN_BAD_INPUT) wrong("no such key");
+  takvorn_held_free(&beside);
+}
+
+static void try_sessions(void) {
+  static const uint8_t faulty[] = {0xFF, 0xFD, 0x18, 0xFF, 0xFA, 0x18, 0xFF, 0x41};
+  takvorn_session session = {NULL};
+  takvorn_held shown = {NULL};
+  takvorn_agreed agreed = {true, true, true, true, true, 9};
+  uint8_t out[8] = {9}, pressed = 9;
+  size_t needed = 9;
+  if (takvorn_session_take(&session, host, sizeof host) != TAKVORN_BAD_INPUT) wrong("bytes to no session");
+  if (takvorn_session_press(&session, TAKVORN_TAB, 0, &pressed) != TAKVORN_BAD_INPUT || pressed != 9) wrong("a key to no session");
+  if (takvorn_session_due(&session, out, sizeof out, &needed) != TAKVORN_BAD_INPUT || needed || out[0] != 9) wrong("what is due of no session");
+  if (takvorn_session_agreed(&session, &agreed) != TAKVORN_BAD_INPUT || agreed.model != 9) wrong("what no session agreed on");
+  if (takvorn_session_screen(&session, &shown) != TAKVORN_BAD_INPUT || shown.terminal) wrong("the screen of no session");
+  if (takvorn_session_new(device, 3, true, true, true, &session) != TAKVORN_BAD_INPUT || session.session) wrong("no such device");
+  for (int tolerant = 0; tolerant < 2; tolerant++)
+    for (size_t piece = 1; piece <= sizeof host; piece++) work(&session, tolerant, piece);
+  if (takvorn_session_new(device, sizeof device - 1, true, true, false, &session)) wrong("a session");
+  if (takvorn_session_take(&session, faulty, sizeof faulty) != TAKVORN_FINDINGS) wrong("no stream");
+  is_due(&session, replies, 3);
+  if (takvorn_session_take(&session, host, sizeof host) != TAKVORN_FINDINGS) wrong("after a fault");
+  if (takvorn_session_press(&session, TAKVORN_TAB, 0, &pressed) != TAKVORN_FINDINGS || pressed != 9) wrong("a key after a fault");
+  is_due(&session, replies, 0);
+  takvorn_session_free(&session);
+  takvorn_session_free(&session);
+  if (session.session) wrong("a session that was freed isn't null");
+}
+
 int main(int count, char **words) {
   if (count == 2 && !strcmp(words[1], "null")) return try_null(), 0;
   if (count == 2 && !strcmp(words[1], "threads")) return try_threads(), 0;
+  if (count == 2 && !strcmp(words[1], "session")) return try_sessions(), 0;
   if (count == 4 && !strcmp(words[1], "both")) {
     chance from = {strtoull(words[2], NULL, 10)};
     for (long rounds = atol(words[3]); rounds > 0; rounds--) both_ways(&from);

@@ -127,6 +127,35 @@ if has valgrind "terminals under valgrind"; then
   each_terminal valgrind -q --leak-check=full --error-exitcode=120 "$work/terminal" rows
 fi
 
+# ---- terminals that the library holds
+build held tests/held.c && build held_cases tests/held_cases.c && build held_refused tests/held_refused.c -fno-builtin || bad "a C program with handles isn't built"
+each_terminal "$work/held" both 71 20000
+each_terminal "$work/held" null
+each_terminal "$work/held" threads
+each_terminal "$work/held" session
+each_terminal "$work/held_refused"
+if has valgrind "handles under valgrind"; then
+  each_terminal valgrind -q --leak-check=full --error-exitcode=120 "$work/held" both 5 20
+  each_terminal valgrind -q --leak-check=full --error-exitcode=120 "$work/held" null
+  each_terminal valgrind -q --leak-check=full --error-exitcode=120 "$work/held" session
+fi
+# Golden cases of `show` and `press` whose records a terminal takes.
+tried=0
+for case in "$root"/tests/cases/show/*/ "$root"/tests/cases/press/*/; do
+  [ -f "$case/stdin" ] && [ -f "$case/stdout" ] && [ ! -f "$case/make-stdin" ] && [ "$(cat "$case/status" 2> /dev/null || echo 0)" = 0 ] || continue
+  case $case in */press/*) kind=press keys=$case/$(tail -n 1 "$case/args") ;; *) kind=show keys= ;; esac
+  # A form, a part of the screen, or what is asked beside it.
+  [ $kind = press ] && { [ ! -f "$keys" ] || [ "$(wc -l < "$case/args")" != 2 ]; } && continue
+  [ $kind = show ] && [ -f "$case/args" ] && [ "$(cat "$case/args")" != show ] && continue
+  # shellcheck disable=SC2086
+  "$work/held_cases" $kind "$case/stdin" $keys > "$work/stdout" 2> "$work/stderr"
+  status=$?
+  [ $status != 9 ] || continue
+  tried=$((tried + 1))
+  if [ $status = 0 ] && cmp -s "$work/stdout" "$case/stdout"; then good; else bad "by a handle: $case: status $status"; fi
+done
+[ $tried -ge 50 ] && good || bad "only $tried golden cases of show and press at a handle"
+
 # Golden cases of `check` at a terminal of the layout's sizes whose records are all shown. The screen is checked, so only findings of its fields, F8
 # and on, are those of the records.
 build terminal_check tests/terminal_check.c || bad "a C program that checks a terminal isn't built"
@@ -148,6 +177,8 @@ for case in "$root"/tests/cases/check/*/; do
   if [ $status = "$(cat "$case/status" 2> /dev/null || echo 0)" ] && cmp -s "$work/stdout" "$case/stdout"; then good; else
     bad "the check of a terminal: $case: status $status"
   fi
+  "$work/held_cases" check "$case/stdin" "$case/layout.toml" $demos > "$work/stdout" 2> "$work/stderr"
+  if [ $? = $status ] && cmp -s "$work/stdout" "$case/stdout"; then good; else bad "the check of a terminal by a handle: $case"; fi
 done
 [ $tried -ge 25 ] && good || bad "only $tried golden cases of check at a terminal"
 

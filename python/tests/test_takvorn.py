@@ -1,5 +1,6 @@
 """The package over the C library; what is expected was worked out on paper, or stands in the project's golden cases."""
 import pathlib
+import threading
 
 import pytest
 
@@ -224,3 +225,76 @@ def test_a_suite_of_a_folder(tmp_path):
 def test_a_suite_of_named_screens():
     told = takvorn.suite([("one", LAYOUT, SIGNON), ("two", "no layout", SIGNON)])
     assert [(it.name, it.verdict) for it in told] == [("one", "yes"), ("two", "refused")]
+
+
+# What a host says that speaks classic TN3270, up to its first record, and what a terminal says to it.
+HOST = bytes.fromhex("FFFD18 FFFA1801FFF0 FFFD19 FFFB19 FFFD00 FFFB00") + SMALL + bytes.fromhex("FFEF")
+REPLIES = bytes.fromhex("FFFB18 FFFA1800") + b"IBM-3278-2-E" + bytes.fromhex("FFF0 FFFB19 FFFD19 FFFB00 FFFD00")
+
+
+def test_a_session():
+    session = takvorn.Session()
+    assert (session.agreed, session.takes_input) == (None, False)
+    assert session.press("tab").did == "ignored"
+    assert session.take(HOST) == REPLIES
+    assert session.agreed == takvorn.Agreed(enhanced=False, responses=False, extended=True, model=2)
+    assert session.takes_input
+    assert session.press("type C1") == takvorn.Pressed("done", cursor=7)
+    assert session.press("enter").sent == bytes.fromhex("7D40C71140C6C1FFEF")
+    assert session.screen.text[0][:7] == " NAME A"
+    assert session.screen.keyboard == "waiting"
+    with pytest.raises(ValueError):
+        session.press("no key")
+
+
+def test_a_session_in_any_pieces():
+    for length in range(1, 9):
+        session = takvorn.Session(tolerant=False)
+        assert b"".join(session.take(HOST[at : at + length]) for at in range(0, len(HOST), length)) == REPLIES
+        terminal = takvorn.Terminal()
+        terminal.apply(SMALL)
+        assert session.terminal == terminal
+
+
+def test_a_session_that_fails():
+    session = takvorn.Session("IBM-3279-5", tolerant=False)
+    with pytest.raises(takvorn.SessionFailed) as failed:
+        session.take(bytes.fromhex("FFFD18 FFFA18FF41"))
+    assert failed.value.due == REPLIES[:3]
+    with pytest.raises(takvorn.SessionFailed):
+        session.press("enter")
+    with pytest.raises(ValueError):
+        takvorn.Session("IBM-3278-9")
+
+
+def test_a_session_is_of_one_thread():
+    session, told = takvorn.Session(), []
+
+    def elsewhere():
+        try:
+            session.take(HOST)
+        except RuntimeError as refused:
+            told.append(refused)
+
+    other = threading.Thread(target=elsewhere)
+    other.start()
+    other.join()
+    assert len(told) == 1
+    assert session.take(HOST) == REPLIES
+
+
+def test_threads_share_a_terminal():
+    terminal = takvorn.Terminal()
+    terminal.apply(SMALL)
+
+    def press():
+        for _ in range(300):
+            terminal.press("tab")
+            terminal.state
+
+    threads = [threading.Thread(target=press) for _ in range(8)]
+    for thread in threads:
+        thread.start()
+    for thread in threads:
+        thread.join()
+    assert terminal.status.cursor == 6

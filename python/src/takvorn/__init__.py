@@ -23,10 +23,12 @@ from ._finding import Finding
 from ._records import Records
 from ._refused import Refused
 from ._screen import Field, Screen, drawing, show
+from ._session import Agreed, Session, SessionFailed
 from ._suite import Case, suite
 from ._terminal import Cell, Effect, Span, Status, Terminal
 
 __all__ = [
+    "Agreed",
     "Answer",
     "Case",
     "Cell",
@@ -39,6 +41,8 @@ __all__ = [
     "Records",
     "Refused",
     "Screen",
+    "Session",
+    "SessionFailed",
     "Span",
     "Status",
     "Terminal",

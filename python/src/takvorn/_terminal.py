@@ -1,5 +1,7 @@
 """A terminal that is kept."""
 import ctypes
+import threading
+import weakref
 from dataclasses import dataclass
 from typing import Optional, Tuple
 
@@ -13,7 +15,7 @@ Size = Tuple[int, int]
 """Rows and columns."""
 
 _KEYBOARDS = ("free", "waiting", "error")
-_DID = ("done", "inhibited", "ignored", "sent")
+DID = ("done", "inhibited", "ignored", "sent")
 _ASKED = ("shown", "read buffer", "read modified", "read modified all", "no operation")
 _KINDS = ("character", "alternate", "attribute")
 _KEYS = {
@@ -33,6 +35,12 @@ _AIDS = {
 
 # What stands before the record that draws the screen, and where its length stands.
 _HEADER, _LENGTH = 11, slice(8, 11)
+
+
+class HeldTerminal(ctypes.Structure):
+    """A terminal that the library holds."""
+
+    _fields_ = [("terminal", ctypes.c_void_p)]
 
 
 class _Effect(ctypes.Structure):
@@ -106,7 +114,7 @@ class Span:
     bits: int
 
 
-def _numbers(key: str) -> "tuple[int, int]":
+def numbers_of(key: str) -> "tuple[int, int]":
     """The numbers of a key by its word, as `press` takes it."""
     if key in _AIDS:
         return 13, _AIDS[key]
@@ -118,9 +126,13 @@ def _numbers(key: str) -> "tuple[int, int]":
     return 0, int(digits, 16)
 
 
+def _free(held: HeldTerminal) -> None:
+    library.takvorn_held_free(ctypes.byref(held))
+
+
 class Terminal:
     """A terminal: it takes records and keys, and tells its cells, its fields, its screen and what it sends. `state` is all of it, as bytes: two
-    terminals that show and keep the same have equal states, and `Terminal.of` makes a terminal of them again."""
+    terminals that show and keep the same have equal states, and `Terminal.of` makes a terminal of them again. Threads may share it."""
 
     def __init__(self, default: Size = (24, 80), alternate: Optional[Size] = None, wide: bool = False) -> None:
         """A new terminal of a default and an alternate size, which without one is the default; with `wide` its addresses are of 16 bits. Its
@@ -128,43 +140,54 @@ class Terminal:
         sizes = (*default, *(alternate or default))
         if not all(0 <= number < 65536 for number in sizes):
             raise ValueError(f"no terminal has these sizes: {sizes}")
+        self._hold(HeldTerminal())
         numbers = [*map(ctypes.c_uint16, sizes), ctypes.c_bool(wide)]
-        function = library.takvorn_terminal_size
-        function.restype = ctypes.c_size_t
-        length: int = function(*numbers)
-        if length == 0:
+        if self._call("new", *numbers, held_last=True) == BAD_INPUT:
             raise ValueError(f"no terminal has these sizes: {sizes}")
-        self._state = ctypes.create_string_buffer(length)
-        self._call("new", *numbers, state_last=True)
 
-    def _call(self, name: str, *words: object, state_last: bool = False) -> int:
-        state = (self._state, ctypes.c_size_t(len(self._state)))
-        function = getattr(library, "takvorn_terminal_" + name)
+    def _hold(self, held: HeldTerminal) -> None:
+        """Keeps a handle, which is freed with this object; calls with it come one at a time."""
+        self._held, self._lock = held, threading.Lock()
+        weakref.finalize(self, _free, held)
+
+    def _call(self, name: str, *words: object, held_last: bool = False) -> int:
+        held = ctypes.byref(self._held)
+        function = getattr(library, "takvorn_held_" + name)
         function.restype = ctypes.c_int32
-        status: int = function(*words, *state) if state_last else function(*state, *words)
+        with self._lock:
+            status: int = function(*words, held) if held_last else function(held, *words)
         if status == NO_MEMORY:
-            raise MemoryError("takvorn_terminal_" + name)
+            raise MemoryError("takvorn_held_" + name)
         return status
 
     def _bytes(self, name: str, *words: object) -> bytes:
-        out = ctypes.create_string_buffer(4 * len(self._state))
-        needed = ctypes.c_size_t()
-        self._call(name, *words, out, ctypes.c_size_t(len(out)), ctypes.byref(needed))
-        return out.raw[: needed.value]
+        room, needed = 8192, ctypes.c_size_t()
+        while True:
+            out = ctypes.create_string_buffer(room)
+            self._call(name, *words, out, ctypes.c_size_t(room), ctypes.byref(needed))
+            if needed.value <= room:
+                return out.raw[: needed.value]
+            room = needed.value
+
+    @classmethod
+    def _of_handle(cls, held: HeldTerminal) -> "Terminal":
+        """The terminal of a handle that the library filled."""
+        made = cls.__new__(cls)
+        made._hold(held)
+        return made
 
     @classmethod
     def of(cls, state: bytes) -> "Terminal":
         """The terminal whose state these bytes are. ValueError where they are no state."""
-        made = cls.__new__(cls)
-        made._state = ctypes.create_string_buffer(state, len(state))
-        if made._call("status", ctypes.byref(_Status())) == BAD_INPUT:
+        made = cls._of_handle(HeldTerminal())
+        if made._call("load", ctypes.c_char_p(state), ctypes.c_size_t(len(state))) == BAD_INPUT:
             raise ValueError("the bytes are no state of a terminal")
         return made
 
     @property
     def state(self) -> bytes:
         """All of the terminal, as bytes."""
-        return self._state.raw
+        return self._bytes("save")
 
     def copy(self) -> "Terminal":
         """Another terminal that shows and keeps the same."""
@@ -186,11 +209,11 @@ class Terminal:
     def press(self, key: str) -> Pressed:
         """Presses a key, named as `takvorn.press` names it: "type C1", "tab", "enter", .. ; what it does, with the cursor's position, or the
         bytes that the terminal sends. ValueError where there is no such key."""
-        kind, code = _numbers(key)
+        kind, code = numbers_of(key)
         told = ctypes.c_uint8()
         if self._call("press", ctypes.c_uint8(kind), ctypes.c_uint8(code), ctypes.byref(told)) == BAD_INPUT:
             raise ValueError(f"no key: {key}")
-        did = _DID[told.value]
+        did = DID[told.value]
         return Pressed(did, sent=self.answer()) if did == "sent" else Pressed(did, cursor=self.status.cursor)
 
     def answer(self, all: bool = False) -> bytes:
@@ -210,10 +233,13 @@ class Terminal:
     @property
     def fields(self) -> "tuple[Span, ...]":
         """The fields, in rising order of their attributes."""
-        room, needed = len(self._state), ctypes.c_size_t()
-        fields = (_Field * room)()
-        self._call("fields", fields, ctypes.c_size_t(room), ctypes.byref(needed))
-        return tuple(Span(it.attribute, it.first, it.length, it.bits) for it in fields[: needed.value])
+        room, needed = 64, ctypes.c_size_t()
+        while True:
+            fields = (_Field * room)()
+            self._call("fields", fields, ctypes.c_size_t(room), ctypes.byref(needed))
+            if needed.value <= room:
+                return tuple(Span(it.attribute, it.first, it.length, it.bits) for it in fields[: needed.value])
+            room = needed.value
 
     @property
     def status(self) -> Status:
