@@ -10,6 +10,7 @@ import pathlib
 import random
 import re
 import resource
+import select
 import socket
 import struct
 import subprocess
@@ -452,7 +453,7 @@ def in_turn(program):
 
 
 def closed_output(program):
-    """A reader that has gone ends it."""
+    """A reader that has gone ends it, at the lines that can't be written."""
     serve = Serve(program, "--count", "0", "--at-once", "5", "--answers", "2")
     wrong = together(lambda: good(serve, 1))
     serve.stop()
@@ -482,38 +483,77 @@ def closed_output(program):
     return wrong + ([] if status == 3 else [f"status {status}"])
 
 
+def soon(serve, number, session=ENHANCED):
+    """Works a session, and tells where that took long."""
+    begun = time.time()
+    wrong = good(serve, number, session)
+    took = time.time() - begun
+    return wrong or (f"terminal of {number} waited {took:.1f} seconds" if took > SOON else None)
+
+
 def full_output(program):
-    """Standard output that takes nothing ends it, with status 3."""
+    """Standard output that takes nothing: that is said once, each terminal is served soon, and the status is 3 at the end."""
     with open("/dev/full", "wb") as full:
-        serve = Serve(program, "--count", "0", "--at-once", "5", output=full)
-        together(quietly(lambda: good(serve, 1)))
+        serve = Serve(program, "--count", "0", "--at-once", "5", "--answers", "10", output=full)
+        wrong = []
+        for number in range(10):
+            wrong += together(lambda number=number: soon(serve, number))
+        try:
+            serve.program.wait(5)
+        except subprocess.TimeoutExpired:
+            serve.program.kill()
+        said = serve.program.stderr.read().decode()
         status, _ = serve.end(5)
-    return [] if status == 3 else [f"status {status}"]
+    if said != "term3270: standard output: No space left on device (os error 28)\n":
+        wrong.append(f"said {said!r}")
+    return wrong + ([] if status == 3 else [f"status {status}"])
+
+
+def all_read(ours):
+    """What comes of a pipe, up to its end."""
+    with open(ours, "rb") as pipe:
+        return pipe.read().decode()
 
 
 def unread_output(program):
-    """Standard output that nobody reads holds it once the pipe is full; from then on that it is read, all are served and told, whole."""
+    """Standard output that nobody reads: each terminal is served soon, in turn and many at once, and once it is read all lines are there."""
     ours, theirs = os.pipe()
     fcntl.fcntl(theirs, 1031, 4096)
-    serve = Serve(program, "--count", "300", "--at-once", "300", output=theirs)
+    serve = Serve(program, "--count", "600", "--at-once", "300", output=theirs)
     os.close(theirs)
-    wrong, text = [], []
-
-    def reads():
-        time.sleep(2)
-        with open(ours, "rb") as pipe:
-            text.append(pipe.read().decode())
-
-    reader = threading.Thread(target=reads)
-    reader.start()
-    wrong += together(*[lambda number=number: good(serve, number) for number in range(300)])
+    wrong = []
+    for number in range(300):
+        wrong += together(lambda number=number: soon(serve, number, (ENHANCED, CLASSIC)[number % 2]))
+    for first in range(300, 600, 50):
+        wrong += together(*[lambda number=number: soon(serve, number) for number in range(first, first + 50)])
+    if serve.program.poll() is not None:
+        wrong.append("it ended before its lines were read")
+    text = all_read(ours)
     status, _ = serve.end()
-    reader.join()
-    wrong += wrong_answers(text[0], range(300))
+    wrong += wrong_answers(text, range(600))
+    if sorted(told(text)) != list(range(1, 601)):
+        wrong.append("not each terminal is told once")
     return wrong + ([] if status == 0 else [f"status {status}"])
 
 
-TRIALS = [crowd, idle, limits, scan, held, per_second, few_files, terminated, in_turn, closed_output, full_output, unread_output]
+def prompt_output(program):
+    """A terminal's lines come as it ends, where somebody reads."""
+    ours, theirs = os.pipe()
+    serve = Serve(program, "--count", "5", "--at-once", "5", output=theirs)
+    os.close(theirs)
+    wrong = []
+    with open(ours, "rb", buffering=0) as pipe:
+        for number in range(5):
+            wrong += together(lambda number=number: good(serve, number))
+            came = select.select([pipe], [], [], SOON)[0]
+            text = pipe.read(4096).decode() if came else ""
+            if text != f"terminal {number + 1} aid 7D\ncode {digits(number)}\n":
+                wrong.append(f"of terminal {number + 1} came {text!r}")
+    status, _ = serve.end()
+    return wrong + ([] if status == 0 else [f"status {status}"])
+
+
+TRIALS = [crowd, idle, limits, scan, held, per_second, few_files, terminated, in_turn, closed_output, full_output, unread_output, prompt_output]
 
 
 def main():

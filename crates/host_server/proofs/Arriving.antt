@@ -1,5 +1,5 @@
 -- Lines that came one after the other.
-use Rattle.std.proofs.Common.{◌≡◌, ℕ, List, [], ◌∷◌, ◌++◌, refl, subst, sym}
+use Rattle.std.proofs.Common.{◌≡◌, ℕ, List, [], ◌∷◌, ◌++◌, refl, subst}
 use Rattle.accept_limit.specs.declared.limit.Arrival.{Arrival}
 use Rattle.session_hub.specs.Hubs.{Room, Taking}
 use Rattle.host_server.specs.Serving.{Serving}

@@ -1,6 +1,6 @@
 -- What waits, and what is written of it.
 use Rattle.std.proofs.Common.{◌≡◌, ◌∙◌, ◌⊎◌, ◌≤◌, ◌<◌, ◌+◌, ℕ, Bool, true, false, List, [], ◌∷◌, ◌++◌, length, Option, Some, None, Result, Ok, Err, refl, sym, ap, subst, inl, inr, append_assoc, append-nil, take, drop, arith, cond, length-append, leb-false, true≢false}
-use Rattle.std.specs.Prelude.{nat_le, ◌^◌, min}
+use Rattle.std.specs.Prelude.{nat_le}
 use Rattle.std.specs.Io.KnownBytes.{Appends, Keeps}
 use Rattle.std.proofs.lemmas.List.{length-take, take-append-drop, take-take}
 use Rattle.cli_commands.proofs.Prefixes.{appends_more}
@@ -10,7 +10,7 @@ use Rattle.cli_commands.specs.declared.status.Status.TheVariants.{Failed as HasE
 use Rattle.cli_sessions.proofs.Serving.{appends_none}
 use Rattle.cli_sessions.specs.Printing.{Printing, IsPrinted}
 use Rattle.host_server.specs.Waiting.{Waiting, added, most_waiting, nothing_waits, IsLeft, Passes}
-use Rattle.host_server.specs.Serving.{Serving, Keeps as KeepsServing, Went, texts_of, Telling, Settled, Goes, all_added, IsFront, IsCause, Prints, EndsSo, StopsSo, IsCut, EndsAfter, ServesAll}
+use Rattle.host_server.specs.Serving.{Serving, Keeps as KeepsServing, Went, texts_of, Telling, Settled, Goes, all_added, IsFront, IsCause, Prints, EndsSo, StopsSo, IsCut, ServesAll}
 use Rattle.host_server.proofs.Served.{texts_more, settled_none, settled_then, settled_kept, keeps_then}
 
 -- ---- failures

@@ -1,7 +1,7 @@
 -- Terminals that went, one after the other.
-use Rattle.std.proofs.Common.{◌≡◌, ◌∙◌, ◌⊎◌, ℕ, ◌+◌, List, [], ◌∷◌, ◌++◌, Option, Some, None, Result, Ok, Err, refl, sym, ap, subst, append_assoc}
+use Rattle.std.proofs.Common.{◌≡◌, ◌∙◌, ℕ, List, [], ◌∷◌, ◌++◌, Some, Ok, refl, sym, ap, subst, append_assoc}
 use Rattle.std.specs.Io.KnownBytes.{Appends}
-use Rattle.cli_sessions.specs.Printing.{Printing, IsPrinted, printing}
+use Rattle.cli_sessions.specs.Printing.{Printing, printing}
 use Rattle.cli_hosts.specs.declared.settling.Settled.{Settled as Outcome}
 use Rattle.cli_hosts.specs.Hosts.{Told, TellsOne}
 use Rattle.host_server.specs.declared.tally.Tally.{Tally}

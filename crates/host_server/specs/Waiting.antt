@@ -1,5 +1,5 @@
 -- What waits to be written.
-use Rattle.std.specs.Prelude.{ℕ, ◌≡◌, ◌+◌, ◌⊎◌, nat_le, Bool, true, false, List, [], ◌∷◌, ◌++◌, length, if◌then◌else◌}
+use Rattle.std.specs.Prelude.{ℕ, ◌≡◌, ◌+◌, ◌⊎◌, nat_le, Bool, true, false, List, [], ◌++◌, length, if◌then◌else◌}
 use Rattle.std.specs.Io.KnownBytes.{Appends}
 use Rattle.cli_commands.specs.Causes.{HasFailed}
 use Rattle.cli_sessions.specs.Printing.{Printing}

@@ -14,8 +14,8 @@ use cli_words::Many;
 use host_server::{Asked, Outlet, Server, serve_all};
 use std::alloc::{AllocError, Global};
 
-/// Standard output, where the lines of terminals go.
-pub(crate) const OUTLET: Outlet<'static> = Outlet {
+/// Where lines of terminals are written.
+pub(crate) const STANDARD_OUTPUT: Outlet<'static> = Outlet {
     name: "standard output",
     descriptor: 1,
 };
@@ -67,7 +67,7 @@ fn serve_screen<W: TakesBytes>(
         Err(error) => return place.report(rt, &error),
     };
     tell_listening(rt, place);
-    match serve_all(rt, rt.alloc(), &mut server, output, OUTLET) {
+    match serve_all(rt, rt.alloc(), &mut server, output, STANDARD_OUTPUT) {
         Ok(status) => status,
         Err(error) => place.report(rt, &error),
     }

@@ -2,7 +2,7 @@
 
 use crate::commands::{output, sized_input};
 use crate::manners::{bare_host, tell_listening};
-use crate::many::{OUTLET, asked_of};
+use crate::many::{STANDARD_OUTPUT, asked_of};
 use crate::reasons::{heard_file, told_first};
 use crate::suite::{folder_of, heard, read_file};
 use crate::tcp::Place;
@@ -196,7 +196,7 @@ fn serve_application(rt: &HostRuntime, application: &Application, asked: ServeAs
     };
     tell_listening(rt, place);
     let mut lines = Output::new(output(rt));
-    match serve_all(rt, rt.alloc(), &mut server, &mut lines, OUTLET) {
+    match serve_all(rt, rt.alloc(), &mut server, &mut lines, STANDARD_OUTPUT) {
         Ok(status) => status,
         Err(error) => place.report(rt, &error),
     }

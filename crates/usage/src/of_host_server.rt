@@ -3,14 +3,15 @@
 use cli_commands::{Status, TakesBytes};
 use cli_hosts::ScreenHosts;
 use cli_sessions::{Output, Screen};
-use host_server::{Asked, Server, serve_all};
+use host_server::{Asked, Outlet, Server, serve_all};
 use std::alloc::Global;
 use std::io;
+use std::io::Eprint;
 use std::net::Net;
 use std::time::Clock;
 
-/// Serves a screen to three terminals at once, at a port of this machine.
-fn serve_three<R: Net + Clock, W: TakesBytes>(
+/// Serves a screen to three terminals at once, at a port of this machine, and prints to standard output.
+fn serve_three<R: Net + Clock + Eprint, W: TakesBytes>(
     rt: &R,
     alloc: Global,
     screen: &Screen,
@@ -24,7 +25,11 @@ fn serve_three<R: Net + Clock, W: TakesBytes>(
         idle: 60,
         per_second: 10,
     };
+    let outlet = Outlet {
+        name: "standard output",
+        descriptor: 1,
+    };
     let hosts = ScreenHosts::new(alloc, &screen.layout, records, 60_000);
     let mut server = Server::at(rt, alloc, "127.0.0.1", 3270, hosts, asked)?;
-    serve_all(rt, alloc, &mut server, output)
+    serve_all(rt, alloc, &mut server, output, outlet)
 }

@@ -1,7 +1,6 @@
 use Rattle.std.proofs.Common.{List, ℕ, ap, ◌∙◌}
 use Rattle.std.specs.declared.net.ipv6_addr.Ipv6Addr.{Ipv6Addr}
 use Rattle.std.specs.Net.Addr.{ipv6_bits}
-use Rattle.host_server.specs.Places.{number_of}
 use Rattle.host_server.proofs.place.number_of.Goals as goal
 
 abbrev of_segments : List ℕ → Ipv6Addr
