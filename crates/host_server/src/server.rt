@@ -197,7 +197,8 @@ impl<H: Hosts> Server<H> {
     /// Whether a terminal is served that came from there, by how many did in the last second.
     fn admits(&mut self, peer: &SocketAddr, now: u64) -> bool
         ensures kept { Keeps H.content self.old self.new }
-        ensures asked { Admits self.old (arrival_of (number_of (socket_ip peer.now)) now) result self.new }
+        ensures asked { Admits self.old
+            (arrival_of (number_of (socket_ip peer.now)) now) result self.new }
     {
         if self.asked.per_second == 0 {
             return true;
