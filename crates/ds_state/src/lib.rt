@@ -15,5 +15,7 @@ pub use applied::Applied;
 pub use calls::{apply_record, new_state, press_key, take_record};
 pub use laws::one_picture;
 pub use opened::open_state;
-pub use reading::{Status, pairs_of, read_buffer, read_cells, read_modified, read_status, status_of};
+pub use reading::{
+    Status, pairs_of, read_buffer, read_cells, read_modified, read_status, status_of,
+};
 pub use spelled::{record_of, state_length, state_of};

@@ -55,7 +55,7 @@ IsTaken bytes v w result =
 abbrev pub HoldsTaken : List ℕ → Option Line → Option Line → ℤ → Type 0
 HoldsTaken bytes old new status =
     ((v : Line) × (w : Line) × (result : Result Progress RunFault) × (old ≡ Some v) × (new ≡ Some w) × (status ≡ pos (taken_code result))
-        × IsTaken bytes v w result)
+    × IsTaken bytes v w result)
     ⊎ ((status ≡ pos 2) × (new ≡ old) × (old ≡ None))
 
 abbrev pub keyed_code : Pressed → ℕ
@@ -81,7 +81,7 @@ IsPressed key v w result =
 abbrev pub HoldsPressed : ℕ → ℕ → Option Line → Option Line → ℕ → ℕ → ℤ → Type 0
 HoldsPressed kind code old new was pressed status =
     ((key : Key) × (v : Line) × (w : Line) × (result : Result Pressed RunFault) × (key_at kind code ≡ Some key) × (old ≡ Some v) × (new ≡ Some w)
-        × (status ≡ pos (pressed_code result)) × (pressed ≡ pressed_told result was) × IsPressed key v w result)
+    × (status ≡ pos (pressed_code result)) × (pressed ≡ pressed_told result was) × IsPressed key v w result)
     ⊎ ((status ≡ pos 2) × (new ≡ old) × (pressed ≡ was) × ((key_at kind code ≡ None) ⊎ (old ≡ None)))
 
 -- ---- what is due
@@ -123,6 +123,6 @@ TellsAgreed held was now status =
 abbrev pub TellsScreen : Option Line → Option Picture → Option Picture → ℤ → Type 0
 TellsScreen held old new status =
     ((v : Line) × (screen : Picture) × (held ≡ Some v) × OfWaiting (λ state. state.terminal) v.worked.talk screen × (status ≡ pos 0)
-        × (new ≡ Some screen))
+    × (new ≡ Some screen))
     ⊎ (((status ≡ pos 2) × (new ≡ old) × (held ≡ None))
     ⊎ ((status ≡ pos 4) × (new ≡ old)))

@@ -23,9 +23,7 @@ pub extern "C" fn takvorn_session_new(
     ensures { HoldsNew device.now enhanced responses tolerant
         session.old.line session.new.line result }
 {
-    i32::from(new_session(
-        session, alloc, device, enhanced, responses, tolerant,
-    ))
+    i32::from(new_session(session, alloc, device, enhanced, responses, tolerant))
 }
 
 /// Frees a session that is held.
