@@ -50,7 +50,7 @@ if [ -x "$program" ]; then
   port=$((21000 + $$ % 20000))
   timeout 60 "$program" serve examples/signon.toml --port $port --count 1 < examples/signon.hex > "$room/served" 2> "$room/log" &
   for _ in 1 2 3 4 5 6 7 8 9 10 11 12 13 14 15 16 17 18 19 20; do
-    "$room/env/bin/python" examples/python/session.py 127.0.0.1 $port 'type C1' 'type D5' tab 'type E2' enter > "$room/told" 2>> "$room/log" && break
+    "$room/env/bin/python" examples/python/session.py 127.0.0.1:$port 'type C1' 'type D5' tab 'type E2' enter > "$room/told" 2>> "$room/log" && break
     sleep 0.5
   done
   wait $!

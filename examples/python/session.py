@@ -1,4 +1,4 @@
-"""A session with a real host, by asyncio: session.py HOST PORT KEY.. presses the keys, as `type C1`, `tab` or `enter`, once the host's screen takes input, and
+"""A session with a real host, by asyncio: session.py HOST:PORT KEY.. presses the keys, as `type C1`, `tab` or `enter`, once the host's screen takes input, and
 prints the screen as it stands at the end, with what was agreed on."""
 import asyncio
 import sys
@@ -31,7 +31,8 @@ async def work(host: str, port: int, keys: "list[str]") -> takvorn.Screen:
 
 
 if __name__ == "__main__":
-    screen = asyncio.run(asyncio.wait_for(work(sys.argv[1], int(sys.argv[2]), sys.argv[3:]), 20))
+    host, _, port = sys.argv[1].rpartition(":")
+    screen = asyncio.run(asyncio.wait_for(work(host, int(port), sys.argv[2:]), 20))
     for row in screen.text:
         print(row.rstrip())
     print(f"row {screen.cursor // screen.columns + 1}, column {screen.cursor % screen.columns + 1}, {screen.keyboard}")
