@@ -311,7 +311,7 @@ int32_t takvorn_held_check(takvorn_held *held, const uint8_t *layout, size_t lay
 /*
  * A terminal's session with a host, TN3270E or classic TN3270, that the library holds behind a handle, as it holds a terminal: the bytes that the host sent
  * go in, in pieces of any length, keys are pressed, and the bytes that are due to the host come out. It reads and writes nothing: the program has the line.
- * A handle begins as `{NULL}`, and is kept and freed as a takvorn_held is; but it stays on the thread that made it.
+ * A handle begins as `{NULL}`, and is kept, freed and handed to other threads as a takvorn_held is.
  *
  * TAKVORN_FINDINGS is a session that failed: the host's bytes, or their record, are no session's. That, and TAKVORN_NO_MEMORY of takvorn_session_take and
  * _press, are its last word: each later call with bytes or a key answers it again, and makes nothing due. What was due before can still be had.

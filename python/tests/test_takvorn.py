@@ -267,20 +267,12 @@ def test_a_session_that_fails():
         takvorn.Session("IBM-3278-9")
 
 
-def test_a_session_is_of_one_thread():
+def test_a_session_goes_to_another_thread():
     session, told = takvorn.Session(), []
-
-    def elsewhere():
-        try:
-            session.take(HOST)
-        except RuntimeError as refused:
-            told.append(refused)
-
-    other = threading.Thread(target=elsewhere)
+    other = threading.Thread(target=lambda: told.append(session.take(HOST[:9])))
     other.start()
     other.join()
-    assert len(told) == 1
-    assert session.take(HOST) == REPLIES
+    assert told[0] + session.take(HOST[9:]) == REPLIES
 
 
 def test_threads_share_a_terminal():

@@ -8,7 +8,7 @@ ghost use Rattle.session_calls.specs.Rows.{line_row};
 use crate::talking::Talking;
 use kept_boxes::Kept;
 use std::alloc::Global;
-use std::marker::Model;
+use std::marker::{Model, Send};
 use std::mem::replace;
 
 /// A session that is held, or none where its pointer is null. No code can lose it: `free_session` frees it.
@@ -21,6 +21,9 @@ pub struct HeldSession {
 impl Model for HeldSession {
     ghost also_owns = { λ held. box_at line_row held.at held.line };
 }
+
+// It owns what a box of a session owns, so it may go to another thread.
+unsafe impl Send for HeldSession {}
 
 impl HeldSession {
     fn from_kept(kept: Kept<Talking>) -> HeldSession

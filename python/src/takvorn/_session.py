@@ -45,23 +45,21 @@ class SessionFailed(Exception):
         self.due = due
 
 
-def _free(held: _HeldSession, thread: int) -> None:
-    # A session is of one thread: where that isn't this one, it is not given back.
-    if thread == threading.get_ident():
-        library.takvorn_session_free(ctypes.byref(held))
+def _free(held: _HeldSession) -> None:
+    library.takvorn_session_free(ctypes.byref(held))
 
 
 class Session:
     """A terminal's session with a host, by TN3270E or classic TN3270. It reads and writes nothing: `take` takes the bytes that the host sent, in pieces of
-    any length, and gives the bytes to send. It is used on the thread that made it; elsewhere it raises RuntimeError."""
+    any length, and gives the bytes to send. Threads may share it."""
 
     def __init__(self, device: str = "IBM-3278-2-E", enhanced: bool = True, responses: bool = True, tolerant: bool = True) -> None:
         """A session at its beginning, of a device by its name: `IBM-3278-` or `IBM-3279-`, a model 2 to 5, and `-E` or not. `enhanced` says whether it
         takes TN3270E, `responses` whether it asks for RESPONSES there, and `tolerant` whether it gets through where a strict one fails. ValueError where no
         device has this name."""
         name = device.encode()
-        self._held, self._thread = _HeldSession(), threading.get_ident()
-        weakref.finalize(self, _free, self._held, self._thread)
+        self._held, self._lock = _HeldSession(), threading.Lock()
+        weakref.finalize(self, _free, self._held)
         flags = [ctypes.c_bool(it) for it in (enhanced, responses, tolerant)]
         function = library.takvorn_session_new
         function.restype = ctypes.c_int32
@@ -72,11 +70,10 @@ class Session:
             raise MemoryError("takvorn_session_new")
 
     def _call(self, name: str, *words: object) -> int:
-        if threading.get_ident() != self._thread:
-            raise RuntimeError("a session is used on the thread that made it")
         function = getattr(library, "takvorn_session_" + name)
         function.restype = ctypes.c_int32
-        status: int = function(ctypes.byref(self._held), *words)
+        with self._lock:
+            status: int = function(ctypes.byref(self._held), *words)
         if status == NO_MEMORY:
             raise MemoryError("takvorn_session_" + name)
         return status
