@@ -1,4 +1,4 @@
-use Rattle.std.proofs.Common.{◌≡◌, ◌+◌, ◌∷◌, List, Some, None, sym, subst}
+use Rattle.std.proofs.Common.{◌≡◌, ◌+◌, ◌∷◌, List, Some, sym, subst}
 use Rattle.ds_codec.specs.declared.cell.Cell.{Cell}
 use Rattle.ds_places.specs.Nearest.{IsFirstFrom}
 use Rattle.ds_screen.specs.Fields.{attributes_from, field_at}
