@@ -2,6 +2,7 @@
  * the way, and be the same state; held null: every call with a null handle; held threads: eight threads, each with a handle of its own, and handles that go
  * from one thread to the next; held session: a session whole and byte by byte, one that fails, and a null handle. It ends with 1 where a result is wrong, which standard error tells. */
 #define _POSIX_C_SOURCE 200809L
+#include "random_records.h"
 #include "takvorn.h"
 #include <pthread.h>
 #include <stdio.h>
@@ -10,40 +11,13 @@
 
 enum { ROOM = 1 << 14, THREADS = 8, CELLS = 24 };
 
-static void wrong(const char *what) {
-  fprintf(stderr, "wrong: %s\n", what);
-  exit(1);
-}
-
-/* A generator of our own, so that a seed tells the same on each system. */
-typedef struct chance { uint64_t word; } chance;
-static unsigned below(chance *from, unsigned most) {
-  from->word = from->word * 6364136223846793005u + 1442695040888963407u;
-  return (unsigned)(from->word >> 33) % most;
-}
-
 /* A record of random orders, some of which are refused; or a read. */
 static size_t make_record(chance *from, uint8_t *record) {
   static const uint8_t commands[] = {0xF1, 0xF5, 0xF5, 0x7E, 0x6F, 0xF2, 0xF6, 0x6E, 0x03};
   size_t length = 0;
   record[length++] = commands[below(from, sizeof commands)];
   if (record[0] != 0xF1 && record[0] != 0xF5 && record[0] != 0x7E) return length;
-  record[length++] = (uint8_t)below(from, 256);
-  for (unsigned orders = below(from, 12); orders > 0; orders--) {
-    uint8_t address = (uint8_t)below(from, 26);
-    switch (below(from, 9)) {
-    case 0: case 1: record[length++] = 0x1D, record[length++] = (uint8_t)below(from, 64); break;
-    case 2: record[length++] = 0x11, record[length++] = 0, record[length++] = address; break;
-    case 3: record[length++] = 0x13; break;
-    case 4: record[length++] = 0x05; break;
-    case 5: record[length++] = 0x3C, record[length++] = 0, record[length++] = address, record[length++] = 0xC5; break;
-    case 6: record[length++] = 0x12, record[length++] = 0, record[length++] = address; break;
-    case 7: record[length++] = 0x08, record[length++] = (uint8_t)(0x40 + below(from, 0xBF)); break;
-    default:
-      for (unsigned characters = 1 + below(from, 6); characters > 0; characters--) record[length++] = below(from, 4) ? (uint8_t)(0xC1 + below(from, 9)) : 0;
-    }
-  }
-  return length;
+  return put_orders(from, record, length);
 }
 
 static bool same_bytes(const uint8_t *one, size_t length, const uint8_t *other, size_t other_length) {

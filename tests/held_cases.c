@@ -1,27 +1,10 @@
 /* Golden cases at a terminal that is held by a handle: held_cases show RECORDS prints what `show` prints of the records, held_cases press RECORDS KEYS what
  * `press` prints, held_cases check RECORDS LAYOUT yes|no what `check` prints of the screen, with `yes` its demos too; it ends with the status, and with 9
  * where the terminal takes not all of the records. */
+#include "case_files.h"
 #include "takvorn.h"
-#include <ctype.h>
-#include <stdio.h>
-#include <stdlib.h>
-#include <string.h>
 
-enum { ROOM = 1 << 20, NOT_TAKEN = 9 };
-
-static unsigned sizes[4] = {24, 80, 24, 80};
-static bool wide;
 static takvorn_held held = {NULL};
-
-static char *contents(const char *name, size_t *length) {
-  FILE *file = fopen(name, "rb");
-  char *text = malloc(ROOM + 1);
-  if (!file || !text) exit(NOT_TAKEN);
-  *length = fread(text, 1, ROOM, file);
-  text[*length] = 0;
-  if (fclose(file) || *length == ROOM || strlen(text) != *length) exit(NOT_TAKEN);
-  return text;
-}
 
 /* The next line that says something, without its end. */
 static char *next_line(char **rest) {
@@ -33,31 +16,6 @@ static char *next_line(char **rest) {
     if (*line && *line != '#') return line;
   }
   return NULL;
-}
-
-static size_t bytes_of(const char *line, uint8_t *bytes) {
-  size_t length = 0;
-  while (*line) {
-    if (*line == ' ' || *line == '\t') {
-      line++;
-      continue;
-    }
-    if (!isxdigit((unsigned char)line[0]) || !isxdigit((unsigned char)line[1])) exit(NOT_TAKEN);
-    char digits[] = {line[0], line[1], 0};
-    bytes[length++] = (uint8_t)strtoul(digits, NULL, 16);
-    line += 2;
-  }
-  return length;
-}
-
-/* The sizes of a layout, each key of which begins a line. */
-static void take_layout_sizes(const char *layout) {
-  for (const char *line = layout; line; line = strchr(line, '\n'), line = line ? line + 1 : NULL) {
-    if (sscanf(line, "default = \"%ux%u", &sizes[0], &sizes[1]) == 2) sizes[2] = sizes[0], sizes[3] = sizes[1];
-    if (!strncmp(line, "addresses = 16", 14)) wide = true;
-  }
-  const char *alternate = strstr(layout, "alternate = \"");
-  if (alternate) sscanf(alternate, "alternate = \"%ux%u", &sizes[2], &sizes[3]);
 }
 
 /* The sizes of the line `size`, if that is the first. */

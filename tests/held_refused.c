@@ -1,29 +1,10 @@
 /* Each request for memory of each call on a terminal that is held by a handle, and on a session, is refused in turn: the call is TAKVORN_NO_MEMORY, the
  * terminal as it was, and nothing more stays allocated. It ends with 1 where that isn't so, which standard error tells. */
+#include "refusing.h"
 #include "takvorn.h"
 #include <stdio.h>
 #include <stdlib.h>
 #include <string.h>
-
-extern void *__libc_malloc(size_t), *__libc_realloc(void *, size_t);
-extern void __libc_free(void *);
-static long asked, refused, blocks;
-static bool is_calling;
-static bool refuses(void) { return is_calling && ++asked == refused; }
-void *malloc(size_t size) {
-  void *block = refuses() ? NULL : __libc_malloc(size);
-  if (block) blocks++;
-  return block;
-}
-void *realloc(void *old, size_t size) {
-  void *block = refuses() ? NULL : __libc_realloc(old, size);
-  if (block && !old) blocks++;
-  return block;
-}
-void free(void *block) {
-  if (block) blocks--;
-  __libc_free(block);
-}
 
 static takvorn_held held = {NULL}, shown = {NULL};
 static takvorn_session session = {NULL};

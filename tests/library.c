@@ -12,24 +12,7 @@
 enum { MOST_LAYOUTS = 64, ROUNDS = 20, THREADS = 4, GUARD = 16, FILL = 0xA5 };
 
 #ifdef REFUSES
-extern void *__libc_malloc(size_t), *__libc_realloc(void *, size_t);
-extern void __libc_free(void *);
-static long asked, refused, held;
-static bool refuses(void) { return ++asked == refused; }
-void *malloc(size_t size) {
-  void *block = refuses() ? NULL : __libc_malloc(size);
-  if (block) held++;
-  return block;
-}
-void *realloc(void *old, size_t size) {
-  void *block = refuses() ? NULL : __libc_realloc(old, size);
-  if (block && !old) held++;
-  return block;
-}
-void free(void *block) {
-  if (block) held--;
-  __libc_free(block);
-}
+#include "refusing.h"
 #endif
 
 /* A command's inputs: its files in their order, and standard input. */
@@ -205,13 +188,14 @@ static void try_refusals(void) {
   long next = 1, without = 0;
   for (;; next++) {
     size_t needed = 99;
-    long before = held;
+    long before = blocks;
     asked = 0;
     refused = next;
+    is_calling = true;
     int told = call(out, whole_length, &needed);
+    is_calling = false;
     bool met = asked >= next;
-    refused = 0;
-    if (held != before) fail("something stays allocated");
+    if (blocks != before) fail("something stays allocated");
     if (!met) break;
     /* Where a word of a source is collected, room for it is asked for first, and done without where it is refused. */
     if (is_of_map && told == status && needed == whole_length && !memcmp(out, whole, whole_length)) {

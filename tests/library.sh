@@ -139,6 +139,25 @@ if has valgrind "handles under valgrind"; then
   each_terminal valgrind -q --leak-check=full --error-exitcode=120 "$work/held" null
   each_terminal valgrind -q --leak-check=full --error-exitcode=120 "$work/held" session
 fi
+# Both once more with the address sanitizer, which sees what is read or written beside a buffer of the caller, and what leaks.
+printf 'int main(void) { return 0; }\n' > "$work/nothing.c"
+if clang -fsanitize=address -o "$work/nothing" "$work/nothing.c" 2> /dev/null && "$work/nothing"; then
+  usual=$CC
+  CC=clang
+  for name in terminal held; do
+    build ${name}_sanitized tests/$name.c -fsanitize=address,undefined || bad "$name.c isn't built with the address sanitizer"
+  done
+  CC=$usual
+  each_terminal "$work/terminal_sanitized" both 9 500
+  each_terminal "$work/terminal_sanitized" changed
+  each_terminal "$work/terminal_sanitized" rows
+  each_terminal "$work/held_sanitized" both 9 500
+  each_terminal "$work/held_sanitized" null
+  each_terminal "$work/held_sanitized" threads
+  each_terminal "$work/held_sanitized" session
+else
+  echo "clang has no address sanitizer here: terminals with it left out"
+fi
 # Golden cases of `show` and `press` whose records a terminal takes.
 tried=0
 for case in "$root"/tests/cases/show/*/ "$root"/tests/cases/press/*/; do

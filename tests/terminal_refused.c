@@ -1,29 +1,10 @@
 /* Each request for memory of each call on a terminal's state is refused in turn: the call is TAKVORN_NO_MEMORY, the state as it was, and nothing stays
  * allocated. It ends with 1 where that isn't so, which standard error tells. */
+#include "refusing.h"
 #include "takvorn.h"
 #include <stdio.h>
 #include <stdlib.h>
 #include <string.h>
-
-extern void *__libc_malloc(size_t), *__libc_realloc(void *, size_t);
-extern void __libc_free(void *);
-static long asked, refused, held;
-static bool is_calling;
-static bool refuses(void) { return is_calling && ++asked == refused; }
-void *malloc(size_t size) {
-  void *block = refuses() ? NULL : __libc_malloc(size);
-  if (block) held++;
-  return block;
-}
-void *realloc(void *old, size_t size) {
-  void *block = refuses() ? NULL : __libc_realloc(old, size);
-  if (block && !old) held++;
-  return block;
-}
-void free(void *block) {
-  if (block) held--;
-  __libc_free(block);
-}
 
 static uint8_t state[8192], before[8192], out[8192], pressed;
 static takvorn_field fields[64];
@@ -57,13 +38,13 @@ static int wrong(const char *name, const char *what) { return fprintf(stderr, "%
 /* The requests of a call, each refused in turn, until none is. */
 static int each(const char *name, int32_t (*call)(void)) {
   for (refused = 1;; refused++) {
-    long was = held;
+    long was = blocks;
     memcpy(before, state, length);
     asked = 0;
     is_calling = true;
     int32_t told = call();
     is_calling = false;
-    if (held != was) return wrong(name, "something stays allocated");
+    if (blocks != was) return wrong(name, "something stays allocated");
     if (asked < refused) return told != TAKVORN_DONE && wrong(name, "it isn't done");
     if (told != TAKVORN_NO_MEMORY) return wrong(name, "another status");
     if (memcmp(before, state, length)) return wrong(name, "another state");
