@@ -9,7 +9,7 @@ use Rattle.scr_check.specs.declared.finding.Demo.{Demo}
 use Rattle.scr_check.specs.Demos.{demo_keys}
 
 -- keys in two parts
-in_parts : (v : Picture) (keys others : List Key) → after v (keys ++ others) ≡ after (after v keys) others
+pub in_parts : (v : Picture) (keys others : List Key) → after v (keys ++ others) ≡ after (after v keys) others
 unfolding after
 in_parts v [] others = refl
 in_parts v (key ∷ keys) others = in_parts (after_key v key) keys others
@@ -19,7 +19,7 @@ unfolding after
 not_pressed v key = refl
 
 -- once more the same key
-again : (v : Picture) (key : Key) (n : ℕ) → after_key (after v (replicate n key)) key ≡ after v (replicate (suc n) key)
+pub again : (v : Picture) (key : Key) (n : ℕ) → after_key (after v (replicate n key)) key ≡ after v (replicate (suc n) key)
 unfolding after
 again v key zero = refl
 again v key (suc n) = again (after_key v key) key n

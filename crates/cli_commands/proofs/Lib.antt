@@ -21,6 +21,7 @@ pub mod Converted
 pub mod Spaces
 pub mod Texts
 pub mod DemoKeys
+pub mod Rights
 pub mod Opened
 pub mod Firsts
 pub mod NamedKeys

@@ -41,6 +41,20 @@ fn press_times(
     Ok(())
 }
 
+/// Presses Right so many times, as Down for each whole row and then Right for the rest: the cursor comes to the same place.
+fn press_rights(
+    alloc: Global,
+    terminal: &mut Terminal<PlaneCells>,
+    rights: u32,
+) -> Result<(), AllocError>
+    ensures { OnOk result (terminal.new ≡ after terminal.old (replicate rights Key.Right)) }
+{
+    let columns = u32::from(terminal.screen().size().cols);
+    press_times(alloc, terminal, &Key::Down, rights / columns)?;
+    press_times(alloc, terminal, &Key::Right, rights % columns)?;
+    Ok(())
+}
+
 /// The key Enter.
 #[tactic(auto, unfolding(ds_codec::specs::Aid::is_aid))]
 fn enter() -> Key
@@ -58,7 +72,7 @@ fn press_demo(
     ensures { OnOk result (terminal.new ≡ after terminal.old (demo_keys demo)) }
 {
     let Demo { rights, types } = demo;
-    press_times(alloc, terminal, &Key::Right, rights)?;
+    press_rights(alloc, terminal, rights)?;
     press_times(alloc, terminal, &Key::Typed(0xC1), types)?;
     press_times(alloc, terminal, &enter(), 1)?;
     Ok(())
