@@ -338,6 +338,10 @@ int32_t takvorn_session_press(takvorn_session *session, uint8_t key, uint8_t cod
 /* The bytes that are due to the host, written to `out` as texts are: where all of them fit nothing is due any more, else all of them stay due. */
 int32_t takvorn_session_due(takvorn_session *session, uint8_t *out, size_t out_length, size_t *needed);
 
+/* Why a session failed, written to `out` as texts are: the number of its fault, of at most 3 bytes, as `N1` (docs/SESSIONS.md tells them). Nothing where it
+ * goes on, or ended since memory was refused. */
+int32_t takvorn_session_fault(takvorn_session *session, uint8_t *out, size_t out_length, size_t *needed);
+
 /* What a session agreed on: whether it is `ready`, so that records and answers pass; by TN3270E; with RESPONSES; whether the screen takes input: it has a
  * field, the keyboard doesn't wait, and the cursor isn't at 0; and the device. Before it is ready all is false, and the model 0. */
 typedef struct takvorn_agreed {

@@ -196,6 +196,7 @@ static void work(takvorn_session *session, bool tolerant, size_t piece) {
   takvorn_effect effect;
   takvorn_agreed agreed;
   uint8_t pressed;
+  size_t needed;
   if (takvorn_session_new(device, sizeof device - 1, true, true, tolerant, session)) wrong("a session");
   if (takvorn_held_new(24, 80, 24, 80, false, &beside)) wrong("a terminal");
   if (takvorn_session_press(session, TAKVORN_TAB, 0, &pressed) || pressed != TAKVORN_KEY_IGNORED) wrong("a key before the session is ready");
@@ -210,6 +211,7 @@ static void work(takvorn_session *session, bool tolerant, size_t piece) {
   if (takvorn_session_press(session, TAKVORN_TYPE, 0xC1, &pressed) || pressed != TAKVORN_KEY_DONE) wrong("a key of a session");
   if (takvorn_session_press(session, TAKVORN_ATTENTION, 0x7D, &pressed) || pressed != TAKVORN_KEY_SENT) wrong("a key that sends");
   if (takvorn_held_press(&beside, TAKVORN_TYPE, 0xC1, &pressed) || takvorn_held_press(&beside, TAKVORN_ATTENTION, 0x7D, &pressed)) wrong("the same keys");
+  if (takvorn_session_fault(session, &pressed, 1, &needed) || needed || pressed != TAKVORN_KEY_SENT) wrong("why a good session failed");
   is_due(session, sent, sizeof sent);
   is_shown(session, &beside);
   if (takvorn_session_press(session, 99, 0, &pressed) != TAKVORN_BAD_INPUT) wrong("no such key");
@@ -226,6 +228,7 @@ static void try_sessions(void) {
   if (takvorn_session_take(&session, host, sizeof host) != TAKVORN_BAD_INPUT) wrong("bytes to no session");
   if (takvorn_session_press(&session, TAKVORN_TAB, 0, &pressed) != TAKVORN_BAD_INPUT || pressed != 9) wrong("a key to no session");
   if (takvorn_session_due(&session, out, sizeof out, &needed) != TAKVORN_BAD_INPUT || needed || out[0] != 9) wrong("what is due of no session");
+  if (takvorn_session_fault(&session, out, sizeof out, &needed) != TAKVORN_BAD_INPUT || needed || out[0] != 9) wrong("why no session failed");
   if (takvorn_session_agreed(&session, &agreed) != TAKVORN_BAD_INPUT || agreed.model != 9) wrong("what no session agreed on");
   if (takvorn_session_screen(&session, &shown) != TAKVORN_BAD_INPUT || shown.terminal) wrong("the screen of no session");
   if (takvorn_session_new(device, 3, true, true, true, &session) != TAKVORN_BAD_INPUT || session.session) wrong("no such device");
@@ -233,6 +236,8 @@ static void try_sessions(void) {
     for (size_t piece = 1; piece <= sizeof host; piece++) work(&session, tolerant, piece);
   if (takvorn_session_new(device, sizeof device - 1, true, true, false, &session)) wrong("a session");
   if (takvorn_session_take(&session, faulty, sizeof faulty) != TAKVORN_FINDINGS) wrong("no stream");
+  if (takvorn_session_fault(&session, out, 1, &needed) || needed != 2 || memcmp(out, "W", 2)) wrong("the front of why it failed");
+  if (takvorn_session_fault(&session, out, sizeof out, &needed) || needed != 2 || memcmp(out, "W3", 3)) wrong("why it failed");
   is_due(&session, replies, 3);
   if (takvorn_session_take(&session, host, sizeof host) != TAKVORN_FINDINGS) wrong("after a fault");
   if (takvorn_session_press(&session, TAKVORN_TAB, 0, &pressed) != TAKVORN_FINDINGS || pressed != 9) wrong("a key after a fault");

@@ -260,6 +260,7 @@ def test_a_session_that_fails():
     session = takvorn.Session("IBM-3279-5", tolerant=False)
     with pytest.raises(takvorn.SessionFailed) as failed:
         session.take(bytes.fromhex("FFFD18 FFFA18FF41"))
+    assert failed.value.fault == "W3"
     assert failed.value.due == REPLIES[:3]
     with pytest.raises(takvorn.SessionFailed):
         session.press("enter")

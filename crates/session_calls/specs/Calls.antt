@@ -3,6 +3,7 @@
 use Rattle.std.specs.Prelude.{◌≡◌, ◌⊎◌, ℕ, ℤ, pos, Bool, true, false, List, [], ◌++◌, Option, Some, None, Result, Ok, Err, length, nat_le, if◌then◌else◌}
 use Rattle.ds_keys.specs.declared.key.Key.{Key}
 use Rattle.ds_screen.specs.Picture.{Picture}
+use Rattle.cli_sessions.specs.FaultNumber.{fault_number}
 use Rattle.terminal_calls.specs.Left.{laid_over}
 use Rattle.terminal_calls.specs.Numbers.{key_at}
 use Rattle.tn_cores.specs.declared.device.Device.{Device}
@@ -93,6 +94,19 @@ due_after v out = record { worked = v.worked; due = if nat_le (length v.due) (le
 abbrev pub HoldsDue : Option Line → Option Line → List ℕ → List ℕ → ℕ → ℤ → Type 0
 HoldsDue old new was out needed status =
     ((v : Line) × (old ≡ Some v) × (new ≡ Some (due_after v was)) × (status ≡ pos 0) × (out ≡ laid_over was v.due) × (needed ≡ length v.due))
+    ⊎ ((status ≡ pos 2) × (new ≡ old) × (out ≡ was) × (needed ≡ 0) × (old ≡ None))
+
+-- ---- why it failed
+
+abbrev pub fault_text : Result Progress RunFault → List ℕ
+fault_text (Ok progress) = []
+fault_text (Err why) = fault_number why
+
+-- by what it answers to no bytes
+abbrev pub HoldsFault : Option Line → Option Line → List ℕ → List ℕ → ℕ → ℤ → Type 0
+HoldsFault old new was out needed status =
+    ((v : Line) × (w : Line) × (result : Result Progress RunFault) × (old ≡ Some v) × (new ≡ Some w) × (status ≡ pos 0) × IsTaken [] v w result
+    × (out ≡ laid_over was (fault_text result)) × (needed ≡ length (fault_text result)))
     ⊎ ((status ≡ pos 2) × (new ≡ old) × (out ≡ was) × (needed ≡ 0) × (old ≡ None))
 
 -- ---- what is read

@@ -93,7 +93,11 @@ fn taken_code(taken: Result<Progress, RunFault>) -> u8
     }
 }
 
-fn take_bytes(line: &mut Talking, alloc: Global, bytes: &[u8]) -> Result<Progress, RunFault>
+pub(crate) fn take_bytes(
+    line: &mut Talking,
+    alloc: Global,
+    bytes: &[u8],
+) -> Result<Progress, RunFault>
     ensures { IsTaken bytes.now line.old line.new result }
 {
     line.session.take(alloc, bytes, &mut line.due)

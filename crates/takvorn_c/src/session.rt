@@ -1,11 +1,11 @@
 //! A terminal's session for C, held behind a handle.
 
 ghost use Rattle.std.specs.Prelude.{◌≡◌, None};
-ghost use Rattle.session_calls.specs.Calls.{HoldsDue, HoldsNew, HoldsPressed, HoldsTaken, TellsAgreed, TellsScreen};
+ghost use Rattle.session_calls.specs.Calls.{HoldsDue, HoldsFault, HoldsNew, HoldsPressed, HoldsTaken, TellsAgreed, TellsScreen};
 
 use session_calls::{
-    HeldSession, SessionStatus, agreed_left, due_left, free_session, new_session, press_session,
-    screen_left, take_left,
+    HeldSession, SessionStatus, agreed_left, due_left, fault_left, free_session, new_session,
+    press_session, screen_left, take_left,
 };
 use std::alloc::Global;
 use terminal_calls::HeldTerminal;
@@ -72,6 +72,19 @@ pub extern "C" fn takvorn_session_due(
     ensures { HoldsDue session.old.line session.new.line out.old out.new needed.new result }
 {
     i32::from(due_left(session, alloc, out, needed))
+}
+
+/// Why the session failed.
+#[unsafe(no_mangle)]
+pub extern "C" fn takvorn_session_fault(
+    alloc: Global,
+    session: &mut HeldSession,
+    out: &mut [u8],
+    needed: &mut usize,
+) -> i32
+    ensures { HoldsFault session.old.line session.new.line out.old out.new needed.new result }
+{
+    i32::from(fault_left(session, alloc, out, needed))
 }
 
 /// What the session agreed on.

@@ -38,11 +38,12 @@ class Agreed:
 
 
 class SessionFailed(Exception):
-    """The host's bytes, or their record, are no session's. `due` is what was due to the host before; the session takes nothing more."""
+    """The host's bytes, or their record, are no session's. `fault` is the fault's number, as `N1` (docs/SESSIONS.md tells them), and `due` what was due to
+    the host before; the session takes nothing more."""
 
-    def __init__(self, due: bytes) -> None:
-        super().__init__("the host's bytes are no session's")
-        self.due = due
+    def __init__(self, fault: str, due: bytes) -> None:
+        super().__init__(f"the session failed: {fault}")
+        self.fault, self.due = fault, due
 
 
 def _free(held: _HeldSession) -> None:
@@ -78,14 +79,20 @@ class Session:
             raise MemoryError("takvorn_session_" + name)
         return status
 
-    def _due(self) -> bytes:
+    def _text(self, name: str) -> bytes:
         room, needed = 4096, ctypes.c_size_t()
         while True:
             out = ctypes.create_string_buffer(room)
-            self._call("due", out, ctypes.c_size_t(room), ctypes.byref(needed))
+            self._call(name, out, ctypes.c_size_t(room), ctypes.byref(needed))
             if needed.value <= room:
                 return out.raw[: needed.value]
             room = needed.value
+
+    def _due(self) -> bytes:
+        return self._text("due")
+
+    def _failed(self, due: bytes) -> SessionFailed:
+        return SessionFailed(self._text("fault").decode(), due)
 
     def take(self, data: bytes) -> bytes:
         """Takes bytes that the host sent, and gives those that are due to it: replies, RESPONSES, and answers to reads. SessionFailed where the session
@@ -93,7 +100,7 @@ class Session:
         status = self._call("take", ctypes.c_char_p(data), ctypes.c_size_t(len(data)))
         due = self._due()
         if status == FINDINGS:
-            raise SessionFailed(due)
+            raise self._failed(due)
         return due
 
     def press(self, key: str) -> Pressed:
@@ -105,7 +112,7 @@ class Session:
         if status == BAD_INPUT:
             raise ValueError(f"no key: {key}")
         if status == FINDINGS:
-            raise SessionFailed(self._due())
+            raise self._failed(self._due())
         did = DID[told.value]
         return Pressed(did, sent=self._due()) if did == "sent" else Pressed(did, cursor=self.terminal.status.cursor)
 
