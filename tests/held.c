@@ -32,7 +32,7 @@ static void same_texts(const char *what, int32_t status, const uint8_t *out, siz
 /* All that can be read of both. */
 static void compare(takvorn_held *held, const uint8_t *state, size_t length, chance *from) {
   static const char layout[] = "default = \"2x12\"\nalternate = \"3x8\"\n";
-  static uint8_t out[ROOM], due[ROOM];
+  uint8_t out[ROOM], due[ROOM];
   takvorn_field fields[CELLS + 1], due_fields[CELLS + 1];
   takvorn_status status, due_status;
   size_t needed, due_needed, room = below(from, 3) ? ROOM : below(from, 40);
