@@ -39,6 +39,18 @@ module _ {T : Type 0} (place : T → ℕ) where
     λ k d from lt. absurd (omega arith),
   )
 
+  -- the entry at i has a place below q: so has each up to it
+  pub small_to : (xs : List T) (q i : ℕ) (x : T) → IsRising place xs → i < length xs → x ≡ get_or xs i x → place x < q
+      → (k : ℕ) (d : T) → k < i + 1 → place (get_or xs k d) < q
+  small_to xs q i x rising lt is small k d up =
+      let e : place (get_or xs i d) ≡ place x = ap place (get_or_default xs i d x lt ∙ sym is) in
+      elim (cases_eq k i) [
+        | inl here ↦ omega (arith, small, e, ap (λ z. place (get_or xs z d)) here)
+        | inr earlier ↦
+            let more = rises_order place 0 xs rising k i d (omega arith) lt in
+            omega (arith, small, more, e)
+      ]
+
   -- the entry at i has a place from q on, and each before it one below q
   pub parts_here : (xs : List T) (q i : ℕ) (x : T) → IsRising place xs → ((k : ℕ) (d : T) → k < i → place (get_or xs k d) < q) → i < length xs
       → x ≡ get_or xs i x → q ≤ place x → Parts xs q i

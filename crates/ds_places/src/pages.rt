@@ -10,7 +10,7 @@ use crate::blocks::{
 use crate::change::Change;
 use crate::edits::cut;
 use crate::placed::Placed;
-use crate::search::{first_from, held, last_below, last_in};
+use crate::search::{first_from, first_near, held, last_below, last_in};
 use std::alloc::{AllocError, Global};
 use std::marker::Model;
 
@@ -156,8 +156,18 @@ impl<T: Placed> Pages<T> {
     pub fn first_from(&self, place: u32) -> Option<T>
         ensures { IsFirstFrom T.place_of self.now.entries place result }
     {
+        let mut guess = usize::MAX;
+        self.first_near(place, &mut guess)
+    }
+
+    /// The same, for one that asks for the entries in turn: `guess` is what the search before left there, and any number
+    /// at first. It spares the search inside a block where the entry is the next one, and changes nothing of what is found.
+    #[inline(always)]
+    pub fn first_near(&self, place: u32, guess: &mut usize) -> Option<T>
+        ensures { IsFirstFrom T.place_of self.now.entries place result }
+    {
         let number = place / 512;
-        if let Some(entry) = first_from(block(&self.blocks, number), place) {
+        if let Some(entry) = first_near(block(&self.blocks, number), place, guess) {
             return Some(entry);
         }
         let Some(later) = first_from(&self.used, number + 1) else {

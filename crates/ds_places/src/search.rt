@@ -59,6 +59,21 @@ pub(crate) fn rank_from<T: Placed>(entries: &[T], start: usize, place: u32) -> u
     rank(entries, place)
 }
 
+/// The same, where it is guessed which entry is the last with a place below this one: no search where that is so.
+#[inline(always)]
+pub(crate) fn rank_after<T: Placed>(entries: &[T], guess: usize, place: u32) -> usize
+    requires { IsRising T.place_of entries.now }
+    ensures parts { IsPartitionPoint (λ entry. T.place_of entry < place)
+        (λ entry. place ≤ T.place_of entry) entries.now result }
+    ensures within { result ≤ length entries.now }
+{
+    if guess < entries.len() && entries[guess].place() < place {
+        rank_from(entries, guess + 1, place)
+    } else {
+        rank(entries, place)
+    }
+}
+
 /// Where the entry of a place stands, or where one is to be inserted.
 #[inline(always)]
 pub(crate) fn slot<T: Placed>(entries: &[T], place: u32) -> Result<usize, usize>
@@ -150,7 +165,19 @@ pub(crate) fn first_from<T: Placed>(entries: &[T], place: u32) -> Option<T>
     requires { IsRising T.place_of entries.now }
     ensures { IsFirstFrom T.place_of entries.now place result }
 {
-    let index = rank(entries, place);
+    let mut guess = usize::MAX;
+    first_near(entries, place, &mut guess)
+}
+
+/// The same, where the index of the entry before it is guessed. What is found is the same whatever the guess, and its
+/// index is the next one.
+#[inline(always)]
+pub(crate) fn first_near<T: Placed>(entries: &[T], place: u32, guess: &mut usize) -> Option<T>
+    requires { IsRising T.place_of entries.now }
+    ensures { IsFirstFrom T.place_of entries.now place result }
+{
+    let index = rank_after(entries, *guess, place);
+    *guess = index;
     if index < entries.len() {
         Some(entries[index])
     } else {

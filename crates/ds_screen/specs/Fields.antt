@@ -1,5 +1,5 @@
 -- Attributes, the fields that they begin, and what may be typed over.
-use Rattle.std.specs.Prelude.{ℕ, ◌-◌, Bool, true, false, not, ◌&&◌, ◌==◌, List, map, length, Option, Some, None, option_map, unwrap_or, if◌then◌else◌}
+use Rattle.std.specs.Prelude.{◌≡◌, ℕ, ◌<◌, ◌-◌, Bool, true, false, not, ◌&&◌, ◌==◌, List, map, length, Option, Some, None, option_map, unwrap_or, if◌then◌else◌, IfSome}
 use Rattle.std.specs.List.{range_with_len, filter}
 use Rattle.ds_codec.specs.declared.cell.Cell.{Cell}
 use Rattle.ds_codec.specs.declared.cell.Cell.TheVariants.{Field, Char}
@@ -93,3 +93,8 @@ fields_from cells p = map (field_at cells) (attributes_from cells p)
 
 abbrev pub fields_of : List Cell → List FieldAt
 fields_of cells = fields_from cells 0
+
+-- what a search from a position on round the buffer finds, where there is such a position
+pub record IsAhead (cells : List Cell) (from : ℕ) (ahead : Option ℕ) : Type 0 where
+  pub nearest : from < length cells → ahead ≡ attribute_from cells from
+  pub inside : from < length cells → IfSome ahead (λ q. q < length cells)

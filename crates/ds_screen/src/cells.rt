@@ -68,6 +68,17 @@ pub trait Cells: Drop {
         ensures nearest { result ≡ attribute_from (content self.now) p }
         ensures inside { IfSome result (λ q. q < length (content self.now)) };
 
+    /// The same, for one that asks for the attributes in turn: `guess` is what the search before left there, and any number
+    /// at first. It may spare a search, and changes nothing of what is found.
+    fn attr_near(&self, p: u32, guess: &mut usize) -> Option<u32>
+        requires { p < length (content self.now) }
+        ensures nearest { result ≡ attribute_from (content self.now) p }
+        ensures inside { IfSome result (λ q. q < length (content self.now)) }
+    {
+        let _unused = guess;
+        self.attr_from(p)
+    }
+
     /// Makes the cells those of another buffer.
     fn copy_from(&mut self, other: &Self)
         requires { length (content other.now) ≤ capacity self.old }

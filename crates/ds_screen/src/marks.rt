@@ -120,6 +120,16 @@ impl Marks {
         self.marks.first_from(from)
     }
 
+    /// The same, for one that asks for the attributes in turn.
+    fn mark_near(&self, from: u32, guess: &mut usize) -> Option<Mark>
+        ensures first { IsFirstFrom place_of self.now.marks from result }
+        ensures inside { IfSome result (λ mark. mark.at < self.now.size) }
+        ensures small { IfSome result (λ mark. mark.at + 1 < 2 ^ 32) }
+    {
+        let _positions = self.size;
+        self.marks.first_near(from, guess)
+    }
+
     /// The position of the attribute at the least distance going on round the buffer from behind a position, where
     /// `later` is the first that stands behind it.
     fn stop_after(&self, at: u32, later: Option<Mark>) -> Option<u32>
@@ -193,7 +203,12 @@ impl Marks {
     }
 
     /// The field of the first attribute from a position on, which is found already, and the attribute behind it.
-    pub(crate) fn next_field(&self, from: u32, first: Option<Mark>) -> Option<NextField>
+    pub(crate) fn next_field(
+        &self,
+        from: u32,
+        first: Option<Mark>,
+        guess: &mut usize,
+    ) -> Option<NextField>
         requires { IsFirstFrom place_of self.now.marks from first }
         ensures first { MatchOption result (attributes_from (bare_cells self.now) from ≡ [])
             (λ next. (attributes_from (bare_cells self.now) from
@@ -207,7 +222,7 @@ impl Marks {
         let Some(mark) = first else {
             return None;
         };
-        let later = self.next_mark(mark.at + 1);
+        let later = self.mark_near(mark.at + 1, guess);
         let field = self.field_of(mark, &later);
         Some(NextField { field, later })
     }

@@ -6,12 +6,14 @@ use crate::marks::Marks;
 use std::marker::Model;
 
 /// The fields of an outline that are still to come, in rising order of their attributes. Takes no memory. The first
-/// attribute from `from` on is known, so each field costs one search, for the attribute behind its own.
+/// attribute from `from` on is known, so each field costs one search, for the attribute behind its own, and none where that
+/// is the next one of its block.
 #[derive(Drop)]
 pub struct OutlineFields<'a> {
     marks: &'a Marks,
     from: u32,
     first: Option<Mark>,
+    guess: usize,
 }
 
 impl<'a> Model for OutlineFields<'a> {
@@ -41,6 +43,7 @@ impl<'a> OutlineFields<'a> {
             marks,
             from: 0,
             first,
+            guess: 0,
         }
     }
 }
@@ -56,7 +59,7 @@ impl<'a> Iterator for OutlineFields<'a> {
 
     fn next(&mut self) -> Option<FieldAt> {
         let marks = self.marks;
-        let next = marks.next_field(self.from, self.first)?;
+        let next = marks.next_field(self.from, self.first, &mut self.guess)?;
         self.from = next.field.at + 1;
         self.first = next.later;
         Some(next.field)

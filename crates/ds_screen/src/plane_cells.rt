@@ -275,7 +275,12 @@ impl Cells for PlaneCells {
     }
 
     fn attr_from(&self, p: u32) -> Option<u32> {
-        if let Some(q) = self.index.first_from(p) {
+        let mut guess = usize::MAX;
+        self.attr_near(p, &mut guess)
+    }
+
+    fn attr_near(&self, p: u32, guess: &mut usize) -> Option<u32> {
+        if let Some(q) = self.index.first_near(p, guess) {
             return Some(q);
         }
         self.index.first_from(0)

@@ -1,7 +1,7 @@
 use Rattle.std.proofs.Common.{subst}
 use Rattle.ds_screen.specs.Planes.{Held, IsIndex}
 use Rattle.ds_screen.proofs.HalvingLaws.{from_ahead, from_again}
-use Rattle.ds_screen.proofs.plane_cells.PlaneCellsCells.attr_from.Goals as goal
+use Rattle.ds_screen.proofs.plane_cells.PlaneCellsCells.attr_near.Goals as goal
 
 pub returns-in-Some-clause-nearest : goal.returns-in-Some-clause-nearest
 returns-in-Some-clause-nearest c =
@@ -11,7 +11,7 @@ returns-in-Some-clause-nearest c =
 
 pub returns-clause-nearest : goal.returns-clause-nearest
 returns-clause-nearest c =
-    from_again c.self.inside.index.entries c.args.self.now.cells c.args.p c.first_from-2.result
+    from_again c.self.inside.index.entries c.args.self.now.cells c.args.p c.first_from.result
     (subst (λ (u : Held). IsIndex c.self.inside.index.entries u.cells) c.self.view_is c.self.invariant.0) c.requires
     c.in_default.ensures
-    c.first_from-2.ensures
+    c.first_from.ensures

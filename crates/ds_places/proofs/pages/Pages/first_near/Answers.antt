@@ -2,7 +2,7 @@ use Rattle.std.proofs.Common.{◌+◌, ◌/◌, get_or, Some, None, ◌∙◌, a
 use Rattle.ds_places.specs.Nearest.{IsFirstFrom}
 use Rattle.ds_places.specs.Pages.{Paged, lists_of, list_at, itself}
 use Rattle.ds_places.proofs.PageLaws.{first_in, first_later, first_nowhere}
-use Rattle.ds_places.proofs.pages.Pages.first_from.Goals as goal
+use Rattle.ds_places.proofs.pages.Pages.first_near.Goals as goal
 
 pub returns-in-Some : goal.returns-in-Some
 returns-in-Some g c =
