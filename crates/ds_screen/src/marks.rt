@@ -290,8 +290,9 @@ impl Surface for Marks {
 
     fn stop_from(&self, from: u32) -> u32 {
         let n = self.size;
+        let mut guess = 0;
         let mut at = from;
-        'marks: while let Some(mark) = self.marks.first_from(at) {
+        'marks: while let Some(mark) = self.marks.first_near(at, &mut guess) {
             if !mark.attribute.protected() {
                 return next(n, mark.at);
             }
@@ -307,8 +308,9 @@ impl Surface for Marks {
     fn first_open(&self) -> u32 {
         let n = self.size;
         let mut before = self.last_ruling();
+        let mut guess = 0;
         let mut place = 0;
-        'marks: while let Some(mark) = self.marks.first_from(place) {
+        'marks: while let Some(mark) = self.marks.first_near(place, &mut guess) {
             if place < mark.at && !before.protected() {
                 return place;
             }

@@ -114,8 +114,9 @@ fn reset_listed(planes: &mut Planes, index: &Pages<u32>, which: Reset)
     } }
 {
     let _places = planes.len();
+    let mut guess = 0;
     let mut at = 0;
-    'listed: while let Some(q) = index.first_from(at) {
+    'listed: while let Some(q) = index.first_near(at, &mut guess) {
         let cell = reset_cell(which, &planes.cell(q));
         planes.put(q, cell);
         at = q + 1;
@@ -320,8 +321,9 @@ impl Cells for PlaneCells {
 
     fn stop_from(&self, from: u32) -> u32 {
         let n = self.planes.len();
+        let mut guess = 0;
         let mut at = from;
-        'stops: while let Some(q) = self.index.first_from(at) {
+        'stops: while let Some(q) = self.index.first_near(at, &mut guess) {
             if is_unprotected_field(self.planes.cell(q)) {
                 return next(n, q);
             }
