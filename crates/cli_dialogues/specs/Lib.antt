@@ -4,3 +4,4 @@ pub mod Dialogues
 pub mod Lasts
 pub mod Lines
 pub mod Alone
+pub mod Limits

@@ -1,6 +1,7 @@
 //! Hosts of an application.
 
 ghost use Rattle.std.specs.Prelude.{◌≡◌, []};
+ghost use Rattle.cli_dialogues.specs.Limits.{limits_over};
 
 use crate::application::Application;
 use crate::hosted::{Dialogue, open_dialogue};
@@ -32,7 +33,7 @@ impl<'a> DialogueHosts<'a> {
     pub fn new(alloc: Global, application: &'a Application, patience: u64) -> DialogueHosts<'a>
         ensures offered { result.offered ≡ application.now }
         ensures none { (result.room.seats ≡ []) × (result.room.came ≡ 0) }
-        ensures patience { result.room.limits.patience ≡ patience }
+        ensures limits { result.room.limits ≡ limits_over patience application.now.screens }
     {
         let limits = dialogue_limits(application.screens.as_slice(), patience);
         DialogueHosts {

@@ -17,3 +17,6 @@ pub use last::Last;
 pub use laws::dialogue_host_law;
 pub use limits::dialogue_limits;
 pub use settling::settle_dialogue;
+
+#[cfg(test)]
+mod tests;

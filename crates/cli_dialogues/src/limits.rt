@@ -1,7 +1,10 @@
 //! What a terminal may do to the host of an application.
 
-ghost use Rattle.std.specs.Prelude.{◌≡◌, ◌≤◌};
+ghost use Rattle.std.specs.Prelude.{◌≡◌, map, sum_by};
+ghost use Rattle.cli_hosts.specs.Limits.{counted, room_of};
+ghost use Rattle.cli_dialogues.specs.Limits.{screen_room, greatest, limits_over};
 
+use cli_hosts::record_room;
 use session_hub::Limits;
 use tn_dialogue::Screen;
 
@@ -11,38 +14,40 @@ const MOST_HEARD: u64 = 1_048_576;
 /// The bytes that may wait to go out, beside the records of a screen.
 const MOST_DUE: usize = 65_536;
 
-/// The bytes of a record beside its own, at most.
-const OF_RECORD: usize = 16;
-
-/// The bytes that go out for records, at most: each byte may be doubled.
-fn most_of(records: &[Vec<u8>]) -> usize {
-    let mut most: usize = 0;
-    for bytes in records {
-        let doubled = bytes.len().saturating_mul(2).saturating_add(OF_RECORD);
-        most = most.saturating_add(doubled);
+/// The bytes of records on their way, at most.
+fn room_of(records: &[Vec<u8>]) -> usize
+    ensures { result ≡ counted (sum_by room_of (map (λ bytes. bytes.items) records.now)) }
+{
+    let mut room: usize = 0;
+    let mut rest = records;
+    while let [bytes, others @ ..] = rest {
+        room = room.saturating_add(record_room(bytes.len()));
+        rest = others;
     }
-    most
+    room
 }
 
-/// The bytes that go out for the longest of screens, at most.
-fn longest(screens: &[Screen]) -> usize {
-    let mut longest = 0;
-    for screen in screens {
-        longest = longest.max(most_of(screen.records.as_slice()));
+/// The bytes of the records of a screen on their way, at most, for the screen whose are most.
+fn longest(screens: &[Screen]) -> usize
+    ensures { result ≡ counted (greatest (map screen_room screens.now)) }
+{
+    let mut longest: usize = 0;
+    let mut rest = screens;
+    while let [screen, others @ ..] = rest {
+        longest = longest.max(room_of(screen.records.as_slice()));
+        rest = others;
     }
     longest
 }
 
 /// What a terminal may do to a host of these screens, where for so long nothing need come: 1,048,576 bytes may come of it, and
-/// 65,536 bytes may wait to go out to it, beside the records of the longest screen.
+/// 65,536 bytes may wait to go out to it, beside the longest screen's records on their way: twice their bytes, and 16 for each.
 pub fn dialogue_limits(screens: &[Screen], patience: u64) -> Limits
-    ensures patience { result.patience ≡ patience }
-    ensures heard { result.most_heard ≡ 1048576 }
-    ensures due { 65536 ≤ result.most_due }
+    ensures { result ≡ limits_over patience screens.now }
 {
     Limits {
         patience,
         most_heard: MOST_HEARD,
-        most_due: longest(screens).saturating_add(MOST_DUE),
+        most_due: MOST_DUE.saturating_add(longest(screens)),
     }
 }

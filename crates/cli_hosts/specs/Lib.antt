@@ -5,3 +5,4 @@ pub mod Printed
 pub mod Alone
 pub mod Hosts
 pub mod Screens
+pub mod Limits

@@ -7,22 +7,10 @@ ghost use Rattle.tn_session.specs.HostView.{some_outcome};
 ghost use Rattle.cli_hosts.specs.Hosting.{Hosting, HostTakes, hosting};
 
 use scr_layout::Layout;
-use session_hub::{Came, Hub, Limits, Session};
+use session_hub::{Came, Hub, Session};
 use std::alloc::Global;
 use std::marker::Model;
 use tn_session::{HostOutcome, HostSession, Progress, RunFault};
-
-/// The bytes that a terminal may send before its session is over, but for its RESPONSES.
-const MOST_HEARD: u64 = 131_072;
-
-/// The bytes of a RESPONSE, at most.
-const OF_RESPONSE: u64 = 16;
-
-/// The bytes that may wait to go out, beside the records.
-const MOST_DUE: usize = 65_536;
-
-/// The bytes of a record beside its own, at most.
-const OF_RECORD: usize = 16;
 
 /// A host's session, with why it failed.
 #[derive(Drop)]
@@ -78,25 +66,6 @@ impl<'a> Session for Hosted<'a> {
                 Came::Over
             }
         }
-    }
-}
-
-/// What a terminal may do to a host that sends these records, where for so long nothing need come: 131,072 bytes may come of it,
-/// and 16 more for each record; and 65,536 bytes may wait to go out to it, beside the records themselves.
-pub fn host_limits(records: &[&[u8]], patience: u64) -> Limits
-    ensures { result.patience ≡ patience }
-{
-    let mut most_heard = MOST_HEARD;
-    let mut most_due = MOST_DUE;
-    for bytes in records {
-        most_heard = most_heard.saturating_add(OF_RESPONSE);
-        let doubled = bytes.len().saturating_mul(2).saturating_add(OF_RECORD);
-        most_due = most_due.saturating_add(doubled);
-    }
-    Limits {
-        patience,
-        most_heard,
-        most_due,
     }
 }
 

@@ -1,9 +1,11 @@
 //! Hosts of one screen.
 
-ghost use Rattle.std.specs.Prelude.{◌≡◌, []};
+ghost use Rattle.std.specs.Prelude.{◌≡◌, [], map};
+ghost use Rattle.cli_hosts.specs.Limits.{limits_for};
 
-use crate::hosted::{Hosted, host_limits, open_host};
+use crate::hosted::{Hosted, open_host};
 use crate::hosts::Hosts;
+use crate::limits::host_limits;
 use crate::settling::{Settled, settle};
 use cli_commands::{Status, TakesBytes};
 use cli_sessions::Output;
@@ -38,7 +40,8 @@ impl<'a> ScreenHosts<'a> {
     ) -> ScreenHosts<'a>
         ensures entries { result.entries ≡ layout.now.entries }
         ensures none { (result.room.seats ≡ []) × (result.room.came ≡ 0) }
-        ensures patience { result.room.limits.patience ≡ patience }
+        ensures limits { result.room.limits
+            ≡ limits_for patience (map (λ bytes. bytes.now) records.now) }
     {
         ScreenHosts {
             hub: Hub::new(alloc, host_limits(records, patience)),
