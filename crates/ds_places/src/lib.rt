@@ -13,4 +13,4 @@ pub use change::Change;
 pub use edits::add;
 pub use pages::{Nearest, Pages};
 pub use placed::Placed;
-pub use search::held;
+pub use search::{held, held_near};

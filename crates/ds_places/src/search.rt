@@ -59,19 +59,24 @@ pub(crate) fn rank_from<T: Placed>(entries: &[T], start: usize, place: u32) -> u
     rank(entries, place)
 }
 
-/// The same, where it is guessed which entry is the last with a place below this one: no search where that is so.
+/// The same, where an index near it is guessed: no search where it is that one, or the next.
 #[inline(always)]
-pub(crate) fn rank_after<T: Placed>(entries: &[T], guess: usize, place: u32) -> usize
+pub(crate) fn rank_near<T: Placed>(entries: &[T], guess: usize, place: u32) -> usize
     requires { IsRising T.place_of entries.now }
     ensures parts { IsPartitionPoint (λ entry. T.place_of entry < place)
         (λ entry. place ≤ T.place_of entry) entries.now result }
     ensures within { result ≤ length entries.now }
 {
-    if guess < entries.len() && entries[guess].place() < place {
-        rank_from(entries, guess + 1, place)
-    } else {
-        rank(entries, place)
+    if guess >= entries.len() {
+        return rank(entries, place);
     }
+    if entries[guess].place() < place {
+        return rank_from(entries, guess + 1, place);
+    }
+    if guess > 0 && entries[guess - 1].place() >= place {
+        return rank(entries, place);
+    }
+    guess
 }
 
 /// Where the entry of a place stands, or where one is to be inserted.
@@ -100,6 +105,20 @@ pub fn held<T: Placed>(entries: &[T], place: u32) -> Option<T>
     match slot(entries, place) {
         Ok(index) => Some(entries[index]),
         Err(_) => None,
+    }
+}
+
+/// The same, for one that asks for places in turn: `guess` is what the search before left there, and any number at first.
+/// It spares the search where the entry is near, and changes nothing of what is found.
+pub fn held_near<T: Placed>(entries: &[T], place: u32, guess: &mut usize) -> Option<T>
+    requires { IsRising T.place_of entries.now }
+    ensures { result ≡ at_place T.place_of entries.now place }
+{
+    let entry = first_near(entries, place, guess)?;
+    if entry.place() == place {
+        Some(entry)
+    } else {
+        None
     }
 }
 
@@ -169,14 +188,14 @@ pub(crate) fn first_from<T: Placed>(entries: &[T], place: u32) -> Option<T>
     first_near(entries, place, &mut guess)
 }
 
-/// The same, where the index of the entry before it is guessed. What is found is the same whatever the guess, and its
-/// index is the next one.
+/// The same, where an index near its own is guessed, and that is the next guess. What is found is the same whatever is
+/// guessed.
 #[inline(always)]
 pub(crate) fn first_near<T: Placed>(entries: &[T], place: u32, guess: &mut usize) -> Option<T>
     requires { IsRising T.place_of entries.now }
     ensures { IsFirstFrom T.place_of entries.now place result }
 {
-    let index = rank_after(entries, *guess, place);
+    let index = rank_near(entries, *guess, place);
     *guess = index;
     if index < entries.len() {
         Some(entries[index])

@@ -191,6 +191,16 @@ impl Marks {
         }
     }
 
+    /// The same, for one that asks for positions in turn.
+    pub(crate) fn is_marked_near(&self, p: u32, guess: &mut usize) -> bool
+        ensures { Tells IsMarked self.now (λ cells. result ≡ is_attribute (cell_at cells p)) }
+    {
+        match self.marks.first_near(p, guess) {
+            Some(mark) => mark.at == p,
+            None => false,
+        }
+    }
+
     /// The field whose attribute stands at a position.
     pub(crate) fn field_held(&self, p: u32) -> Option<FieldAt>
         ensures { Tells IsMarked self.now (λ cells. result ≡ field_there cells p) }

@@ -120,6 +120,15 @@ impl Outline {
         self.marks.is_marked(p)
     }
 
+    /// The same, for one that asks for positions in turn: `guess` is what the question before left there, and any number at
+    /// first. It spares the search where the attribute is near, and changes nothing of what is answered.
+    pub fn has_attribute_near(&self, p: u32, guess: &mut usize) -> bool
+        ensures { (v : Picture) → IsOutlineOf self.now v
+            → result ≡ is_attribute (cell_at v.cells p) }
+    {
+        self.marks.is_marked_near(p, guess)
+    }
+
     /// Erase All Unprotected (GA23-0059, "Commands").
     fn erase_all_unprotected(&mut self) -> Effect
         ensures shown { OutlinesCleared self.old self.new }

@@ -110,18 +110,23 @@ fn entry_finding(
 
 /// What stands against a field.
 #[tactic(auto, unfolding(crate::specs::Findings::field_finding))]
-fn field_finding(cursor: Cursor, field: &FieldAt, layout: &Layout) -> Option<Finding>
+fn field_finding(
+    cursor: Cursor,
+    field: &FieldAt,
+    layout: &Layout,
+    guess: &mut usize,
+) -> Option<Finding>
     ensures { FromCursor cursor (λ v. result ≡ field_finding layout.now.entries v field.now) }
 {
     if field.length == 0 {
         return empty_finding(field);
     }
-    let index = layout.entry_at(field.place);
+    let index = layout.entry_near(field.place, guess);
     entry_finding(cursor, field, layout.entries(), index)
 }
 
 /// Whether a field that governs cells begins at a place of the screen.
-fn has_field(outline: &Outline, place: u32) -> bool
+fn has_field(outline: &Outline, place: u32, guess: &mut usize) -> bool
     ensures { (v : Picture) → IsOutlineOf outline.now v → place < length v.cells
         → result ≡ has_field v.cells place }
 {
@@ -129,10 +134,10 @@ fn has_field(outline: &Outline, place: u32) -> bool
     if cells <= place {
         return false;
     }
-    if outline.has_attribute(place) {
+    if !outline.has_attribute_near(previous(cells, place), guess) {
         return false;
     }
-    outline.has_attribute(previous(cells, place))
+    !outline.has_attribute_near(place, guess)
 }
 
 /// Adds what stands against the fields, in the order of their attributes.
@@ -146,8 +151,9 @@ fn add_fields(
         → findings.new.items ≡ findings.old.items
         ++ flat_map (λ field. option_to_list (field_finding layout.now.entries v field)) (fields_of v.cells)) }
 {
+    let mut guess = 0;
     for field in outline.fields() {
-        if let Some(finding) = field_finding(cursor, &field, layout) {
+        if let Some(finding) = field_finding(cursor, &field, layout, &mut guess) {
             findings.push(finding)?;
         }
     }
@@ -164,8 +170,9 @@ fn add_missing(
         → All (λ entry. entry.place < length v.cells) entries.now
         → findings.new.items ≡ findings.old.items ++ missing_from v.cells 0 entries.now) }
 {
+    let mut guess = 0;
     for (index, entry) in entries.iter().enumerate() {
-        if !has_field(outline, entry.place) {
+        if !has_field(outline, entry.place, &mut guess) {
             findings.push(Finding::Missing(index))?;
         }
     }
@@ -173,7 +180,7 @@ fn add_missing(
 }
 
 /// What stands against a screen of the layout's size, by its outline: against its fields in the order of their
-/// attributes, and then against the entries that have none. Both are found by halving.
+/// attributes, and then against the entries that have none. Each is found near the one before it, or else by halving.
 pub(crate) fn findings_of(
     alloc: Global,
     outline: &Outline,

@@ -17,7 +17,7 @@ use crate::top::{
     Version, alternate_of, default_of, fields_of, mode_of, screen_of, top_of, version_of,
 };
 use ds_codec::{Geometry, Size};
-use ds_places::held;
+use ds_places::{held, held_near};
 use std::alloc::{AllocError, Global};
 use std::marker::Model;
 use toml::{Table, Value};
@@ -153,6 +153,17 @@ impl Layout {
         ensures { result ≡ position (λ entry. place == entry.place) self.now.entries }
     {
         match held(&self.table, place) {
+            Some(found) => Some(found.index),
+            None => None,
+        }
+    }
+
+    /// The same, for one that asks for positions in turn: `guess` is what the question before left there, and any number at
+    /// first. It spares the search where the entry is near, and changes nothing of what is found.
+    pub fn entry_near(&self, place: u32, guess: &mut usize) -> Option<usize>
+        ensures { result ≡ position (λ entry. place == entry.place) self.now.entries }
+    {
+        match held_near(&self.table, place, guess) {
             Some(found) => Some(found.index),
             None => None,
         }
