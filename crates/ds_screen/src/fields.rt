@@ -90,7 +90,8 @@ fn first_ahead<C: Cells>(cells: &C, guess: &mut usize) -> Option<u32>
 fn length_to<C: Cells>(cells: &C, at: u32, ahead: Option<u32>) -> u32
     requires inside { at < length (C.content cells.now) }
     requires there { is_attribute (cell_at (C.content cells.now) at) ≡ true }
-    requires ahead { ahead ≡ attribute_from (C.content cells.now) (ring_on (length (C.content cells.now)) at 1) }
+    requires ahead { ahead
+        ≡ attribute_from (C.content cells.now) (ring_on (length (C.content cells.now)) at 1) }
     requires within { IfSome ahead (λ q. q < length (C.content cells.now)) }
     ensures { result ≡ length (span_of (C.content cells.now) at) }
 {
