@@ -202,9 +202,14 @@ fn push_index(row: &mut Row, index: Option<usize>) {
 /// How many entries there are, and the index of the entry at each of some places.
 pub(crate) fn push_places(row: &mut Row, layout: &Layout, words: &str) {
     row.length(layout.entries().len());
+    let mut guess = 0;
     for word in words.split(' ') {
         let place = row.read_number(word);
-        push_index(row, layout.entry_at(place));
+        let found = layout.entry_at(place);
+        if layout.entry_near(place, &mut guess) != found {
+            return row.spoil();
+        }
+        push_index(row, found);
     }
 }
 

@@ -8,7 +8,7 @@ use Rattle.tn_session.specs.Talk.{Talk}
 use Rattle.tn_dialogue.specs.Dialogue.{Running}
 use Rattle.tn_dialogue.specs.DialogueTalk.{answers_in}
 use Rattle.cli_hosts.specs.declared.settling.Settled.{Settled}
-use Rattle.cli_hosts.specs.Hosts.{TellsOne}
+use Rattle.cli_hosts.specs.Hosts.{TellsOne, SettlesOne}
 use Rattle.cli_dialogues.specs.Applications.{Offered}
 use Rattle.cli_dialogues.specs.Lasts.{settled_by}
 use Rattle.cli_dialogues.specs.Lines.{IsToldDialogue, SettlesDialogue, ended_lines, last_ended}
@@ -25,3 +25,10 @@ tells_one offered (Some ended) old new (Err Failed) part =
 tells_one offered (Some ended) old new (Err Done) printed = absurd printed
 tells_one offered (Some ended) old new (Err Findings) printed = absurd printed
 tells_one offered (Some ended) old new (Err BadInput) printed = absurd printed
+
+pub settles_one : (offered : Offered) (ended : Option (Ended (Talk Running))) (old new : Printing) (result : Result (Option Settled) Status)
+    → SettlesDialogue offered ended old new result → SettlesOne ended result
+settles_one offered None old new result (is, same) = is
+settles_one offered (Some ended) old new (Ok (Some settled)) printed = tt
+settles_one offered (Some ended) old new (Ok None) printed = printed
+settles_one offered (Some ended) old new (Err status) printed = tt

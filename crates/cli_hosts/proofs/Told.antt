@@ -8,7 +8,7 @@ use Rattle.session_hub.specs.declared.hub.Ended.{Ended}
 use Rattle.session_hub.specs.Hubs.{Taking, Room, At, Opens, Steps, seat_at}
 use Rattle.cli_hosts.specs.declared.settling.Settled.{Settled}
 use Rattle.cli_hosts.specs.Hosting.{Hosting}
-use Rattle.cli_hosts.specs.Hosts.{TellsOne, Opened}
+use Rattle.cli_hosts.specs.Hosts.{TellsOne, SettlesOne, Opened}
 use Rattle.cli_hosts.specs.Screens.{IsToldOf}
 use Rattle.cli_hosts.specs.Words.{word_ended, word_lines, settled_of, Settles}
 
@@ -24,6 +24,13 @@ tells_one entries (Some ended) old new (Err Failed) part =
 tells_one entries (Some ended) old new (Err Done) printed = absurd printed
 tells_one entries (Some ended) old new (Err Findings) printed = absurd printed
 tells_one entries (Some ended) old new (Err BadInput) printed = absurd printed
+
+pub settles_one : (entries : List Declared) (ended : Option (Ended Hosting)) (old new : Printing) (result : Result (Option Settled) Status)
+    → Settles entries ended old new result → SettlesOne ended result
+settles_one entries None old new result (is, same) = is
+settles_one entries (Some ended) old new (Ok (Some settled)) printed = tt
+settles_one entries (Some ended) old new (Ok None) printed = printed
+settles_one entries (Some ended) old new (Err status) printed = tt
 
 -- a terminal that came to the hub that hosts have
 pub opens_one : {S : Type 0} (takes : Taking S) (room old : Room S) (now token : ℕ) (new : Room S) (session : S) (opening : List ℕ) → room ≡ old

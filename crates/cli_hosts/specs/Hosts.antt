@@ -2,6 +2,7 @@
 use Rattle.std.specs.Prelude.{ℕ, ◌≡◌, ◌+◌, ◌⊎◌, true, false, List, Option, Some, None, Result, Ok, Err}
 use Rattle.cli_commands.specs.declared.status.Status.{Status}
 use Rattle.cli_commands.specs.declared.status.Status.TheVariants.{Failed, NoMemory}
+use Rattle.session_hub.specs.declared.hub.Ended.{Ended}
 use Rattle.session_hub.specs.Hubs.{Taking, At, Opens, Room, Steps, seat_at}
 use Rattle.cli_sessions.specs.Printing.{Printing, IsPrinted}
 use Rattle.cli_hosts.specs.declared.settling.Settled.{Settled}
@@ -18,6 +19,12 @@ TellsOne IsTold old new (Ok (Some settled)) = (number : ℕ) × (text : List ℕ
 TellsOne IsTold old new (Err NoMemory) = new ≡ old
 TellsOne IsTold old new (Err Failed) = (number : ℕ) × (settled : Settled) × (text : List ℕ) × IsTold number settled text × Writes old new text false
 TellsOne IsTold old new (Err status) = ⊥
+
+-- a terminal that ended is told, or the command ends; of another nothing is told
+abbrev pub SettlesOne : {S : Type 0} → Option (Ended S) → Result (Option Settled) Status → Type 0
+SettlesOne None result = result ≡ Ok None
+SettlesOne (Some ended) (Ok None) = ⊥
+SettlesOne (Some ended) result = Unit {0}
 
 -- A terminal that came has the next number and a token that no other has, and a session at its beginning; else the seats stay.
 abbrev pub Opened : {S : Type 0} → Taking S → Room S → ℕ → Room S → Option ℕ → Type 0

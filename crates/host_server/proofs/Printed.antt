@@ -9,6 +9,7 @@ use Rattle.cli_commands.specs.declared.status.Status.{Status}
 use Rattle.cli_commands.specs.declared.status.Status.TheVariants.{Failed as HasEnded, NoMemory}
 use Rattle.cli_sessions.proofs.Serving.{appends_none}
 use Rattle.cli_sessions.specs.Printing.{Printing, IsPrinted}
+use Rattle.session_hub.specs.Hubs.{Room}
 use Rattle.host_server.specs.Waiting.{Waiting, added, most_waiting, nothing_waits, IsLeft, Passes}
 use Rattle.host_server.specs.Serving.{Serving, Keeps as KeepsServing, Went, texts_of, Telling, Settled, Goes, all_added, IsFront, IsCause, Prints, EndsSo, StopsSo, IsCut, ServesAll}
 use Rattle.host_server.proofs.Served.{texts_more, settled_none, settled_then, settled_kept, keeps_then}
@@ -115,30 +116,30 @@ tells_all texts gone (one ∷ went) waiting before after a =
 
 -- ---- what a server prints
 
-pub prints_none : {H C : Type 0} (content : H → C) (IsTold : Telling C) (server : Serving H) (at : Printing) (waiting : Waiting) → waiting ≡ nothing_waits
-    → Prints content IsTold server server at at waiting
-prints_none content IsTold server at waiting none = subst (Prints content IsTold server server at at) (sym none) (record {
-  settled = settled_none content IsTold server;
+pub prints_none : {H C S : Type 0} (content : H → C) (room : H → Room S) (IsTold : Telling C) (server : Serving H) (at : Printing) (waiting : Waiting) → waiting ≡ nothing_waits
+    → Prints content room IsTold server server at at waiting
+prints_none content room IsTold server at waiting none = subst (Prints content room IsTold server server at at) (sym none) (record {
+  settled = settled_none content room IsTold server;
   gone = [];
   written = appends_none at.written;
   front = refl;
   cause = refl;
 })
 
-pub prints_kept : {H C : Type 0} (content : H → C) (IsTold : Telling C) (old mid new : Serving H) (before after : Printing) (waiting : Waiting)
-    → Prints content IsTold old mid before after waiting → KeepsServing content mid new → Prints content IsTold old new before after waiting
-prints_kept content IsTold old mid new before after waiting a same = record {
-  settled = settled_kept content IsTold old mid new a.settled same;
+pub prints_kept : {H C S : Type 0} (content : H → C) (room : H → Room S) (IsTold : Telling C) (old mid new : Serving H) (before after : Printing) (waiting : Waiting)
+    → Prints content room IsTold old mid before after waiting → KeepsServing content room mid new → Prints content room IsTold old new before after waiting
+prints_kept content room IsTold old mid new before after waiting a same = record {
+  settled = settled_kept content room IsTold old mid new a.settled same;
   gone = a.gone;
   written = a.written;
   front = a.front;
   cause = a.cause;
 }
 
-pub prints_goes : {H C : Type 0} (content : H → C) (IsTold : Telling C) (old mid new : Serving H) (before after : Printing) (waiting later : Waiting)
-    → Prints content IsTold old mid before after waiting → Goes content IsTold mid new waiting later → Prints content IsTold old new before after later
-prints_goes content IsTold old mid new before after waiting later a b =
-    let settled = settled_then content IsTold old mid new a.settled b.settled in
+pub prints_goes : {H C S : Type 0} (content : H → C) (room : H → Room S) (IsTold : Telling C) (old mid new : Serving H) (before after : Printing) (waiting later : Waiting)
+    → Prints content room IsTold old mid before after waiting → Goes content room IsTold mid new waiting later → Prints content room IsTold old new before after later
+prints_goes content room IsTold old mid new before after waiting later a b =
+    let settled = settled_then content room IsTold old mid new a.settled b.settled in
     let tells : Tells (texts_of settled.went) before after a.gone later =
     subst (λ w. Tells (texts_of settled.went) before after a.gone w) (sym b.waits)
     (subst (λ t. Tells t before after a.gone (all_added waiting b.settled.went)) (sym (texts_more a.settled.went b.settled.went))
@@ -166,24 +167,24 @@ cause_failed false before mid after texts failed cause = inl (subst (λ (f : ℕ
 cause_failed true before mid after texts failed (inl earlier) = inl (failed_then before.failures mid.failures after.failures earlier (inr failed))
 cause_failed true before mid after texts failed (inr much) = inr much
 
-pub prints_passes : {H C : Type 0} (content : H → C) (IsTold : Telling C) (old new : Serving H) (before mid after : Printing) (waiting later : Waiting)
-    → Prints content IsTold old new before mid waiting → Passes mid after waiting later → Prints content IsTold old new before after later
-prints_passes content IsTold old new before mid after waiting later a b = prints_by b.left where
+pub prints_passes : {H C S : Type 0} (content : H → C) (room : H → Room S) (IsTold : Telling C) (old new : Serving H) (before mid after : Printing) (waiting later : Waiting)
+    → Prints content room IsTold old new before mid waiting → Passes mid after waiting later → Prints content room IsTold old new before after later
+prints_passes content room IsTold old new before mid after waiting later a b = prints_by b.left where
   texts : List ℕ
   texts = texts_of a.settled.went
 
   moved : a.gone ++ waiting.bytes ≡ (a.gone ++ b.gone) ++ b.rest
   moved = ap (λ (w : List ℕ). a.gone ++ w) b.waited ∙ sym (append_assoc a.gone b.gone b.rest)
 
-  prints_by : IsLeft mid after b.rest waiting later → Prints content IsTold old new before after later
-  prints_by (inl going) = subst (Prints content IsTold old new before after) (sym going.0) (record {
+  prints_by : IsLeft mid after b.rest waiting later → Prints content room IsTold old new before after later
+  prints_by (inl going) = subst (Prints content room IsTold old new before after) (sym going.0) (record {
     settled = a.settled;
     gone = a.gone ++ b.gone;
     written = appends_more before.written mid.written after.written a.gone b.gone a.written b.written;
     front = front_at waiting.cut texts (a.gone ++ waiting.bytes) ((a.gone ++ b.gone) ++ b.rest) moved a.front;
     cause = cause_kept waiting.cut before mid after texts going.1 a.cause;
   })
-  prints_by (inr failed) = subst (Prints content IsTold old new before after) (sym failed.0) (record {
+  prints_by (inr failed) = subst (Prints content room IsTold old new before after) (sym failed.0) (record {
     settled = a.settled;
     gone = a.gone ++ b.gone;
     written = appends_more before.written mid.written after.written a.gone b.gone a.written b.written;
@@ -194,18 +195,18 @@ prints_passes content IsTold old new before mid after waiting later a b = prints
 -- ---- the end
 
 -- what was written, once nothing waits
-whole : {H C : Type 0} (content : H → C) (IsTold : Telling C) (old new : Serving H) (before after : Printing) (waiting : Waiting)
-    (a : Prints content IsTold old new before after waiting) → waiting.bytes ≡ [] → waiting.cut ≡ false → IsPrinted before after (texts_of a.settled.went) true
-whole content IsTold old new before after waiting a none uncut =
+whole : {H C S : Type 0} (content : H → C) (room : H → Room S) (IsTold : Telling C) (old new : Serving H) (before after : Printing) (waiting : Waiting)
+    (a : Prints content room IsTold old new before after waiting) → waiting.bytes ≡ [] → waiting.cut ≡ false → IsPrinted before after (texts_of a.settled.went) true
+whole content room IsTold old new before after waiting a none uncut =
     let front : texts_of a.settled.went ≡ a.gone ++ waiting.bytes =
     subst (λ c. IsFront c (texts_of a.settled.went) (a.gone ++ waiting.bytes)) uncut a.front in (
       subst (Appends before.written after.written) (sym (front ∙ ap (λ b. a.gone ++ b) none ∙ append-nil a.gone)) a.written,
       subst (λ c. IsCause c before after (texts_of a.settled.went)) uncut a.cause,
     )
 
-part : {H C : Type 0} (content : H → C) (IsTold : Telling C) (old new : Serving H) (before after : Printing) (waiting : Waiting)
-    (a : Prints content IsTold old new before after waiting) → waiting.bytes ≡ [] → waiting.cut ≡ true → IsCut (texts_of a.settled.went) before after
-part content IsTold old new before after waiting a none cut =
+part : {H C S : Type 0} (content : H → C) (room : H → Room S) (IsTold : Telling C) (old new : Serving H) (before after : Printing) (waiting : Waiting)
+    (a : Prints content room IsTold old new before after waiting) → waiting.bytes ≡ [] → waiting.cut ≡ true → IsCut (texts_of a.settled.went) before after
+part content room IsTold old new before after waiting a none cut =
     let front : IsFront true (texts_of a.settled.went) (a.gone ++ waiting.bytes) =
     subst (λ c. IsFront c (texts_of a.settled.went) (a.gone ++ waiting.bytes)) cut a.front in (
       (a.gone, front.0, front.1 ∙ ap (λ g. g ++ front.0) (ap (λ b. a.gone ++ b) none ∙ append-nil a.gone), a.written),
@@ -226,30 +227,30 @@ own_status E server waiting status uncut (inl ends) = inl ends
 own_status E server waiting status uncut (inr (inl memory)) = inr memory
 own_status E server waiting status uncut (inr (inr cut)) = absurd (true≢false (sym cut ∙ uncut))
 
-serves_whole : {H C E : Type 0} (content : H → C) (IsTold : Telling C) (old new : Serving H) (before after : Printing) (waiting : Waiting) (stopped : Result Status E)
-    (settled : Settled content IsTold old new) → IsPrinted before after (texts_of settled.went) true → waiting.cut ≡ false → StopsSo new waiting stopped
-    → ServesAll content IsTold old before after stopped
-serves_whole {E = E} content IsTold old new before after waiting (Ok status) settled printed uncut stops =
+serves_whole : {H C S E : Type 0} (content : H → C) (room : H → Room S) (IsTold : Telling C) (old new : Serving H) (before after : Printing) (waiting : Waiting) (stopped : Result Status E)
+    (settled : Settled content room IsTold old new) → IsPrinted before after (texts_of settled.went) true → waiting.cut ≡ false → StopsSo new waiting stopped
+    → ServesAll content room IsTold old before after stopped
+serves_whole {E = E} content room IsTold old new before after waiting (Ok status) settled printed uncut stops =
     (new, settled, inl (printed, own_status E new waiting status uncut stops))
-serves_whole content IsTold old new before after waiting (Err error) settled printed uncut stops = (new, settled, printed)
+serves_whole content room IsTold old new before after waiting (Err error) settled printed uncut stops = (new, settled, printed)
 
-serves_by : {H C E : Type 0} (content : H → C) (IsTold : Telling C) (old new : Serving H) (before mid after : Printing) (waiting later : Waiting) (stopped result : Result Status E)
-    (cut : Bool) → later.cut ≡ cut → Prints content IsTold old new before after later → StopsSo new waiting stopped → Passes mid after waiting later → later.bytes ≡ []
-    → (later.cut ≡ true → result ≡ Ok HasEnded) → (later.cut ≡ false → result ≡ stopped) → ServesAll content IsTold old before after result
-serves_by content IsTold old new before mid after waiting later stopped result true is a stops passes none failed same =
-    subst (ServesAll content IsTold old before after) (sym (failed is))
-    (new, a.settled, inr (part content IsTold old new before after later a none is, refl))
-serves_by content IsTold old new before mid after waiting later stopped result false is a stops passes none failed same =
-    subst (ServesAll content IsTold old before after) (sym (same is))
-    (serves_whole content IsTold old new before after waiting stopped a.settled (whole content IsTold old new before after later a none is)
+serves_by : {H C S E : Type 0} (content : H → C) (room : H → Room S) (IsTold : Telling C) (old new : Serving H) (before mid after : Printing) (waiting later : Waiting) (stopped result : Result Status E)
+    (cut : Bool) → later.cut ≡ cut → Prints content room IsTold old new before after later → StopsSo new waiting stopped → Passes mid after waiting later → later.bytes ≡ []
+    → (later.cut ≡ true → result ≡ Ok HasEnded) → (later.cut ≡ false → result ≡ stopped) → ServesAll content room IsTold old before after result
+serves_by content room IsTold old new before mid after waiting later stopped result true is a stops passes none failed same =
+    subst (ServesAll content room IsTold old before after) (sym (failed is))
+    (new, a.settled, inr (part content room IsTold old new before after later a none is, refl))
+serves_by content room IsTold old new before mid after waiting later stopped result false is a stops passes none failed same =
+    subst (ServesAll content room IsTold old before after) (sym (same is))
+    (serves_whole content room IsTold old new before after waiting stopped a.settled (whole content room IsTold old new before after later a none is)
     (cut_stays mid after waiting later passes is) stops)
 
-pub serves_all : {H C E : Type 0} (content : H → C) (IsTold : Telling C) (old new : Serving H) (before mid after : Printing) (waiting later : Waiting) (stopped result : Result Status E)
-    → Prints content IsTold old new before mid waiting → StopsSo new waiting stopped → Passes mid after waiting later → later.bytes ≡ []
-    → (later.cut ≡ true → result ≡ Ok HasEnded) → (later.cut ≡ false → result ≡ stopped) → ServesAll content IsTold old before after result
-serves_all content IsTold old new before mid after waiting later stopped result a stops passes none failed same =
-    serves_by content IsTold old new before mid after waiting later stopped result later.cut refl
-    (prints_passes content IsTold old new before mid after waiting later a passes) stops passes none failed same
+pub serves_all : {H C S E : Type 0} (content : H → C) (room : H → Room S) (IsTold : Telling C) (old new : Serving H) (before mid after : Printing) (waiting later : Waiting) (stopped result : Result Status E)
+    → Prints content room IsTold old new before mid waiting → StopsSo new waiting stopped → Passes mid after waiting later → later.bytes ≡ []
+    → (later.cut ≡ true → result ≡ Ok HasEnded) → (later.cut ≡ false → result ≡ stopped) → ServesAll content room IsTold old before after result
+serves_all content room IsTold old new before mid after waiting later stopped result a stops passes none failed same =
+    serves_by content room IsTold old new before mid after waiting later stopped result later.cut refl
+    (prints_passes content room IsTold old new before mid after waiting later a passes) stops passes none failed same
 
 -- ---- one write
 
@@ -290,17 +291,17 @@ passes_failed before mid after old new front count is put fine kept failed left 
 
 -- ---- a turn
 
-pub prints_first : {H C : Type 0} (content : H → C) (IsTold : Telling C) (old new : Serving H) (at : Printing) (waiting : Waiting) → waiting ≡ nothing_waits → KeepsServing content old new
-    → Prints content IsTold old new at at waiting
-prints_first content IsTold old new at waiting none same =
-    prints_kept content IsTold old old new at at waiting (prints_none content IsTold old at waiting none) same
+pub prints_first : {H C S : Type 0} (content : H → C) (room : H → Room S) (IsTold : Telling C) (old new : Serving H) (at : Printing) (waiting : Waiting) → waiting ≡ nothing_waits → KeepsServing content room old new
+    → Prints content room IsTold old new at at waiting
+prints_first content room IsTold old new at waiting none same =
+    prints_kept content room IsTold old old new at at waiting (prints_none content room IsTold old at waiting none) same
 
 -- the server waits, goes on, says what it has to, and prints
-pub prints_turn : {H C : Type 0} (content : H → C) (IsTold : Telling C) (old held woken gone told new : Serving H) (before mid after : Printing) (waiting more later : Waiting)
-    → Prints content IsTold old held before mid waiting → KeepsServing content held woken → Goes content IsTold woken gone waiting more → KeepsServing content gone told
-    → KeepsServing content told new → Passes mid after more later → Prints content IsTold old new before after later
-prints_turn content IsTold old held woken gone told new before mid after waiting more later a waits goes tells prints passes =
-    prints_kept content IsTold old gone new before after later
-    (prints_passes content IsTold old gone before mid after more later
-    (prints_goes content IsTold old woken gone before mid waiting more (prints_kept content IsTold old held woken before mid waiting a waits) goes) passes)
-    (keeps_then content gone told new tells prints)
+pub prints_turn : {H C S : Type 0} (content : H → C) (room : H → Room S) (IsTold : Telling C) (old held woken gone told new : Serving H) (before mid after : Printing) (waiting more later : Waiting)
+    → Prints content room IsTold old held before mid waiting → KeepsServing content room held woken → Goes content room IsTold woken gone waiting more → KeepsServing content room gone told
+    → KeepsServing content room told new → Passes mid after more later → Prints content room IsTold old new before after later
+prints_turn content room IsTold old held woken gone told new before mid after waiting more later a waits goes tells prints passes =
+    prints_kept content room IsTold old gone new before after later
+    (prints_passes content room IsTold old gone before mid after more later
+    (prints_goes content room IsTold old woken gone before mid waiting more (prints_kept content room IsTold old held woken before mid waiting a waits) goes) passes)
+    (keeps_then content room gone told new tells prints)

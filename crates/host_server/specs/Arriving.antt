@@ -1,17 +1,13 @@
 -- Lines that come: each is asked of the limit, and a terminal is opened of each that is admitted.
-use Rattle.std.specs.Prelude.{ℕ, ◌≡◌, ◌<◌, ◌≤◌, ◌⊎◌, nat_eq, Bool, true, false, List, [], ◌∷◌, Option, Some, None, if◌then◌else◌}
+use Rattle.std.specs.Prelude.{ℕ, ◌≡◌, ◌<◌, ◌≤◌, ◌⊎◌, Bool, true, false, List, [], ◌∷◌, Option, Some, None}
 use Rattle.accept_limit.specs.declared.limit.Arrival.{Arrival}
 use Rattle.accept_limit.specs.Arrivals.{after, forgotten, is_accepted}
 use Rattle.session_hub.specs.Hubs.{At, Breaks, Room, Steps, Taking}
 use Rattle.cli_hosts.specs.Hosts.{Opened}
-use Rattle.host_server.specs.Serving.{Serving}
+use Rattle.host_server.specs.Serving.{Serving, most_of}
 
 abbrev pub arrival_of : ℕ → ℕ → Arrival
 arrival_of address now = record { address = address; at = now }
-
--- so many terminals may come; 0 is any number
-abbrev pub most_of : ℕ → ℕ
-most_of count = if nat_eq count 0 then 18446744073709551615 else count
 
 -- ---- the limit
 

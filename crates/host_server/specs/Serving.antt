@@ -1,8 +1,9 @@
 -- What a server prints of its terminals, and how it ends.
-use Rattle.std.specs.Prelude.{ℕ, ◌≡◌, ◌<◌, ◌⊎◌, Bool, true, false, List, [], ◌∷◌, ◌++◌, length, Result, Ok, Err}
+use Rattle.std.specs.Prelude.{ℕ, ◌≡◌, ◌<◌, ◌≤◌, ◌⊎◌, nat_eq, if◌then◌else◌, Bool, true, false, List, [], ◌∷◌, ◌++◌, length, Result, Ok, Err}
 use Rattle.std.specs.Io.KnownBytes.{Appends}
 use Rattle.std.specs.declared.net.socket_addr.SocketAddr.{SocketAddr}
 use Rattle.accept_limit.specs.Arrivals.{Limit, limit_of}
+use Rattle.session_hub.specs.Hubs.{Room}
 use Rattle.cli_commands.specs.declared.status.Status.{Status}
 use Rattle.cli_commands.specs.declared.status.Status.TheVariants.{Failed, NoMemory}
 use Rattle.cli_commands.specs.Causes.{HasFailed}
@@ -38,12 +39,21 @@ serving hosts asked address = record {
 abbrev pub is_done : {H : Type 0} → Serving H → Bool
 is_done server = is_done_by server.asked server.tally
 
--- what is served, what is asked for, where is listened and what was counted stay
-pub record Keeps {H C : Type 0} (content : H → C) (old new : Serving H) : Type 0 where
+-- so many terminals may come; 0 is any number
+abbrev pub most_of : ℕ → ℕ
+most_of count = if nat_eq count 0 then 18446744073709551615 else count
+
+-- no more came than may
+abbrev pub AreFew : {H S : Type 0} → (H → Room S) → Asked → H → Type 0
+AreFew room asked hosts = (room hosts).came ≤ most_of asked.count
+
+-- what is served, what is asked for, where is listened and what was counted stay; and no more come than may
+pub record Keeps {H C S : Type 0} (content : H → C) (room : H → Room S) (old new : Serving H) : Type 0 where
   pub served : content new.hosts ≡ content old.hosts
   pub asked : new.asked ≡ old.asked
   pub address : new.address ≡ old.address
   pub tally : new.tally ≡ old.tally
+  pub few : AreFew room old.asked old.hosts → AreFew room old.asked new.hosts
 
 -- ---- terminals that went
 
@@ -75,14 +85,15 @@ TellsOf IsTold outcome text = (number : ℕ) × IsTold number outcome text
 abbrev pub Telling : Type 0 → Type 1
 Telling C = C → Told
 
--- These terminals went, and what became of them was counted.
-pub record Settled {H C : Type 0} (content : H → C) (IsTold : Telling C) (old new : Serving H) : Type 0 where
+-- These terminals went, and what became of them was counted; and no more came than may.
+pub record Settled {H C S : Type 0} (content : H → C) (room : H → Room S) (IsTold : Telling C) (old new : Serving H) : Type 0 where
   pub went : List Went
   pub told : AreTold (IsTold (content old.hosts)) went
   pub served : content new.hosts ≡ content old.hosts
   pub asked : new.asked ≡ old.asked
   pub address : new.address ≡ old.address
   pub tally : new.tally ≡ tally_after old.tally (outcomes_of went)
+  pub few : AreFew room old.asked old.hosts → AreFew room old.asked new.hosts
 
 -- ---- their texts
 
@@ -91,8 +102,8 @@ all_added waiting [] = waiting
 all_added waiting (one ∷ went) = all_added (added waiting one.text) went
 
 -- Terminals went, and their texts wait after those that did.
-pub record Goes {H C : Type 0} (content : H → C) (IsTold : Telling C) (old new : Serving H) (waiting later : Waiting) : Type 0 where
-  pub settled : Settled content IsTold old new
+pub record Goes {H C S : Type 0} (content : H → C) (room : H → Room S) (IsTold : Telling C) (old new : Serving H) (waiting later : Waiting) : Type 0 where
+  pub settled : Settled content room IsTold old new
   pub waits : later ≡ all_added waiting settled.went
 
 -- all of the texts, or a front of them where one was left out
@@ -106,8 +117,8 @@ IsCause false before after texts = after.failures ≡ before.failures
 IsCause true before after texts = HasFailed before.failures after.failures ⊎ (most_waiting < length texts)
 
 -- Terminals went: what was written and what waits are their texts, in turn.
-pub record Prints {H C : Type 0} (content : H → C) (IsTold : Telling C) (old new : Serving H) (before after : Printing) (waiting : Waiting) : Type 0 where
-  pub settled : Settled content IsTold old new
+pub record Prints {H C S : Type 0} (content : H → C) (room : H → Room S) (IsTold : Telling C) (old new : Serving H) (before after : Printing) (waiting : Waiting) : Type 0 where
+  pub settled : Settled content room IsTold old new
   pub gone : List ℕ
   pub written : Appends before.written after.written gone
   pub front : IsFront waiting.cut (texts_of settled.went) (gone ++ waiting.bytes)
@@ -130,13 +141,13 @@ IsCut texts before after = AppendsFront before.written after.written texts × Is
 
 -- Terminals went. Their texts were written, whole and in turn, and the status is theirs, or memory was refused for one more; or a front of
 -- the texts was, and the status says so.
-abbrev pub EndsAfter : {H C : Type 0} → (H → C) → Telling C → Serving H → Printing → Printing → Status → Type 0
-EndsAfter {H = H} content IsTold old before after status =
-    (new : Serving H) × (settled : Settled content IsTold old new)
+abbrev pub EndsAfter : {H C S : Type 0} → (H → C) → (H → Room S) → Telling C → Serving H → Printing → Printing → Status → Type 0
+EndsAfter {H = H} content room IsTold old before after status =
+    (new : Serving H) × (settled : Settled content room IsTold old new)
     × ((IsPrinted before after (texts_of settled.went) true × (EndsSo new status ⊎ (status ≡ NoMemory)))
     ⊎ (IsCut (texts_of settled.went) before after × (status ≡ Failed)))
 
-abbrev pub ServesAll : {H C E : Type 0} → (H → C) → Telling C → Serving H → Printing → Printing → Result Status E → Type 0
-ServesAll content IsTold old before after (Ok status) = EndsAfter content IsTold old before after status
-ServesAll {H = H} content IsTold old before after (Err error) =
-    (new : Serving H) × (settled : Settled content IsTold old new) × IsPrinted before after (texts_of settled.went) true
+abbrev pub ServesAll : {H C S E : Type 0} → (H → C) → (H → Room S) → Telling C → Serving H → Printing → Printing → Result Status E → Type 0
+ServesAll content room IsTold old before after (Ok status) = EndsAfter content room IsTold old before after status
+ServesAll {H = H} content room IsTold old before after (Err error) =
+    (new : Serving H) × (settled : Settled content room IsTold old new) × IsPrinted before after (texts_of settled.went) true

@@ -22,7 +22,8 @@ enum Wrote {
 
 /// Writes what is due to the terminal of a token, once.
 fn write_due<H: Hosts>(stream: &mut TcpStream, hosts: &mut H, token: usize) -> Wrote
-    ensures { H.content hosts.new ≡ H.content hosts.old }
+    ensures kept { H.content hosts.new ≡ H.content hosts.old }
+    ensures counted { (H.room hosts.new).came ≡ (H.room hosts.old).came }
 {
     let due = hosts.due(token);
     if due.is_empty() {
@@ -61,7 +62,8 @@ fn read_some<H: Hosts>(
     now: u64,
     buffer: &mut [u8],
 ) -> Came
-    ensures { H.content hosts.new ≡ H.content hosts.old }
+    ensures kept { H.content hosts.new ≡ H.content hosts.old }
+    ensures counted { (H.room hosts.new).came ≡ (H.room hosts.old).came }
 {
     match stream.read(buffer) {
         Ok(0) => {
@@ -98,7 +100,8 @@ pub(crate) fn work_line<H: Hosts>(
     now: u64,
     buffer: &mut [u8],
 ) -> bool
-    ensures { H.content hosts.new ≡ H.content hosts.old }
+    ensures kept { H.content hosts.new ≡ H.content hosts.old }
+    ensures counted { (H.room hosts.new).came ≡ (H.room hosts.old).came }
 {
     for _ in 0..MOST_STEPS {
         match write_due(stream, hosts, token) {

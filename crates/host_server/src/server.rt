@@ -8,9 +8,9 @@ ghost use Rattle.cli_commands.specs.declared.status.Status.TheVariants.{Failed};
 ghost use Rattle.std.specs.Net.Socket.{socket_ip};
 ghost use Rattle.std.specs.declared.net.socket_addr.SocketAddr.{SocketAddr as Address};
 ghost use Rattle.host_server.specs.Places.{number_of, IsPlace};
-ghost use Rattle.host_server.specs.Serving.{serving, is_done, Keeps, Goes, Prints, TellsOf, EndsSo, StopsSo, ServesAll};
+ghost use Rattle.host_server.specs.Serving.{serving, is_done, most_of, Keeps, Goes, Prints, TellsOf, EndsSo, StopsSo, ServesAll};
 ghost use Rattle.host_server.specs.Waiting.{nothing_waits, Passes};
-ghost use Rattle.host_server.specs.Arriving.{arrival_of, most_of, Accepts, Admits, Opens, TakesOne};
+ghost use Rattle.host_server.specs.Arriving.{arrival_of, Accepts, Admits, Opens, TakesOne};
 
 use crate::asked::Asked;
 use crate::gathered::Gathered;
@@ -196,7 +196,7 @@ impl<H: Hosts> Server<H> {
 
     /// Whether a terminal is served that came from there, by how many did in the last second.
     fn admits(&mut self, peer: &SocketAddr, now: u64) -> bool
-        ensures kept { Keeps H.content self.old self.new }
+        ensures kept { Keeps H.content H.room self.old self.new }
         ensures asked { Admits self.old
             (arrival_of (number_of (socket_ip peer.now)) now) result self.new }
     {
@@ -215,7 +215,7 @@ impl<H: Hosts> Server<H> {
 
     /// A terminal came from there: it is served, or its line goes.
     fn take_one(&mut self, alloc: Global, now: u64, stream: TcpStream, peer: &SocketAddr)
-        ensures kept { Keeps H.content self.old self.new }
+        ensures kept { Keeps H.content H.room self.old self.new }
         ensures taken { TakesOne H.content H.takes H.room
             (arrival_of (number_of (socket_ip peer.now)) now) self.old self.new }
     {
@@ -226,7 +226,7 @@ impl<H: Hosts> Server<H> {
 
     /// A terminal came.
     fn open(&mut self, alloc: Global, now: u64, mut stream: TcpStream)
-        ensures kept { Keeps H.content self.old self.new }
+        ensures kept { Keeps H.content H.room self.old self.new }
         ensures opened { Opens H.content H.takes H.room now self.old self.new }
     {
         if self.hosts.came() >= self.most() {
@@ -246,7 +246,7 @@ impl<H: Hosts> Server<H> {
 
     /// Accepts the terminals that wait, where any may, as long as there is room.
     fn accept_all(&mut self, alloc: Global, now: u64)
-        ensures kept { Keeps H.content self.old self.new }
+        ensures kept { Keeps H.content H.room self.old self.new }
         ensures accepted { Accepts H.content H.takes H.room now self.old self.new }
     {
         for _ in 0..MOST_EVENTS {
@@ -267,7 +267,7 @@ impl<H: Hosts> Server<H> {
 
     /// Works a line as far as it goes now.
     fn work(&mut self, alloc: Global, token: usize, now: u64, buffer: &mut [u8])
-        ensures { Keeps H.content self.old self.new }
+        ensures { Keeps H.content H.room self.old self.new }
     {
         let Some(Some(stream)) = self.lines.get_mut(token) else {
             return;
@@ -289,7 +289,7 @@ impl<H: Hosts> Server<H> {
         alloc: Global,
         token: usize,
     ) -> Result<Option<(Settled, Vec<u8>)>, AllocError>
-        ensures kept { Keeps H.content self.old self.new }
+        ensures kept { Keeps H.content H.room self.old self.new }
         ensures told { IfOk result (λ found. IfSome found (λ told.
             TellsOf (H.IsTold (H.content self.old.hosts)) told.0 told.1.items)) }
     {
@@ -323,7 +323,7 @@ impl<H: Hosts> Server<H> {
         token: usize,
         pending: &mut Pending,
     ) -> Result<(), AllocError>
-        ensures { Goes H.content H.IsTold self.old self.new pending.old pending.new }
+        ensures { Goes H.content H.room H.IsTold self.old self.new pending.old pending.new }
     {
         let Some((settled, text)) = self.take_told(alloc, token)? else {
             return Ok(());
@@ -335,14 +335,14 @@ impl<H: Hosts> Server<H> {
 
     /// It is this time now for the terminals.
     fn tick(&mut self, now: u64)
-        ensures { Keeps H.content self.old self.new }
+        ensures { Keeps H.content H.room self.old self.new }
     {
         self.hosts.tick(now);
     }
 
     /// Ends the terminals whose time is up, and settles all that ended.
     fn sweep(&mut self, alloc: Global, now: u64, pending: &mut Pending) -> Result<(), AllocError>
-        ensures { Goes H.content H.IsTold self.old self.new pending.old pending.new }
+        ensures { Goes H.content H.room H.IsTold self.old self.new pending.old pending.new }
     {
         self.tick(now);
         for token in 0..self.lines.len() {
@@ -363,7 +363,7 @@ impl<H: Hosts> Server<H> {
         buffer: &mut [u8],
         pending: &mut Pending,
     ) -> Result<(), AllocError>
-        ensures { Goes H.content H.IsTold self.old self.new pending.old pending.new }
+        ensures { Goes H.content H.room H.IsTold self.old self.new pending.old pending.new }
     {
         self.work(alloc, token, now, buffer);
         if self.is_done() {
@@ -381,7 +381,7 @@ impl<H: Hosts> Server<H> {
         buffer: &mut [u8],
         pending: &mut Pending,
     ) -> Result<(), AllocError>
-        ensures { Goes H.content H.IsTold self.old self.new pending.old pending.new }
+        ensures { Goes H.content H.room H.IsTold self.old self.new pending.old pending.new }
     {
         for event in events {
             match event.token() {
@@ -404,7 +404,7 @@ impl<H: Hosts> Server<H> {
         buffer: &mut [u8],
         pending: &mut Pending,
     ) -> Result<(), AllocError>
-        ensures { Goes H.content H.IsTold self.old self.new pending.old pending.new }
+        ensures { Goes H.content H.room H.IsTold self.old self.new pending.old pending.new }
     {
         self.take_events(alloc, events, now, buffer, pending)?;
         self.accept_all(alloc, now);
@@ -416,7 +416,7 @@ impl<H: Hosts> Server<H> {
 
     /// Has the system tell when lines can be written without a wait.
     fn watch(&mut self, descriptor: RawFd)
-        ensures { Keeps H.content self.old self.new }
+        ensures { Keeps H.content H.room self.old self.new }
     {
         self.output = Watch::new(descriptor, OUTPUT);
         self.output.begin(&self.poll);
@@ -431,7 +431,7 @@ impl<H: Hosts> Server<H> {
 
     /// Writes some of what waits.
     fn print_some<W: TakesBytes>(&mut self, output: &mut Output<W>, pending: &mut Pending)
-        ensures kept { Keeps H.content self.old self.new }
+        ensures kept { Keeps H.content H.room self.old self.new }
         ensures passes { Passes output.old output.new pending.old pending.new }
         ensures fewer { 0 < length pending.old.bytes
             → length pending.new.bytes < length pending.old.bytes }
@@ -442,7 +442,7 @@ impl<H: Hosts> Server<H> {
 
     /// Asks when more of what waits can be written, where anything does.
     fn ask(&mut self, pending: &Pending)
-        ensures { Keeps H.content self.old self.new }
+        ensures { Keeps H.content H.room self.old self.new }
     {
         self.output.forget();
         if !pending.is_empty() {
@@ -452,7 +452,7 @@ impl<H: Hosts> Server<H> {
 
     /// Writes of what waits as much as is taken without a wait.
     fn print<W: TakesBytes>(&mut self, output: &mut Output<W>, pending: &mut Pending)
-        ensures kept { Keeps H.content self.old self.new }
+        ensures kept { Keeps H.content H.room self.old self.new }
         ensures passes { Passes output.old output.new pending.old pending.new }
     {
         while self.may_print(pending) {
@@ -463,7 +463,7 @@ impl<H: Hosts> Server<H> {
 
     /// Says once that a text was left out because too much waited.
     fn tell_full<R: Eprint>(&mut self, rt: &R, pending: &Pending, name: &str)
-        ensures { Keeps H.content self.old self.new }
+        ensures { Keeps H.content H.room self.old self.new }
     {
         if pending.is_full() && !self.has_told {
             self.has_told = true;
@@ -475,7 +475,7 @@ impl<H: Hosts> Server<H> {
 
     /// Says it where that can be said without a wait. Both may be the same pipe, so lines are written once that was asked again.
     fn tell_soon<R: Eprint>(&mut self, rt: &R, pending: &Pending, name: &str)
-        ensures { Keeps H.content self.old self.new }
+        ensures { Keeps H.content H.room self.old self.new }
     {
         if !pending.is_full() || self.has_told {
             return;
@@ -515,7 +515,7 @@ fn wait<R: Clock, H: Hosts>(
     events: &mut Events<Global>,
     begun: Instant,
 ) -> io::Result<u64>
-    ensures { Keeps H.content server.old server.new }
+    ensures { Keeps H.content H.room server.old server.new }
 {
     server
         .poll
@@ -533,7 +533,7 @@ fn serve_turns<R: Clock + Eprint, H: Hosts, W: TakesBytes>(
     outlet: Outlet<'_>,
 ) -> io::Result<Status>
     requires { pending.old ≡ nothing_waits }
-    ensures prints { Prints H.content H.IsTold server.old server.new output.old output.new
+    ensures prints { Prints H.content H.room H.IsTold server.old server.new output.old output.new
         pending.new }
     ensures stops { StopsSo server.new pending.new result }
 {
@@ -598,7 +598,7 @@ pub fn serve_all<R: Clock + Eprint, H: Hosts, W: TakesBytes>(
     output: &mut Output<W>,
     outlet: Outlet<'_>,
 ) -> io::Result<Status>
-    ensures { ServesAll H.content H.IsTold server.old output.old output.new result }
+    ensures { ServesAll H.content H.room H.IsTold server.old output.old output.new result }
 {
     let mut pending = Pending::new(alloc);
     let stopped = serve_turns(rt, alloc, server, &mut pending, output, outlet);

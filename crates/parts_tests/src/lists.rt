@@ -1,13 +1,22 @@
 //! A plain list in the order of places.
 
 use crate::marked::{Marked, entry_of, push_entry};
-use ds_places::{add, held};
+use ds_places::{add, held, held_near};
 use test_words::Row;
 
 fn push_entries(row: &mut Row, entries: &[Marked]) {
     for entry in entries {
         push_entry(row, Some(*entry));
     }
+}
+
+/// Adds the entry at a place, which is the same whatever index is guessed for it.
+fn push_held(row: &mut Row, entries: &[Marked], place: u32, guess: &mut usize) {
+    let found = held(entries, place);
+    if held_near(entries, place, guess) != found {
+        return row.spoil();
+    }
+    push_entry(row, found);
 }
 
 /// The list that three entries make, and what it holds at the place of each.
@@ -17,9 +26,10 @@ fn push_list_of(row: &mut Row, first: Marked, second: Marked, third: Marked) {
     row.note(add(&mut entries, second));
     row.note(add(&mut entries, third));
     push_entries(row, &entries);
-    push_entry(row, held(&entries, first.at));
-    push_entry(row, held(&entries, second.at));
-    push_entry(row, held(&entries, third.at));
+    let mut guess = 0;
+    push_held(row, &entries, first.at, &mut guess);
+    push_held(row, &entries, second.at, &mut guess);
+    push_held(row, &entries, third.at, &mut guess);
 }
 
 /// Adds three entries, and prints the list that they make, and what it holds at the place of each.

@@ -6,7 +6,7 @@ use ds_places::{Change, Placed};
 use test_words::Row;
 
 /// A place with a mark.
-#[derive(Clone, Copy)]
+#[derive(Clone, Copy, PartialEq, Eq)]
 pub(crate) struct Marked {
     pub(crate) at: u32,
     pub(crate) mark: u32,

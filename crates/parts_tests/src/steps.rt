@@ -70,12 +70,24 @@ fn take_edit(row: &mut Row, pages: &mut Pages<Marked>, verb: &str, words: &str) 
     true
 }
 
+/// Adds the first entry from a place on, which is the same whatever index is guessed for it.
+fn push_from(row: &mut Row, pages: &Pages<Marked>, place: u32) {
+    let found = pages.first_from(place);
+    for guessed in [0, 1, 2, usize::MAX] {
+        let mut guess = guessed;
+        if pages.first_near(place, &mut guess) != found {
+            return row.spoil();
+        }
+    }
+    push_entry(row, found);
+}
+
 /// Adds what a step of a number finds.
 fn push_found(row: &mut Row, pages: &Pages<Marked>, verb: &str, word: u32) {
     match verb {
         "held" => push_entry(row, pages.held(word)),
         "to" => push_entry(row, pages.last_to(word).entry),
-        "from" => push_entry(row, pages.first_from(word)),
+        "from" => push_from(row, pages, word),
         "get" => push_entry(row, pages.get(word as usize)),
         "copy" => push_copy(row, pages, word),
         _ => row.spoil(),

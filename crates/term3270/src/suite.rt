@@ -16,7 +16,7 @@ use std::{fs, io};
 const MOST_BYTES: u64 = 16_777_217;
 
 /// Room for a screen's records or a layout, so that most files are read at once.
-const ROOM: usize = 16_384;
+const ROOM: usize = 8_192;
 
 /// Files of the disk, by paths from a folder.
 #[derive(Drop)]

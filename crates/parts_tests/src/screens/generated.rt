@@ -1,6 +1,6 @@
 //! Generated records, applied to an outline and to a screen side by side.
 
-use ds_codec::{Mode, Record};
+use ds_codec::{Cell, Mode, Record};
 use ds_screen::{Outline, PlainCells, Screen};
 use test_words::Row;
 
@@ -98,12 +98,26 @@ fn take_alike(outline: &mut Outline, screen: &mut Screen<PlainCells>, record: &R
     outline.apply(record) == screen.apply(record)
 }
 
+/// Whether an outline has attributes where a screen has them, asked for in turn too.
+fn has_same_attributes(outline: &Outline, screen: &Screen<PlainCells>) -> bool {
+    let mut guess = 0;
+    for p in 0..screen.size().cells() {
+        let is_there = matches!(screen.cell(p), Cell::Field(_));
+        let is_near = outline.has_attribute_near(p, &mut guess);
+        if outline.has_attribute(p) != is_there || is_near != is_there {
+            return false;
+        }
+    }
+    true
+}
+
 fn are_alike(outline: &Outline, screen: &Screen<PlainCells>) -> bool {
     outline.size() == screen.size()
         && outline.cursor() == screen.cursor()
         && outline.lock() == screen.lock()
         && outline.geometry() == screen.geometry()
         && outline.fields().eq(screen.fields())
+        && has_same_attributes(outline, screen)
 }
 
 /// Whether one generated record leaves both alike.
