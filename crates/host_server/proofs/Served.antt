@@ -32,7 +32,7 @@ pub told_on : {C : Type 0} (IsTold : Telling C) (content other : C) (went : List
 told_on IsTold content other went same told = subst (λ c. AreTold (IsTold c) went) same told
 
 -- no more came than may, over two parts
-few_then : {H S : Type 0} (room : H → Room S) (asked next : Asked) (old mid new : H) → next ≡ asked → (AreFew room asked old → AreFew room asked mid)
+pub few_then : {H S : Type 0} (room : H → Room S) (asked next : Asked) (old mid new : H) → next ≡ asked → (AreFew room asked old → AreFew room asked mid)
     → (AreFew room next mid → AreFew room next new) → AreFew room asked old → AreFew room asked new
 few_then room asked next old mid new same a b held =
     subst (λ q. AreFew room q new) same (b (subst (λ q. AreFew room q mid) (sym same) (a held)))
