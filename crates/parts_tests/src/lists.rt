@@ -1,5 +1,7 @@
 //! A plain list in the order of places.
 
+ghost use Rattle.ds_places.specs.Places.{IsRising};
+
 use crate::marked::{Marked, entry_of, push_entry};
 use ds_places::{add, held, held_near};
 use test_words::Row;
@@ -11,7 +13,9 @@ fn push_entries(row: &mut Row, entries: &[Marked]) {
 }
 
 /// Adds the entry at a place, which is the same whatever index is guessed for it.
-fn push_held(row: &mut Row, entries: &[Marked], place: u32, guess: &mut usize) {
+fn push_held(row: &mut Row, entries: &[Marked], place: u32, guess: &mut usize)
+    requires { IsRising (λ m. m.at) entries.now }
+{
     let found = held(entries, place);
     if held_near(entries, place, guess) != found {
         return row.spoil();
