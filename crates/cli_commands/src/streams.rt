@@ -3,7 +3,7 @@
 ghost use Rattle.std.specs.Prelude.{◌≡◌, ◌<◌, ℕ, List, Option, Some, length, IfErr};
 ghost use Rattle.std.specs.Io.{ReadsAtMost};
 ghost use Rattle.std.specs.Io.KnownBytes.{Keeps, ReadConsumes};
-ghost use Rattle.cli_commands.specs.Causes.{Counts, Puts, ToldBy};
+ghost use Rattle.cli_commands.specs.Causes.{Counts, IsAsked, Puts, ToldBy};
 ghost use Rattle.cli_commands.specs.Fault.{IsNoFault};
 
 use crate::fault::CommandError;
@@ -41,24 +41,30 @@ pub trait TakesBytes {
     /// How many writes failed.
     ghost failures: { Self → ℕ };
 
+    /// How often it was asked to pass on what it took, at most 2^64 - 1.
+    ghost asked: { Self → ℕ };
+
     /// One write of bytes, which aren't none: how many it took. None where it took none or failed, which is counted.
     fn put(&mut self, bytes: &[u8]) -> Option<usize>
         requires { 0 < length bytes.now }
         ensures bytes { Puts (contents self.old) (contents self.new) bytes.now result }
-        ensures cause { Counts (failures self.old) (failures self.new) result };
+        ensures cause { Counts (failures self.old) (failures self.new) result }
+        ensures unasked { asked self.new ≡ asked self.old };
 
     /// Asks it to pass on all that it took. None where it can't, which is counted.
     fn pass_on(&mut self) -> Option<()>
         ensures bytes { Keeps (contents self.old) (contents self.new) }
-        ensures cause { Counts (failures self.old) (failures self.new) result };
+        ensures cause { Counts (failures self.old) (failures self.new) result }
+        ensures asked { IsAsked (asked self.old) (asked self.new) };
 }
 
-/// A stream, and how many of its calls failed.
+/// A stream, how many of its calls failed, and how often it was asked to pass on what it took: both at most
+/// 18,446,744,073,709,551,615.
 #[derive(Drop)]
 pub struct Watched<S> {
     pub stream: S,
-    /// At most 18,446,744,073,709,551,615.
     pub failures: u64,
+    pub asked: u64,
 }
 
 impl<S> Watched<S> {
@@ -66,10 +72,12 @@ impl<S> Watched<S> {
     pub fn new(stream: S) -> Watched<S>
         ensures stream { result.stream ≡ stream }
         ensures none { result.failures ≡ 0 }
+        ensures unasked { result.asked ≡ 0 }
     {
         Watched {
             stream,
             failures: 0,
+            asked: 0,
         }
     }
 }
@@ -117,6 +125,8 @@ impl<W: Write> TakesBytes for Watched<W> {
 
     ghost failures = { λ watched. watched.failures };
 
+    ghost asked = { λ watched. watched.asked };
+
     fn put(&mut self, bytes: &[u8]) -> Option<usize> {
         match self.stream.write(bytes) {
             Ok(0) | Err(_) => {
@@ -128,6 +138,7 @@ impl<W: Write> TakesBytes for Watched<W> {
     }
 
     fn pass_on(&mut self) -> Option<()> {
+        self.asked = self.asked.saturating_add(1);
         match self.stream.flush() {
             Ok(()) => Some(()),
             Err(_) => {

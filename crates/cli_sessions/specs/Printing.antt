@@ -3,13 +3,14 @@ use Rattle.std.specs.Prelude.{ℕ, ◌≡◌, ◌+◌, Bool, true, false, List, 
 use Rattle.std.specs.Io.KnownBytes.{Appends}
 use Rattle.cli_commands.specs.Streams.{AppendsFront}
 
--- what was written, where it is known; and how many texts could not be
+-- what was written, where it is known; how many texts could not be; and how often the writer was asked to pass on what it took
 pub record Printing : Type 0 where
   pub written : Option (List ℕ)
   pub failures : ℕ
+  pub asked : ℕ
 
-abbrev pub printing : Option (List ℕ) → ℕ → Printing
-printing written failures = record { written = written; failures = failures }
+abbrev pub printing : Option (List ℕ) → ℕ → ℕ → Printing
+printing written failures asked = record { written = written; failures = failures; asked = asked }
 
 -- the text was written; or a write failed after a front of it
 abbrev pub IsPrinted : Printing → Printing → List ℕ → Bool → Type 0

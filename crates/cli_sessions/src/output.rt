@@ -1,7 +1,9 @@
 //! Where the lines of sessions are printed.
 
 ghost use Rattle.std.specs.Prelude.{◌≡◌};
+ghost use Rattle.std.specs.Bool.{OnTrue};
 ghost use Rattle.std.specs.String.{string_bytes};
+ghost use Rattle.cli_commands.specs.Causes.{IsAsked};
 ghost use Rattle.cli_sessions.specs.Printing.{IsPrinted};
 
 use cli_commands::{Answer, Status, TakesBytes, finish};
@@ -26,6 +28,7 @@ impl<W: TakesBytes> Model for Output<W> {
     ghost view = { λ o. record {
       written = W.contents o.writer;
       failures = length o.failures.items;
+      asked = W.asked o.writer;
     } };
 }
 
@@ -34,7 +37,7 @@ impl<W: TakesBytes> Output<W> {
 
     /// A writer to which nothing was printed.
     pub fn new(writer: W) -> Output<W>
-        ensures { result ≡ printing (W.contents writer) 0 }
+        ensures { result ≡ printing (W.contents writer) 0 (W.asked writer) }
     {
         Output {
             writer,
@@ -44,7 +47,8 @@ impl<W: TakesBytes> Output<W> {
 
     /// Writes a text and flushes: whether every byte was taken.
     pub(crate) fn print(&mut self, alloc: Global, text: String) -> bool
-        ensures { IsPrinted self.old self.new (string_bytes text) result }
+        ensures printed { IsPrinted self.old self.new (string_bytes text) result }
+        ensures passed { OnTrue result (IsAsked self.old.asked self.new.asked) }
     {
         let status = Status::Done;
         match finish(alloc, &mut self.writer, Ok(Answer { text, status })) {
@@ -69,6 +73,8 @@ impl<W: TakesBytes> TakesBytes for Output<W> {
     ghost contents = { λ o. o.written };
 
     ghost failures = { λ o. o.failures };
+
+    ghost asked = { λ o. o.asked };
 
     fn put(&mut self, bytes: &[u8]) -> Option<usize> {
         let taken = self.writer.put(bytes);

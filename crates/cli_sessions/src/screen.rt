@@ -1,6 +1,7 @@
 //! What a host serves: a checked screen.
 
-ghost use Rattle.std.specs.Prelude.{◌≡◌, IfErr, IfOk, IfSome};
+ghost use Rattle.std.specs.Prelude.{◌≡◌, ◌+◌, IfErr, IfOk, IfSome};
+ghost use Rattle.cli_commands.specs.Causes.{ToldBy};
 ghost use Rattle.cli_commands.specs.Fault.{GivesOrFails};
 ghost use Rattle.cli_commands.specs.Held.{records_held};
 ghost use Rattle.cli_commands.specs.LayoutText.{layout_in};
@@ -78,6 +79,8 @@ pub fn prepare_serve<L: GivesBytes, R: GivesBytes>(
 ) -> Result<Prepared, CommandError>
     ensures prepared { IfSome (L.remaining layout.old) (λ text. IfSome (R.remaining
         reader.old) (λ input. GivesOrFails prepared_seen result (prepare text input))) }
+    ensures cause { ToldBy (L.failures layout.old + R.failures reader.old)
+        (L.failures layout.new + R.failures reader.new) result }
     ensures unread { IfSome (L.remaining layout.old) (λ text. IfErr (layout_in text) (λ fault.
         reader.new ≡ reader.old)) }
 {

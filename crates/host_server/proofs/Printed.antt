@@ -229,28 +229,29 @@ own_status E server waiting status uncut (inr (inr cut)) = absurd (true≢false 
 
 serves_whole : {H C S E : Type 0} (content : H → C) (room : H → Room S) (IsTold : Telling C) (old new : Serving H) (before after : Printing) (waiting : Waiting) (stopped : Result Status E)
     (settled : Settled content room IsTold old new) → IsPrinted before after (texts_of settled.went) true → waiting.cut ≡ false → StopsSo new waiting stopped
-    → ServesAll content room IsTold old before after stopped
+    → ServesAll content room IsTold old new before after stopped
 serves_whole {E = E} content room IsTold old new before after waiting (Ok status) settled printed uncut stops =
-    (new, settled, inl (printed, own_status E new waiting status uncut stops))
-serves_whole content room IsTold old new before after waiting (Err error) settled printed uncut stops = (new, settled, printed)
+    (settled, inl (printed, own_status E new waiting status uncut stops))
+serves_whole content room IsTold old new before after waiting (Err error) settled printed uncut stops = (settled, printed)
 
 serves_by : {H C S E : Type 0} (content : H → C) (room : H → Room S) (IsTold : Telling C) (old new : Serving H) (before mid after : Printing) (waiting later : Waiting) (stopped result : Result Status E)
     (cut : Bool) → later.cut ≡ cut → Prints content room IsTold old new before after later → StopsSo new waiting stopped → Passes mid after waiting later → later.bytes ≡ []
-    → (later.cut ≡ true → result ≡ Ok HasEnded) → (later.cut ≡ false → result ≡ stopped) → ServesAll content room IsTold old before after result
+    → (later.cut ≡ true → result ≡ Ok HasEnded) → (later.cut ≡ false → result ≡ stopped) → ServesAll content room IsTold old new before after result
 serves_by content room IsTold old new before mid after waiting later stopped result true is a stops passes none failed same =
-    subst (ServesAll content room IsTold old before after) (sym (failed is))
-    (new, a.settled, inr (part content room IsTold old new before after later a none is, refl))
+    subst (ServesAll content room IsTold old new before after) (sym (failed is))
+    (a.settled, inr (part content room IsTold old new before after later a none is, refl))
 serves_by content room IsTold old new before mid after waiting later stopped result false is a stops passes none failed same =
-    subst (ServesAll content room IsTold old before after) (sym (same is))
+    subst (ServesAll content room IsTold old new before after) (sym (same is))
     (serves_whole content room IsTold old new before after waiting stopped a.settled (whole content room IsTold old new before after later a none is)
     (cut_stays mid after waiting later passes is) stops)
 
-pub serves_all : {H C S E : Type 0} (content : H → C) (room : H → Room S) (IsTold : Telling C) (old new : Serving H) (before mid after : Printing) (waiting later : Waiting) (stopped result : Result Status E)
-    → Prints content room IsTold old new before mid waiting → StopsSo new waiting stopped → Passes mid after waiting later → later.bytes ≡ []
-    → (later.cut ≡ true → result ≡ Ok HasEnded) → (later.cut ≡ false → result ≡ stopped) → ServesAll content room IsTold old before after result
-serves_all content room IsTold old new before mid after waiting later stopped result a stops passes none failed same =
-    serves_by content room IsTold old new before mid after waiting later stopped result later.cut refl
-    (prints_passes content room IsTold old new before mid after waiting later a passes) stops passes none failed same
+pub serves_all : {H C S E : Type 0} (content : H → C) (room : H → Room S) (IsTold : Telling C) (old new end : Serving H) (before mid after : Printing) (waiting later : Waiting) (stopped result : Result Status E)
+    → Prints content room IsTold old new before mid waiting → StopsSo new waiting stopped → Passes mid after waiting later → later.bytes ≡ [] → end ≡ new
+    → (later.cut ≡ true → result ≡ Ok HasEnded) → (later.cut ≡ false → result ≡ stopped) → ServesAll content room IsTold old end before after result
+serves_all {H = H} content room IsTold old new end before mid after waiting later stopped result a stops passes none told failed same =
+    subst (λ (s : Serving H). ServesAll content room IsTold old s before after result) (sym told)
+    (serves_by content room IsTold old new before mid after waiting later stopped result later.cut refl
+    (prints_passes content room IsTold old new before mid after waiting later a passes) stops passes none failed same)
 
 -- ---- one write
 

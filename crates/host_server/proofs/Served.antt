@@ -1,9 +1,7 @@
 -- Terminals that went, one after the other.
 use Rattle.std.proofs.Common.{◌≡◌, ◌∙◌, ℕ, List, [], ◌∷◌, ◌++◌, Some, Ok, refl, sym, ap, subst, append_assoc}
-use Rattle.std.specs.Io.KnownBytes.{Appends}
-use Rattle.cli_sessions.specs.Printing.{Printing, printing}
 use Rattle.cli_hosts.specs.declared.settling.Settled.{Settled as Outcome}
-use Rattle.cli_hosts.specs.Hosts.{Told, TellsOne}
+use Rattle.cli_hosts.specs.Hosts.{Told}
 use Rattle.session_hub.specs.Hubs.{Room}
 use Rattle.host_server.specs.declared.asked.Asked.{Asked}
 use Rattle.host_server.specs.declared.tally.Tally.{Tally}
@@ -95,14 +93,6 @@ goes_kept content room IsTold old mid new waiting later a same = record { settle
 pub goes_first : {H C S : Type 0} (content : H → C) (room : H → Room S) (IsTold : Telling C) (old new : Serving H) (waiting : Waiting)
     → Keeps content room old new → Goes content room IsTold old new waiting waiting
 goes_first content room IsTold old new waiting same = goes_kept content room IsTold old old new waiting waiting (goes_none content room IsTold old waiting) same
-
--- what was gathered tells of one terminal
-pub tells_gathered : (IsTold : Told) (before after : Printing) (held : List ℕ) (outcome : Outcome) → before ≡ printing (Some []) 0 → Some held ≡ after.written
-    → TellsOne IsTold before after (Ok (Some outcome)) → TellsOf IsTold outcome held
-tells_gathered IsTold before after held outcome first same (number, text, told, written) =
-    let is : held ≡ text =
-    subst (λ known. Appends (Some []) known text) (sym same) (subst (λ (p : Printing). Appends p.written after.written text) first written.0) in
-    (number, subst (IsTold number outcome) (sym is) told)
 
 -- one terminal
 pub goes_one : {H C S : Type 0} (content : H → C) (room : H → Room S) (IsTold : Telling C) (old mid new : Serving H) (waiting later : Waiting) (outcome : Outcome) (text : List ℕ)

@@ -141,13 +141,13 @@ IsCut texts before after = AppendsFront before.written after.written texts × Is
 
 -- Terminals went. Their texts were written, whole and in turn, and the status is theirs, or memory was refused for one more; or a front of
 -- the texts was, and the status says so.
-abbrev pub EndsAfter : {H C S : Type 0} → (H → C) → (H → Room S) → Telling C → Serving H → Printing → Printing → Status → Type 0
-EndsAfter {H = H} content room IsTold old before after status =
-    (new : Serving H) × (settled : Settled content room IsTold old new)
+abbrev pub EndsAfter : {H C S : Type 0} → (H → C) → (H → Room S) → Telling C → Serving H → Serving H → Printing → Printing → Status → Type 0
+EndsAfter content room IsTold old new before after status =
+    (settled : Settled content room IsTold old new)
     × ((IsPrinted before after (texts_of settled.went) true × (EndsSo new status ⊎ (status ≡ NoMemory)))
     ⊎ (IsCut (texts_of settled.went) before after × (status ≡ Failed)))
 
-abbrev pub ServesAll : {H C S E : Type 0} → (H → C) → (H → Room S) → Telling C → Serving H → Printing → Printing → Result Status E → Type 0
-ServesAll content room IsTold old before after (Ok status) = EndsAfter content room IsTold old before after status
-ServesAll {H = H} content room IsTold old before after (Err error) =
-    (new : Serving H) × (settled : Settled content room IsTold old new) × IsPrinted before after (texts_of settled.went) true
+abbrev pub ServesAll : {H C S E : Type 0} → (H → C) → (H → Room S) → Telling C → Serving H → Serving H → Printing → Printing → Result Status E → Type 0
+ServesAll content room IsTold old new before after (Ok status) = EndsAfter content room IsTold old new before after status
+ServesAll content room IsTold old new before after (Err error) =
+    (settled : Settled content room IsTold old new) × IsPrinted before after (texts_of settled.went) true

@@ -26,11 +26,14 @@ impl Gathered {
 }
 
 impl TakesBytes for Gathered {
-    ghost use Rattle.std.specs.Prelude.{Some};
+    ghost use Rattle.std.specs.Prelude.{Some, ◌^◌, ◌-◌};
 
     ghost contents = { λ gathered. Some gathered.text.items };
 
     ghost failures = { λ gathered. gathered.failures };
+
+    // A text in memory has passed on all that it took.
+    ghost asked = { λ gathered. 2 ^ 64 - 1 };
 
     fn put(&mut self, bytes: &[u8]) -> Option<usize> {
         match self.text.extend_from_slice(bytes) {

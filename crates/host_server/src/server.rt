@@ -463,7 +463,8 @@ impl<H: Hosts> Server<H> {
 
     /// Says once that a text was left out because too much waited.
     fn tell_full<R: Eprint>(&mut self, rt: &R, pending: &Pending, name: &str)
-        ensures { Keeps H.content H.room self.old self.new }
+        ensures keeps { Keeps H.content H.room self.old self.new }
+        ensures same { self.new ≡ self.old }
     {
         if pending.is_full() && !self.has_told {
             self.has_told = true;
@@ -598,7 +599,8 @@ pub fn serve_all<R: Clock + Eprint, H: Hosts, W: TakesBytes>(
     output: &mut Output<W>,
     outlet: Outlet<'_>,
 ) -> io::Result<Status>
-    ensures { ServesAll H.content H.room H.IsTold server.old output.old output.new result }
+    ensures { ServesAll H.content H.room H.IsTold server.old server.new output.old output.new
+        result }
 {
     let mut pending = Pending::new(alloc);
     let stopped = serve_turns(rt, alloc, server, &mut pending, output, outlet);
