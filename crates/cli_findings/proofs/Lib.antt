@@ -8,3 +8,4 @@ mod Helped
 mod SameFound
 mod FieldNames
 mod Slashes
+mod WrittenLogs

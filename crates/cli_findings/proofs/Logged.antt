@@ -60,7 +60,7 @@ rules_plain pen = none_floats rule_data rule_plain (rules_for pen)
 pub rules_nest : (pen : Pen) → items_depth (items_of (rules_data_for pen)) ≤ 2
 rules_nest pen = all_nest rule_data 2 rule_nests (rules_for pen)
 
-tool_plain : (rules : List Data) → items_have_float (items_of rules) ≡ false → has_float (tool_data rules) ≡ false
+pub tool_plain : (rules : List Data) → items_have_float (items_of rules) ≡ false → has_float (tool_data rules) ≡ false
 unfolding tool_data
 tool_plain rules plain = rw plain refl
 

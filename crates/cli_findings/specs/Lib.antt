@@ -12,4 +12,5 @@ pub mod Lines
 pub mod Sarif
 pub mod Results
 pub mod Log
+pub mod WrittenLog
 pub mod Report

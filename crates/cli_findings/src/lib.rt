@@ -5,7 +5,7 @@ mod facts;
 mod found;
 mod free_name;
 mod help;
-mod json;
+mod json_lines;
 mod log;
 mod members;
 mod names;
@@ -21,12 +21,13 @@ mod rule_facts;
 mod sarif;
 mod told_results;
 mod uri;
+mod written_log;
 
 pub use facts::{byte_of, column_at, place_of, record_told, row_at};
 pub use found::{Pen, find};
 pub use free_name::field_name;
 pub use help::{address_text, help_text};
-pub use json::{finding_json, push_line, refusal_answer};
+pub use json_lines::{finding_json, push_line, refusal_answer};
 pub use members::{
     finding_members, put_entry, put_keys, put_number, put_place, put_spot, put_text,
 };
@@ -41,3 +42,4 @@ pub use results::Results;
 pub use rule_facts::{meaning_of_finding, rule_count, rule_id_of, rule_index_of};
 pub use sarif::{findings_log, fronted_log, log_text, named_rule, refusal_log, rules_value};
 pub use told_results::{found_results, named_result, one_result, refused_results, results_line};
+pub use written_log::found_log;

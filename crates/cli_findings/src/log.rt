@@ -10,10 +10,11 @@ ghost use Rattle.cli_findings.specs.Lines.{found_in};
 ghost use Rattle.cli_findings.specs.Log.{log_findings, refused_log, log_within, log_records, or_refused, log_layout, printed_log};
 
 use crate::found::{Pen, find};
-use crate::json::status_of;
+use crate::json_lines::status_of;
 use crate::paths::Paths;
 use crate::region::{layout_line, line_of_fault};
-use crate::sarif::{findings_log, refusal_log};
+use crate::sarif::refusal_log;
+use crate::written_log::found_log;
 use cli_commands::{
     Answer, CommandError, Fault, GivesBytes, SizeLine, Status, layout_in, read_text, records_in,
     within_limit,
@@ -34,7 +35,7 @@ fn findings_answer(
     ensures { IfOk result (λ answer. answer_seen answer
         ≡ log_findings pen paths.entry layout.now input.now findings.now) }
 {
-    let mut text = findings_log(alloc, pen, paths.records, layout, input, findings)?;
+    let mut text = found_log(alloc, pen, "", paths.records, layout, input, findings)?;
     text.push_str("\n")?;
     Ok(Answer {
         text,

@@ -12,7 +12,7 @@ ghost use Rattle.cli_findings.specs.Lines.{found_in};
 ghost use Rattle.cli_findings.specs.Report.{report_findings, report_within, report_records, report, or_refusal, printed_report};
 
 use crate::found::{Pen, find};
-use crate::json::{findings_answer, refusal_answer};
+use crate::json_lines::{findings_answer, refusal_answer};
 use crate::log::{log_read, log_texts};
 use crate::paths::Paths;
 use cli_commands::{

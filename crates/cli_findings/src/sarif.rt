@@ -133,7 +133,7 @@ pub fn rules_value(alloc: Global) -> Result<Vec<Value>, AllocError>
 }
 
 /// The same, that of the pen last where it was asked for.
-fn rules_value_for(alloc: Global, pen: Pen) -> Result<Vec<Value>, AllocError>
+pub(crate) fn rules_value_for(alloc: Global, pen: Pen) -> Result<Vec<Value>, AllocError>
     ensures { IfOk result (λ values. map view values.items ≡ rules_data_for pen) }
 {
     let mut values = rules_value(alloc)?;
@@ -156,7 +156,7 @@ fn driver_value(alloc: Global, rules: Vec<Value>) -> Result<Value, AllocError>
 }
 
 #[tactic(auto, unfolding(crate::specs::Sarif::tool_data))]
-fn tool_value(alloc: Global, rules: Vec<Value>) -> Result<Value, AllocError>
+pub(crate) fn tool_value(alloc: Global, rules: Vec<Value>) -> Result<Value, AllocError>
     ensures { IfOk result (λ value. view value ≡ tool_data (map view rules.items)) }
 {
     single(alloc, "driver", driver_value(alloc, rules)?)

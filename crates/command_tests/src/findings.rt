@@ -1,7 +1,9 @@
 //! Each finding by itself: its name, as JSON and in a log, and what to do.
 
 use crate::reports::{is_read_again, push_results};
-use cli_findings::{Pen, finding_json, findings_log, help_text, line_of_record, name_of};
+use cli_findings::{
+    Pen, finding_json, findings_log, found_log, help_text, line_of_record, name_of,
+};
 use scr_check::{Demo, Finding, Origin, Overlong, Traced};
 use scr_layout::Layout;
 use std::alloc::AllocError;
@@ -53,6 +55,22 @@ fn text_of(row: &mut Row, written: Result<String, AllocError>) -> String {
     row.take(written).unwrap_or(String::new(row.alloc()))
 }
 
+/// Whether a log of two results is another where it is written result by result.
+fn push_made(row: &mut Row, layout: &Layout, traced: &Traced) {
+    let alloc = row.alloc();
+    let twice = [*traced, *traced];
+    let path = "a b.hex";
+    let log = text_of(
+        row,
+        findings_log(alloc, Pen::Asked, path, layout, RECORDS, &twice),
+    );
+    let made = text_of(
+        row,
+        found_log(alloc, Pen::Asked, "", path, layout, RECORDS, &twice),
+    );
+    row.word_if(made.as_str() != log.as_str(), "\nwritten as another");
+}
+
 /// A finding as JSON, and as a result of a log.
 fn push_forms(row: &mut Row, layout: &Layout, traced: &Traced) {
     let alloc = row.alloc();
@@ -65,6 +83,7 @@ fn push_forms(row: &mut Row, layout: &Layout, traced: &Traced) {
         findings_log(alloc, Pen::Ignored, path, layout, RECORDS, &[*traced]),
     );
     push_results(row, log.as_str());
+    push_made(row, layout, traced);
     let again = is_read_again(row, json.as_str()) && is_read_again(row, log.as_str());
     row.word_if(!again, "\nread as another");
 }

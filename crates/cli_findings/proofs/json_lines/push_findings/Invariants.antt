@@ -3,7 +3,7 @@ use Rattle.std.specs.Prelude.{option_map}
 use Rattle.std.specs.String.{string_bytes}
 use Rattle.std.specs.List.{flat_map}
 use Rattle.cli_findings.specs.Report.{finding_line}
-use Rattle.cli_findings.proofs.json.push_findings.Given as goal
+use Rattle.cli_findings.proofs.json_lines.push_findings.Given as goal
 
 abbrev pub invariant-loop-finding : goal.invariant-loop-finding
 invariant-loop-finding l =
