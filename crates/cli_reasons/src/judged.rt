@@ -1,7 +1,12 @@
 //! What a line does, as the commands take it.
 
-ghost use Rattle.std.specs.Prelude.{◌≡◌, ◌≤◌, ◌<◌, ◌+◌, ◌^◌, length};
+ghost use Rattle.std.specs.Prelude.{◌≡◌, ◌≤◌, ◌<◌, ◌+◌, ◌^◌, ◌&&◌, length, is_some, position, IfSome};
+ghost use Rattle.std.specs.Str.{is_utf8};
+ghost use Rattle.cli_commands.specs.Fault.{Gives};
+ghost use Rattle.cli_commands.specs.Held.{records_held};
+ghost use Rattle.ds_keys.specs.Lines.{key_of};
 ghost use Rattle.cli_reasons.specs.Judged.{size_line, is_plain, is_session, is_spaced, judged_digits, spaced_bytes, stream_flaw};
+ghost use Rattle.cli_reasons.specs.Judged.{JudgedAs, judged_by, judged_record, judged_turn, names_in, judged_name, judged_other, is_comment, judged_order, judged_characters, is_space, is_no_space, leading_spaces, offset_len, judged_trace, judged_stream};
 
 use crate::character_line::character_flaw;
 use crate::digits::{are_digits, digit_count, first_other};
@@ -9,6 +14,7 @@ use crate::flaw::{Flaw, Limit, Why};
 use crate::key_line::{Names, key_flaw};
 use crate::order_line::order_flaw;
 use crate::record_line::{SizesBy, record_flaw};
+use crate::text::checked;
 use cli_characters::{plain_line, string_of};
 use cli_commands::{CommandError, Fault, Records, SizeLine, keys_in, records_in, strokes_in};
 use ds_keys::key_of_line;
@@ -83,7 +89,9 @@ fn spaced_bytes(line: &[u8]) -> Option<usize>
 }
 
 /// What the records that a line alone tells show of it.
-fn judged_by(told: &Records, sizes: SizesBy) -> Judged {
+fn judged_by(told: &Records, sizes: SizesBy) -> Judged
+    ensures { result ≡ judged_by sizes told.now.size_line (records_held told.now.records.items) }
+{
     match told.records.as_slice() {
         [record, ..] => Judged::Record(record.len()),
         [] if sizes == SizesBy::Line && told.size_line == SizeLine::Refused => Judged::Sizes,
@@ -96,7 +104,9 @@ pub(crate) fn judged_record(
     alloc: Global,
     sizes: SizesBy,
     line: &[u8],
-) -> Result<Judged, CommandError> {
+) -> Result<Judged, CommandError>
+    ensures { JudgedAs result (judged_record sizes line.now) }
+{
     if is_plain(line) {
         return Ok(Judged::Record(line.len() / 2));
     }
@@ -119,7 +129,9 @@ pub(crate) fn judged_turn(
     alloc: Global,
     sizes: SizesBy,
     line: &[u8],
-) -> Result<Judged, CommandError> {
+) -> Result<Judged, CommandError>
+    ensures { JudgedAs result (judged_turn sizes line.now) }
+{
     if line == b"turn".as_slice() {
         return Ok(Judged::Nothing);
     }
@@ -127,15 +139,19 @@ pub(crate) fn judged_turn(
 }
 
 /// Whether a line names a key, which is a stroke too.
-fn is_key(line: &[u8]) -> bool {
-    match str::from_utf8(line) {
+fn is_key(line: &[u8]) -> bool
+    ensures { result ≡ (is_utf8 line.now && is_some (key_of line.now)) }
+{
+    match checked(line) {
         Ok(word) => key_of_line(word).is_some(),
         Err(_) => false,
     }
 }
 
 /// How many keys or strokes a line alone names.
-fn names_in(alloc: Global, names: Names, line: &[u8]) -> Result<usize, CommandError> {
+fn names_in(alloc: Global, names: Names, line: &[u8]) -> Result<usize, CommandError>
+    ensures { Gives (λ count. count) result (names_in names line.now) }
+{
     match names {
         Names::Keys => Ok(keys_in(alloc, line)?.keys.len()),
         Names::Strokes => Ok(strokes_in(alloc, line)?.strokes.len()),
@@ -143,11 +159,9 @@ fn names_in(alloc: Global, names: Names, line: &[u8]) -> Result<usize, CommandEr
 }
 
 /// What a line of keys or strokes does.
-pub(crate) fn judged_name(
-    alloc: Global,
-    names: Names,
-    line: &[u8],
-) -> Result<Judged, CommandError> {
+pub(crate) fn judged_name(alloc: Global, names: Names, line: &[u8]) -> Result<Judged, CommandError>
+    ensures { JudgedAs result (judged_name names line.now) }
+{
     if is_key(line) {
         return Ok(Judged::Key);
     }
@@ -165,7 +179,9 @@ pub(crate) fn judged_name(
 }
 
 /// What a line does that is no command and no order: whether it tells sizes, or is refused.
-fn judged_other(alloc: Global, sizes: SizesBy, line: &[u8]) -> Result<Judged, CommandError> {
+fn judged_other(alloc: Global, sizes: SizesBy, line: &[u8]) -> Result<Judged, CommandError>
+    ensures { JudgedAs result (judged_other sizes line.now) }
+{
     match records_in(alloc, line, size_line(sizes)) {
         Ok(told) => match judged_by(&told, sizes) {
             Judged::Sizes => Ok(Judged::Sizes),
@@ -176,16 +192,26 @@ fn judged_other(alloc: Global, sizes: SizesBy, line: &[u8]) -> Result<Judged, Co
     }
 }
 
+/// Whether a line of text begins with `#`.
+fn is_comment(line: &[u8]) -> bool
+    ensures { result ≡ is_comment line.now }
+{
+    line.starts_with(b"#".as_slice()) && checked(line).is_ok()
+}
+
 /// What a line of orders does.
 pub(crate) fn judged_order(
     alloc: Global,
     sizes: SizesBy,
     line: &[u8],
-) -> Result<Judged, CommandError> {
-    match line {
-        [] => return Ok(Judged::End),
-        [b'#', ..] if str::from_utf8(line).is_ok() => return Ok(Judged::Nothing),
-        _ => {}
+) -> Result<Judged, CommandError>
+    ensures { JudgedAs result (judged_order sizes line.now) }
+{
+    if line.is_empty() {
+        return Ok(Judged::End);
+    }
+    if is_comment(line) {
+        return Ok(Judged::Nothing);
     }
     match read_line(alloc, line)? {
         Some(Told::Command(_)) => Ok(Judged::Command),
@@ -199,7 +225,9 @@ pub(crate) fn judged_characters(
     alloc: Global,
     sizes: SizesBy,
     line: &[u8],
-) -> Result<Judged, CommandError> {
+) -> Result<Judged, CommandError>
+    ensures { JudgedAs result (judged_characters sizes line.now) }
+{
     let plain = plain_line(alloc, line)?;
     match judged_order(alloc, sizes, plain.as_slice())? {
         Judged::Refused(_) => Ok(Judged::Refused(character_flaw(sizes, line))),
@@ -240,11 +268,26 @@ fn judged_digits(before: usize, digits: &[u8]) -> Judged
     }
 }
 
+fn first_space(bytes: &[u8]) -> Option<usize>
+    ensures first { result ≡ position is_space bytes.now }
+    ensures inside { IfSome result (λ place. place < length bytes.now) }
+{
+    bytes.iter().position(|byte| *byte == b' ')
+}
+
+fn first_no_space(bytes: &[u8]) -> Option<usize>
+    ensures first { result ≡ position is_no_space bytes.now }
+    ensures inside { IfSome result (λ place. place < length bytes.now) }
+{
+    bytes.iter().position(|byte| *byte != b' ')
+}
+
 /// How many spaces stand at the front.
 fn leading_spaces(bytes: &[u8]) -> usize
-    ensures { result ≤ length bytes.now }
+    ensures value { result ≡ leading_spaces bytes.now }
+    ensures inside { result ≤ length bytes.now }
 {
-    match bytes.iter().position(|byte| *byte != b' ') {
+    match first_no_space(bytes) {
         Some(place) => place,
         None => bytes.len(),
     }
@@ -253,16 +296,19 @@ fn leading_spaces(bytes: &[u8]) -> usize
 /// How many bytes stand before the digits of a line of a trace: a side, an offset and spaces.
 fn offset_len(line: &[u8]) -> usize
     requires { 4 ≤ length line.now }
-    ensures { result ≤ length line.now }
+    ensures value { result ≡ offset_len line.now }
+    ensures inside { result ≤ length line.now }
 {
-    match line[4..].iter().position(|byte| *byte == b' ') {
+    match first_space(&line[4..]) {
         Some(place) => 4 + place + leading_spaces(&line[4 + place..]),
         None => line.len(),
     }
 }
 
 /// What a line of a trace does: those that have bytes begin with a side.
-pub(crate) fn judged_trace(line: &[u8]) -> Judged {
+pub(crate) fn judged_trace(line: &[u8]) -> Judged
+    ensures { result ≡ judged_trace line.now }
+{
     if !is_session(line) || MOST_TOLD < line.len() {
         return Judged::Nothing;
     }
@@ -271,7 +317,9 @@ pub(crate) fn judged_trace(line: &[u8]) -> Judged {
 }
 
 /// What a line of a stream does.
-pub(crate) fn judged_stream(line: &[u8]) -> Judged {
+pub(crate) fn judged_stream(line: &[u8]) -> Judged
+    ensures { result ≡ judged_stream line.now }
+{
     if MOST_TOLD < line.len() {
         return Judged::Session;
     }
