@@ -11,7 +11,7 @@ ghost use Rattle.cli_reports.specs.TalkLog.{front_of, kept_for, turn_log, stop_l
 use crate::blanked::{Kept, turn_text};
 use crate::stop::traced_in;
 use cli_commands::{Answer, CommandError, Fault, Status, Talked, judge_talk};
-use cli_findings::{Pen, fronted_log, layout_line, line_of_fault, record_told, refusal_log};
+use cli_findings::{Pen, found_log, layout_line, line_of_fault, record_told, refusal_log};
 use scr_check::{Finding, TalkVerdict, Traced};
 use scr_layout::Layout;
 use std::alloc::{AllocError, Global};
@@ -50,7 +50,7 @@ fn turn_log(
 {
     let text = turn_text(alloc, kept_for(findings), turn, input)?;
     let front = front_of(alloc, turn)?;
-    fronted_log(
+    found_log(
         alloc,
         Pen::Ignored,
         front.as_str(),
