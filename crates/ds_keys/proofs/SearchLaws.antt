@@ -8,11 +8,10 @@ use Rattle.ds_screen.specs.Ring.{ring_on, ring_back, ring_distance, least}
 use Rattle.ds_screen.specs.Picture.{cell_at}
 use Rattle.ds_screen.specs.Fields.{is_attribute, is_character, attribute_before}
 use Rattle.ds_screen.specs.Orders.{is_unprotected_attribute}
-use Rattle.ds_screen.proofs.RingLaws.{least_at, least_none, back_more, back_cases, on_cases, back_lt, on_lt, on_more, distance_cases, search_cases}
+use Rattle.ds_screen.proofs.RingLaws.{least_at, least_none, back_more, back_cases, on_cases, back_lt, distance_cases, search_cases}
 use Rattle.ds_screen.proofs.RuledLaws.{place_before}
 use Rattle.ds_screen.proofs.FieldLaws.{before_found, before_none}
-use Rattle.ds_screen.proofs.StretchLaws.{on_sum}
-use Rattle.ds_keys.specs.Kept.{AreAhead, AreBack}
+use Rattle.ds_keys.specs.Kept.{AreBack}
 use Rattle.ds_keys.specs.Moves.{is_field_start, start_ahead, start_back, stops_cursor, settled_at, settled}
 
 same_some : (a b : ℕ) → Some a ≡ Some b → a ≡ b
@@ -34,18 +33,7 @@ start_test cells at last before here result there reads sees tests =
     tests ∙ ap (λ x. is_character x && is_unprotected_attribute before) sees
     ∙ ap (λ x. is_character (cell_at cells at) && is_unprotected_attribute x) (reads ∙ ap (cell_at cells) there)
 
-pub ahead_found : (cells : List Cell) (p k at : ℕ) → k < length cells → at ≡ ring_on (length cells) p (k + 1)
-    → ((d : ℕ) → d < k → is_field_start cells (ring_on (length cells) p (d + 1)) ≡ false) → is_field_start cells at ≡ true → at ≡ start_ahead cells p
-unfolding start_ahead
-ahead_found cells p k at few here misses hit =
-    let found : least (length cells) (λ d. is_field_start cells (ring_on (length cells) p (d + 1))) ≡ Some k =
-    least_at (length cells) k (λ d. is_field_start cells (ring_on (length cells) p (d + 1))) few misses (ap (is_field_start cells) (sym here) ∙ hit) in
-    here ∙ sym (ap (λ o. unwrap_or (option_map (λ d. ring_on (length cells) p (d + 1)) o) 0) found)
-
--- no field starts at so many positions going on, or back, from the one after p, or before it
-abbrev pub NoStartAhead : List Cell → ℕ → ℕ → Type 0
-NoStartAhead cells p k = (d : ℕ) → d < k → is_field_start cells (ring_on (length cells) p (d + 1)) ≡ false
-
+-- no field starts at so many positions going back from the one before p
 abbrev pub NoStartBack : List Cell → ℕ → ℕ → Type 0
 NoStartBack cells p k = (d : ℕ) → d < k → is_field_start cells (ring_back (length cells) p (d + 1)) ≡ false
 
@@ -61,25 +49,6 @@ and_false false b none = refl
 no_start : (cells : List Cell) (p q : ℕ) → ring_back (length cells) p 1 ≡ q → is_attribute (cell_at cells q) ≡ false → is_field_start cells p ≡ false
 no_start cells p q before none =
     and_false (is_character (cell_at cells p)) _ (ap (λ z. is_unprotected_attribute (cell_at cells z)) before ∙ no_unprotected (cell_at cells q) none)
-
-pub ahead_run : (cells : List Cell) (p gone at run : ℕ) → p < length cells → gone + run ≤ length cells → at ≡ ring_on (length cells) p gone
-    → AreAhead cells at run → NoStartAhead cells p gone → NoStartAhead cells p (gone + run)
-ahead_run cells p gone at run inside few here none misses d below =
-    let n : ℕ = length cells in
-    elim (cases_lt d gone) [
-      | inl early ↦ misses d early
-      | inr late ↦
-          let all : gone + (d - gone) ≡ d = omega arith in
-          let there : ring_on n at (d - gone) ≡ ring_on n p d = ap (λ q. ring_on n q (d - gone)) here ∙ on_sum n p gone (d - gone) inside (omega arith) ∙ ap (ring_on n p) all in
-          let before : ring_back n (ring_on n p (d + 1)) 1 ≡ ring_on n p d =
-          place_before n n (ring_on n p d) (ring_on n p (d + 1)) (on_lt n p d inside (omega arith)) refl (sym (on_more n p d inside (omega arith))) in
-          no_start cells (ring_on n p (d + 1)) (ring_on n at (d - gone)) (before ∙ sym there) (none (d - gone) (omega arith))
-    ]
-
--- where a search that went so far stops
-pub ahead_in : (n m p gone at run stop : ℕ) → p < n → gone + run ≤ n → m ≡ n → at ≡ ring_on n p gone → stop ≡ ring_on m at run → stop ≡ ring_on n p (gone + run)
-ahead_in n m p gone at run stop inside few len here on =
-    on ∙ ap (λ z. ring_on z at run) len ∙ ap (λ q. ring_on n q run) here ∙ on_sum n p gone run inside few
 
 -- steps back, one after the other
 pub back_sum : (n p a d : ℕ) → p < n → a + d ≤ n → ring_back n (ring_back n p a) d ≡ ring_back n p (a + d)
@@ -166,12 +135,6 @@ none_back cells at most few nearest =
       | inl found ↦ let e = nearest ∙ sym (before_found cells m at found.0 (ring_back m at found.0) refl found.1.inside refl found.1.misses found.1.hit) in absurd cc
       | inr none ↦ (λ d lt. none d (omega arith))
     ]
-
-pub ahead_none : (cells : List Cell) (p : ℕ) → ((d : ℕ) → d < length cells → is_field_start cells (ring_on (length cells) p (d + 1)) ≡ false) → 0 ≡ start_ahead cells p
-unfolding start_ahead
-ahead_none cells p misses =
-    sym (ap (λ o. unwrap_or (option_map (λ d. ring_on (length cells) p (d + 1)) o) 0)
-    (least_none (length cells) (λ d. is_field_start cells (ring_on (length cells) p (d + 1))) misses))
 
 pub back_found : (cells : List Cell) (p k at : ℕ) → k < length cells → at ≡ ring_back (length cells) p (k + 1)
     → ((d : ℕ) → d < k → is_field_start cells (ring_back (length cells) p (d + 1)) ≡ false) → is_field_start cells at ≡ true → at ≡ start_back cells p

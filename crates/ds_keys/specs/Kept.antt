@@ -26,10 +26,7 @@ moved_back cells end p = if p + 1 == end then blank else cell_at cells (p + 1)
 abbrev pub AreCharacters : List Cell → ℕ → ℕ → Type 0
 AreCharacters cells from end = (p : ℕ) → from ≤ p → p < end → is_attribute (cell_at cells p) ≡ false
 
--- no attribute stands at so many positions from one on, or back, round the ring
-abbrev pub AreAhead : List Cell → ℕ → ℕ → Type 0
-AreAhead cells at steps = (d : ℕ) → d < steps → is_attribute (cell_at cells (ring_on (length cells) at d)) ≡ false
-
+-- no attribute stands at so many positions from one back, round the ring
 abbrev pub AreBack : List Cell → ℕ → ℕ → Type 0
 AreBack cells at steps = (d : ℕ) → d < steps → is_attribute (cell_at cells (ring_back (length cells) at d)) ≡ false
 

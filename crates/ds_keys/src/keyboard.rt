@@ -7,7 +7,7 @@ ghost use Rattle.ds_keys.specs.Kept.{place_after};
 use crate::edits::{delete, erase_eof, type_code};
 use crate::fields::position_count;
 use crate::key::Key;
-use crate::moves::{place_ahead, place_back, row_after};
+use crate::moves::{place_back, row_after};
 use crate::pressed::Pressed;
 use ds_codec::Aid;
 use ds_screen::ring::{backward, forward};
@@ -35,7 +35,7 @@ fn place_of<C: Cells>(screen: &Screen<C>, key: Key) -> u32
         Key::Right => forward(n, cursor, 1),
         Key::Up => backward(n, cursor, cols),
         Key::Down => forward(n, cursor, cols),
-        Key::Tab => place_ahead(screen, cursor),
+        Key::Tab => screen.start_ahead(cursor),
         Key::BackTab => place_back(screen, cursor),
         Key::NewLine => screen.first_open(row_after(n, cols, cursor)),
         Key::Home => screen.first_open(0),

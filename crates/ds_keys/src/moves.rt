@@ -1,8 +1,8 @@
 //! Where keys put the cursor (GA23-0059, "Keyboard").
 
 ghost use Rattle.std.specs.Prelude.{◌≡◌, ◌<◌, ◌≤◌, length};
-ghost use Rattle.ds_keys.specs.Moves.{start_ahead, start_back, settled, next_row};
-ghost use Rattle.ds_keys.specs.Kept.{AreAhead, AreBack};
+ghost use Rattle.ds_keys.specs.Moves.{start_back, settled, next_row};
+ghost use Rattle.ds_keys.specs.Kept.{AreBack};
 
 use crate::fields::{position_count, starts_field};
 use ds_codec::Cell;
@@ -12,25 +12,6 @@ use ds_screen::{Cells, Screen};
 /// How many cells a search looks at before it asks for the next attribute: that is quicker where attributes stand close
 /// together.
 const NEAR: u32 = 8;
-
-/// How many characters stand from a position on before the next attribute round the buffer, at most `most`.
-fn characters_ahead<C: Cells>(screen: &Screen<C>, at: u32, most: u32) -> u32
-    requires inside { at < length screen.now.cells }
-    requires few { most ≤ length screen.now.cells }
-    ensures within { result ≤ most }
-    ensures characters { AreAhead screen.now.cells at result }
-{
-    let n = position_count(screen);
-    'near: for run in 0..most.min(NEAR) {
-        if let Cell::Field(_) = screen.cell(forward(n, at, run)) {
-            return run;
-        }
-    }
-    match screen.attr_from(at) {
-        Some(q) => distance(n, at, q).min(most),
-        None => most,
-    }
-}
 
 /// How many characters stand from a position back to the attribute before it round the buffer, at most `most`.
 fn characters_back<C: Cells>(screen: &Screen<C>, at: u32, most: u32) -> u32
@@ -49,32 +30,6 @@ fn characters_back<C: Cells>(screen: &Screen<C>, at: u32, most: u32) -> u32
         Some(q) => distance(n, q, at).min(most),
         None => most,
     }
-}
-
-/// The field start at the least positive distance going on, `from` itself last; 0 where there is none. It goes from
-/// attribute to attribute.
-pub(crate) fn place_ahead<C: Cells>(screen: &Screen<C>, from: u32) -> u32
-    requires { from < length screen.now.cells }
-    ensures start { result ≡ start_ahead screen.now.cells from }
-    ensures inside { result < length screen.now.cells }
-{
-    let n = position_count(screen);
-    let mut at = from;
-    let mut gone = 0;
-    'attributes: while gone < n {
-        let run = characters_ahead(screen, at, n - gone);
-        gone += run;
-        if gone == n {
-            return 0;
-        }
-        let stop = forward(n, at, run);
-        at = forward(n, stop, 1);
-        if starts_field(screen.cell(stop), screen.cell(at)) {
-            return at;
-        }
-        gone += 1;
-    }
-    0
 }
 
 /// The field start at the least positive distance going back, `from` itself last; 0 where there is none. It goes
@@ -118,7 +73,7 @@ pub(crate) fn settle<C: Cells>(screen: &Screen<C>, from: u32) -> u32
             Cell::Char(_) => return at,
             Cell::Field(attribute) => {
                 if attribute.auto_skip() {
-                    return place_ahead(screen, at);
+                    return screen.start_ahead(at);
                 }
             }
         }

@@ -1,11 +1,27 @@
 //! Edits that keep the order. `add` alone takes memory, and each moves the entries after it once.
 
 ghost use Rattle.std.specs.Prelude.{◌≡◌, ◌≤◌, ◌<◌, ℕ, ◌==◌, ◌&&◌, nat_le, nat_lt, if◌then◌else◌, Some, None, unwrap_or, vec_capacity, length, OnOk, OnErr};
+ghost use Rattle.std.specs.List.{insert};
 ghost use Rattle.ds_places.specs.Places.{IsRising, at_place};
 
 use crate::placed::Placed;
 use crate::search::{rank, rank_from, slot};
 use std::alloc::AllocError;
+
+/// Inserts an entry at an index, where there is room for one more. At the end none is moved, and nothing is called.
+#[inline(always)]
+fn insert_at<T: Placed>(entries: &mut Vec<T>, index: usize, entry: T)
+    requires within { index ≤ length entries.old.items }
+    requires room { length entries.old.items < vec_capacity entries.old }
+    ensures inserted { entries.new.items ≡ insert entries.old.items index entry }
+    ensures room { vec_capacity entries.new ≡ vec_capacity entries.old }
+{
+    if index == entries.len() {
+        entries.push_reserved(entry);
+    } else {
+        entries.insert(index, entry).unwrap();
+    }
+}
 
 /// Stores an entry at its place, over the one that it held, where there is room for one more if it held none.
 #[inline(always)]
@@ -20,7 +36,7 @@ pub(crate) fn store<T: Placed>(entries: &mut Vec<T>, entry: T)
 {
     match slot(entries, entry.place()) {
         Ok(index) => entries[index] = entry,
-        Err(index) => entries.insert(index, entry).unwrap(),
+        Err(index) => insert_at(entries, index, entry),
     }
 }
 

@@ -1,51 +1,30 @@
 -- What is done to the cells of planes, and to the index of their attributes.
-use Rattle.std.proofs.Common.{◌≡◌, ℕ, zero, suc, ◌+◌, ◌-◌, ◌%◌, min, ◌<◌, ◌≤◌, ◌&&◌, ◌||◌, Bool, true, false, cond, eqb, leb, ltb, List, length, get_or, set, Option, Some, None, refl, sym, ◌∙◌, ap, subst, arith, inl, inr, get_or-set_same, get_or-set_other}
-use Rattle.std.specs.Option.{unwrap_or, option_map}
+use Rattle.std.proofs.Common.{◌≡◌, ℕ, zero, suc, ◌+◌, ◌-◌, ◌%◌, ◌<◌, ◌≤◌, ◌&&◌, ◌||◌, Bool, true, false, cond, eqb, leb, ltb, List, length, get_or, set, Option, Some, None, refl, sym, ◌∙◌, ap, arith, inl, inr, get_or-set_same, get_or-set_other}
+use Rattle.std.specs.Option.{unwrap_or}
 use Rattle.std.proofs.Math.Nat.{mod-add-mod, mod-eq_of_lt, mod_self}
-use Rattle.std.proofs.lemmas.Bool.{cond-true, cond-false, cases_lt, cases_eq, eq-eqb, ne_eqb, leb-true, ltb-true, lt-ltb, le-ltb, le-leb, lt-leb}
+use Rattle.std.proofs.lemmas.Bool.{cond-true, cond-false, cases_lt, cases_eq, eq-eqb, ne_eqb, lt-ltb, le-ltb, le-leb, lt-leb}
 use Rattle.ds_codec.specs.declared.cell.Cell.{Cell}
 use Rattle.ds_codec.specs.declared.cell.Cell.TheVariants.{Field, Char}
 use Rattle.ds_codec.specs.Character.{Glyph, glyph, null}
-use Rattle.ds_places.specs.Places.{at_place, IsRising, IsWithin, is_round}
+use Rattle.ds_places.specs.Places.{is_round}
 use Rattle.ds_places.specs.Nearest.{IsFirstFrom}
 use Rattle.ds_screen.specs.declared.records.Reset.{Reset}
 use Rattle.ds_screen.specs.declared.records.Reset.TheVariants.{Every, Unprotected}
-use Rattle.ds_screen.specs.declared.mark.Mark.{Mark}
-use Rattle.ds_screen.specs.Ring.{ring_on, ring_distance, greatest}
+use Rattle.ds_screen.specs.Ring.{ring_distance, greatest}
 use Rattle.ds_screen.specs.Picture.{blank, cell_at, ruled}
 use Rattle.ds_screen.specs.Fields.{is_attribute}
-use Rattle.ds_screen.specs.Orders.{byte_cell, text_cell, repeated_cell, nulled_cell, is_reached, first_from, is_unprotected_attribute, behind, tab_stop}
+use Rattle.ds_screen.specs.Orders.{byte_cell, repeated_cell, nulled_cell, is_reached, first_from}
 use Rattle.ds_screen.specs.Reset.{after_reset}
-use Rattle.ds_screen.specs.Marks.{mark_of}
-use Rattle.ds_screen.specs.Planes.{filled_cell, written_cell, itself, spot_of, IsIndex}
+use Rattle.ds_screen.specs.Planes.{filled_cell, written_cell, itself, IsIndex}
 use Rattle.ds_screen.proofs.RuledLaws.{length-ruled, cell_at-ruled, ruled_same, as_ruled}
 use Rattle.ds_screen.proofs.TabLaws.{first_hit, first_miss}
 use Rattle.ds_screen.proofs.EraseLaws.{reaches}
-use Rattle.ds_screen.proofs.MarkLaws.{past_blank, round_distance, not_unprotected, text_each, NoneFree}
+use Rattle.ds_screen.proofs.MarkLaws.{round_distance}
 use Rattle.ds_screen.proofs.RunLaws.{run_cell, greatest_hit, greatest_miss}
 use Rattle.ds_screen.proofs.PlaneLaws.{both_ends}
 use Rattle.ds_screen.proofs.HalvingLaws.{held_attribute, none_held}
 
--- ---- an index of cells that a rule says
-pub listed_ruled : (index : List ℕ) (n : ℕ) (rule : ℕ → Cell) → IsRising itself index → IsWithin itself n index
-    → ((p : ℕ) → p < n → at_place itself index p ≡ spot_of p (rule p)) → IsIndex index (ruled n rule)
-listed_ruled index n rule rising within each =
-    record {
-      rising = rising;
-      each = λ p. elim (cases_lt p n) [
-        | inl lt ↦ each p lt ∙ ap (spot_of p) (sym (cell_at-ruled n rule p lt))
-        | inr far ↦ within p far ∙ ap (spot_of p) (sym (past_blank (ruled n rule) p (omega (arith, length-ruled n rule))))
-      ];
-    }
-
-pub within_listed : (index : List ℕ) (cells : List Cell) → IsIndex index cells → IsWithin itself (length cells) index
-within_listed index cells listed q far = listed.each q ∙ ap (spot_of q) (past_blank cells q far)
-
 -- ---- a character in so many positions
-spot_char : (t : Bool) (q : ℕ) (c : Glyph) (cell : Cell) → cond t None (spot_of q cell) ≡ spot_of q (cond t (Char c) cell)
-spot_char true q c cell = refl
-spot_char false q c cell = refl
-
 round_reached : (n b stop steps q : ℕ) → b < n → q < n → steps ≤ n → steps ≡ cond (eqb b stop) n (ring_distance n b stop) → is_round n b steps q ≡ is_reached n b stop q
 round_reached n b stop steps q inside lt most is = round_distance n b steps q inside lt most ∙ reaches n b stop q steps inside lt is
 
@@ -57,13 +36,6 @@ repeat_cells cells n b stop steps c len inside most is =
     ∙ ruled_same (length cells) _ _
     (λ p lt. ap (λ t. cond t (Char c) (cell_at cells p))
     (round_reached n b stop steps p inside (omega arith) most is ∙ ap (λ m. is_reached m b stop p) len))
-
-pub repeat_listed : (index now : List ℕ) (cells : List Cell) (n b steps : ℕ) (c : Glyph) → IsIndex index cells → n ≡ length cells → IsRising itself now → IsWithin itself n now
-    → ((q : ℕ) → at_place itself now q ≡ cond (is_round n b steps q) None (at_place itself index q))
-    → IsIndex now (ruled n (λ p. cond (is_round n b steps p) (Char c) (cell_at cells p)))
-repeat_listed index now cells n b steps c listed len rising within cut =
-    listed_ruled now n (λ p. cond (is_round n b steps p) (Char c) (cell_at cells p)) rising within
-    (λ p lt. cut p ∙ ap (cond (is_round n b steps p) None) (listed.each p) ∙ spot_char (is_round n b steps p) p c (cell_at cells p))
 
 -- ---- nulls up to an attribute
 pub null_place : (index : List ℕ) (cells : List Cell) (n b : ℕ) (o : Option ℕ) → IsIndex index cells → n ≡ length cells → IsFirstFrom itself index b o
@@ -80,61 +52,9 @@ null_place index cells n b (Some q) listed len found =
       λ p from below. none_held index cells p listed (found.2 p from below),
     )
 
-pub null_listed : (index : List ℕ) (cells : List Cell) (b stop : ℕ) (c : Glyph) → IsIndex index cells → ((p : ℕ) → b ≤ p → p < stop → is_attribute (cell_at cells p) ≡ false)
-    → IsIndex index (ruled (length cells) (filled_cell cells b stop c))
-null_listed index cells b stop c listed misses =
-    listed_ruled index (length cells) (filled_cell cells b stop c) listed.rising (within_listed index cells listed)
-    (λ p lt. listed.each p ∙ same p)
-  where
-    no_spot : (p : ℕ) (cell : Cell) → is_attribute cell ≡ false → spot_of p cell ≡ None
-    no_spot p (Field bits) e = absurd cc
-    no_spot p (Char x) e = refl
-
-    chosen : (p : ℕ) (t u : Bool) (cell : Cell) → (t ≡ true → u ≡ true → is_attribute cell ≡ false) → spot_of p cell ≡ spot_of p (cond (t && u) (Char c) cell)
-    chosen p true true cell h = no_spot p cell (h refl refl)
-    chosen p true false cell h = refl
-    chosen p false u cell h = refl
-
-    same : (p : ℕ) → spot_of p (cell_at cells p) ≡ spot_of p (filled_cell cells b stop c p)
-    same p = chosen p (leb b p) (ltb p stop) (cell_at cells p) (λ low high. misses p (leb-true b p low) (ltb-true p stop high))
-
 pub null_cells : (cells : List Cell) (b stop : ℕ) → ruled (length cells) (filled_cell cells b stop null) ≡ ruled (length cells) (nulled_cell cells b stop)
 unfolding nulled_cell
 null_cells cells b stop = refl
-
-pub stop_found : (index : List ℕ) (cells : List Cell) (from at q : ℕ) → IsIndex index cells → from ≤ at → IsFirstFrom itself index at (Some q)
-    → NoneFree cells from at → is_unprotected_attribute (cell_at cells q) ≡ true → ring_on (length cells) q 1 ≡ tab_stop cells from
-stop_found index cells from at q listed order found misses hit =
-    sym (ap (behind (length cells)) (first_hit is_unprotected_attribute cells from q
-    (record {
-      ahead = omega (arith, found.0);
-      inside = (held_attribute index cells q q listed found.1).2;
-      misses = λ r low below. elim (cases_lt r at) [
-        | inl early ↦ misses r low early
-        | inr late ↦ not_unprotected (cell_at cells r) (none_held index cells r listed (found.2 r late below))
-      ];
-      hit = hit;
-    })))
-
-pub stop_nowhere : (index : List ℕ) (cells : List Cell) (from at : ℕ) → IsIndex index cells → IsFirstFrom itself index at None
-    → NoneFree cells from at → 0 ≡ tab_stop cells from
-stop_nowhere index cells from at listed none misses =
-    sym (ap (behind (length cells)) (first_miss is_unprotected_attribute cells from
-    (λ r low lt. elim (cases_lt r at) [
-      | inl early ↦ misses r low early
-      | inr late ↦ not_unprotected (cell_at cells r) (none_held index cells r listed (none r late))
-    ])))
-
-pub stop_more : (index : List ℕ) (cells : List Cell) (from at q : ℕ) → IsIndex index cells → IsFirstFrom itself index at (Some q)
-    → NoneFree cells from at → is_unprotected_attribute (cell_at cells q) ≡ false → NoneFree cells from (q + 1)
-stop_more index cells from at q listed found misses shut r low below =
-    elim (cases_lt r at) [
-      | inl early ↦ misses r low early
-      | inr late ↦ elim (cases_eq r q) [
-        | inl same ↦ ap (λ z. is_unprotected_attribute (cell_at cells z)) same ∙ shut
-        | inr apart ↦ not_unprotected (cell_at cells r) (none_held index cells r listed (found.2 r late (omega arith)))
-      ]
-    ]
 
 -- ---- the tags of the attributes that are listed
 -- the cells of the places below a bound are reset
@@ -185,17 +105,6 @@ reset_all index cells now which at listed none len each =
       | inl early ↦ cond-true (ltb p at) _ _ (lt-ltb _ _ early)
       | inr late ↦ cond-false (ltb p at) _ _ (le-ltb _ _ late) ∙ sym (keep_char which (cell_at cells p) (none_held index cells p listed (none p late)))
     ]))
-
-spot_reset : (which : Reset) (p : ℕ) (c : Cell) → spot_of p c ≡ spot_of p (after_reset which c)
-spot_reset Every p (Field bits) = refl
-spot_reset Every p (Char c) = refl
-spot_reset Unprotected p (Field bits) = refl
-spot_reset Unprotected p (Char c) = refl
-
-pub reset_index : (index : List ℕ) (cells : List Cell) (which : Reset) → IsIndex index cells → IsIndex index (ruled (length cells) (λ p. after_reset which (cell_at cells p)))
-reset_index index cells which listed =
-    listed_ruled index (length cells) (λ p. after_reset which (cell_at cells p)) listed.rising (within_listed index cells listed)
-    (λ p lt. listed.each p ∙ spot_reset which p (cell_at cells p))
 
 -- ---- a part that runs round the end
 pub round_both : (cells : List Cell) (b steps left : ℕ) (c : Glyph) → b < length cells → steps ≤ length cells → left ≡ length cells - b → left < steps
@@ -290,23 +199,3 @@ part_next n b done at count is lt = sym (ap (λ x. x % n) (omega arith) ∙ mod_
 pub part_round : (n b done at count : ℕ) → 0 < n → at ≡ (b + done) % n → at + count ≡ n → 0 ≡ (b + (done + count)) % n
 part_round n b done at count some is full =
     sym (ap (λ x. x % n) (omega arith) ∙ sym (mod-add-mod (b + done) n count) ∙ ap (λ r. (r + count) % n) (sym is) ∙ ap (λ x. x % n) full ∙ mod_self n)
-
--- ---- text overwrites attributes
-spot_of_mark : (q : ℕ) (c : Cell) → option_map (λ (m : Mark). m.at) (mark_of q c) ≡ spot_of q c
-spot_of_mark q (Field bits) = refl
-spot_of_mark q (Char c) = refl
-
-spot_cut : (t : Bool) (q : ℕ) (c : Cell) → option_map (λ (m : Mark). m.at) (cond t None (mark_of q c)) ≡ cond t None (spot_of q c)
-spot_cut true q c = refl
-spot_cut false q c = spot_of_mark q c
-
-pub text_listed : (index now : List ℕ) (cells : List Cell) (n b steps : ℕ) (run : List ℕ) → IsIndex index cells → n ≡ length cells → b < n → steps ≡ min (length run) n
-    → IsRising itself now → IsWithin itself n now → ((q : ℕ) → at_place itself now q ≡ cond (is_round n b steps q) None (at_place itself index q))
-    → IsIndex now (ruled (length cells) (text_cell cells b run))
-text_listed index now cells n b steps run listed len inside is rising within cut =
-    listed_ruled now (length cells) (text_cell cells b run) rising (subst (λ m. IsWithin itself m now) len within)
-    (λ p lt. cut p ∙ ap (λ m. cond (is_round m b steps p) None (at_place itself index p)) len ∙ ap (cond (is_round (length cells) b steps p) None) (listed.each p)
-    ∙ sym (spot_cut (is_round (length cells) b steps p) p (cell_at cells p))
-    ∙ ap (option_map (λ (m : Mark). m.at)) (text_each cells b run steps p (omega (arith, len)) lt (omega (arith, len)) (omega arith)
-    (elim (cases_lt (length run) n) [ inl less ↦ inl (omega arith) | inr more ↦ inr (omega (arith, len)) ]))
-    ∙ spot_of_mark p (text_cell cells b run p))

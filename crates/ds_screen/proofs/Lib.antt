@@ -21,6 +21,8 @@ pub mod WriteLaws
 pub mod OutlineFieldLaws
 pub mod PlaneLaws
 pub mod HalvingLaws
+pub mod ListedLaws
 pub mod IndexLaws
 pub mod StretchLaws
+pub mod StartLaws
 pub mod Rows

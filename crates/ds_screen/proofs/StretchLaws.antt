@@ -1,6 +1,6 @@
 -- Characters between two attributes, round the ring.
 use Rattle.std.proofs.Common.{◌≡◌, ℕ, zero, suc, ◌+◌, ◌-◌, ◌<◌, ◌≤◌, Bool, true, false, not, ◌&&◌, cond, ltb, List, length, min, Some, None, refl, sym, ◌∙◌, ap, arith, inl, inr}
-use Rattle.std.proofs.lemmas.Bool.{cond-true, cond-false, cases_Bool, cases_lt, cases_eq, lt-ltb, le-ltb, ltb-true}
+use Rattle.std.proofs.lemmas.Bool.{cond-true, cond-false, cases_Bool, cases_lt, cases_eq, lt-ltb, le-ltb}
 use Rattle.ds_codec.specs.declared.cell.Cell.{Cell}
 use Rattle.ds_codec.specs.declared.cell.Cell.TheVariants.{Field, Char}
 use Rattle.ds_codec.specs.Attribute.{is_protected}
@@ -8,13 +8,12 @@ use Rattle.ds_screen.specs.Ring.{ring_on, ring_back, ring_distance}
 use Rattle.ds_places.specs.Places.{is_round}
 use Rattle.ds_screen.specs.Picture.{blank, cell_at, ruled}
 use Rattle.ds_screen.specs.Fields.{is_attribute, attribute_from, ruling_bits, ruling_after, is_open_under, is_open}
-use Rattle.ds_screen.specs.Planes.{HasNone, spot_of, IsIndex, stretch_cell}
+use Rattle.ds_screen.specs.Planes.{HasNone, stretch_cell}
 use Rattle.ds_screen.proofs.RingLaws.{distance_cases, on_cases, on-zero, on_lt, on_more, search_cases}
 use Rattle.ds_screen.proofs.RuledLaws.{length-ruled, cell_at-ruled, ruled_same, as_ruled, walked_cell, walk_skips, place_before, distance_on, on_distance, distance_lt}
 use Rattle.ds_screen.proofs.EraseLaws.{nulled_open}
 use Rattle.ds_screen.proofs.FieldLaws.{ruling_more, from_found, from_none}
 use Rattle.ds_screen.proofs.MarkLaws.{keeps, open_shut, open_free, round_distance}
-use Rattle.ds_screen.proofs.IndexLaws.{listed_ruled, within_listed}
 
 pub on_sum : (n p a d : ℕ) → p < n → a + d ≤ n → ring_on n (ring_on n p a) d ≡ ring_on n p (a + d)
 on_sum n p a d inside few =
@@ -229,21 +228,7 @@ nulled_one cells b gone stop inside few here there =
     walk_skips cells b gone (nulled_open cells) inside few
     (ap (nulled_open cells) (sym here) ∙ ap (λ t. cond t blank (cell_at cells stop)) (attribute_not_open cells stop there) ∙ ap (cell_at cells) here)
 
--- ---- an index when a stretch is nulled
-pub stretch_listed : (index : List ℕ) (cells : List Cell) (at run : ℕ) (free : Bool) → IsIndex index cells → at < length cells → HasNone cells at run
-    → IsIndex index (ruled (length cells) (λ p. cond (free && ltb (ring_distance (length cells) at p) run) blank (cell_at cells p)))
-stretch_listed index cells at run free listed inside none =
-    let n : ℕ = length cells in
-    listed_ruled index n _ listed.rising (within_listed index cells listed)
-    (λ p lt. listed.each p ∙ chosen p free (ltb (ring_distance n at p) run) (cell_at cells p) (λ near.
-    ap (λ q. is_attribute (cell_at cells q)) (sym (on_distance n at p inside lt)) ∙ none (ring_distance n at p) (ltb-true _ _ near)))
-  where
-    chosen : (p : ℕ) (t u : Bool) (c : Cell) → (u ≡ true → is_attribute c ≡ false) → spot_of p c ≡ spot_of p (cond (t && u) blank c)
-    chosen p false u c h = refl
-    chosen p true false c h = refl
-    chosen p true true (Char c) h = refl
-    chosen p true true (Field bits) h = absurd (let e = h refl in cc)
-
+-- ---- a stretch that is nulled
 pub stretch_filled : (cells : List Cell) (at run : ℕ) (free : Bool) → free ≡ true → at < length cells → run ≤ length cells
     → ruled (length cells) (λ p. cond (is_round (length cells) at run p) blank (cell_at cells p))
     ≡ ruled (length cells) (λ p. cond (free && ltb (ring_distance (length cells) at p) run) blank (cell_at cells p))

@@ -12,6 +12,8 @@ pub mod Marks
 pub mod Kept
 pub mod Outline
 pub mod Planes
+pub mod Listed
+pub mod Starts
 pub mod Worst
 pub mod Writes
 pub mod Prepared

@@ -5,15 +5,16 @@ ghost use Rattle.std.specs.List.{list_all};
 ghost use Rattle.ds_codec.specs.declared.cell.Cell.{Cell};
 ghost use Rattle.ds_codec.specs.Character.{is_text};
 ghost use Rattle.ds_screen.specs.Picture.{blank, cell_at, ruled};
-ghost use Rattle.ds_screen.specs.Fields.{is_attribute, attribute_before, attribute_from, ruling_bits, first_open};
+ghost use Rattle.ds_screen.specs.Fields.{is_attribute, attribute_of, attribute_before, attribute_from, ruling_bits, first_open};
 ghost use Rattle.ds_screen.specs.Orders.{text_cell, repeated_cell, erased_cell, nulled_cell, first_from, tab_stop};
 ghost use Rattle.ds_screen.specs.Reset.{after_reset};
+ghost use Rattle.ds_screen.specs.Starts.{start_ahead};
 
 use crate::ranges::reach;
 use crate::records::{Reset, reset_cell};
 use crate::ring::{next, previous};
 use crate::ruling::{is_open_cell, ruled_on};
-use crate::tab::is_unprotected_field;
+use crate::tab::{is_unprotected_field, starts_field};
 use ds_codec::{Attr, Cell, Char};
 use std::alloc::{AllocError, Global};
 
@@ -224,6 +225,25 @@ pub trait Cells: Drop {
         }
         0
     }
+
+    /// The first position of a field that may be typed into, at the least positive distance going on, `from` itself last; 0
+    /// where there is none.
+    fn start_ahead(&self, from: u32) -> u32
+        requires { from < length (content self.now) }
+        ensures start { result ≡ start_ahead (content self.now) from }
+        ensures inside { result < length (content self.now) }
+    {
+        let n = self.len();
+        let mut place = from;
+        'steps: for steps in 0..n {
+            let before = self.cell(place);
+            place = next(n, place);
+            if starts_field(&before, &self.cell(place)) {
+                return place;
+            }
+        }
+        0
+    }
 }
 
 /// Whether a cell holds an attribute.
@@ -233,5 +253,15 @@ pub(crate) fn is_field(cell: Cell) -> bool
     match cell {
         Cell::Field(_) => true,
         Cell::Char(_) => false,
+    }
+}
+
+/// The attribute that a cell holds, if it holds one.
+pub(crate) fn attribute_in(cell: &Cell) -> Option<Attr>
+    ensures { result ≡ attribute_of cell.now }
+{
+    match cell {
+        Cell::Field(attribute) => Some(*attribute),
+        Cell::Char(_) => None,
     }
 }

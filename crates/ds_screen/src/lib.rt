@@ -6,6 +6,7 @@ mod counted;
 mod effect;
 mod field;
 mod fields;
+mod index;
 mod laws;
 mod lock;
 mod mark;

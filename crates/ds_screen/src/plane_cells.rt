@@ -1,66 +1,47 @@
 //! A buffer kept in planes, with a sorted index of its attributes.
 
-ghost use Rattle.std.specs.Prelude.{◌≡◌, ◌≤◌, ◌<◌, ◌+◌, ◌%◌, ℕ, ◌==◌, true, if◌then◌else◌, length};
+ghost use Rattle.std.specs.Prelude.{◌≡◌, ◌≤◌, ◌<◌, ◌+◌, ◌%◌, true, if◌then◌else◌, length};
 ghost use Rattle.std.specs.List.{list_all};
 ghost use Rattle.ds_codec.specs.declared.cell.Cell.{Cell};
 ghost use Rattle.ds_codec.specs.Character.{is_text};
-ghost use Rattle.ds_places.specs.Places.{IsRising, at_place, is_round};
+ghost use Rattle.ds_places.specs.Places.{is_round};
 ghost use Rattle.ds_screen.specs.Picture.{cell_at, ruled};
 ghost use Rattle.ds_screen.specs.Orders.{text_cell};
 ghost use Rattle.ds_screen.specs.Reset.{after_reset};
-ghost use Rattle.ds_screen.specs.Planes.{itself, spot_if, IsIndex};
+ghost use Rattle.ds_screen.specs.Planes.{IsIndex};
 
-use crate::cells::Cells;
+use crate::cells::{Cells, attribute_in};
 use crate::counted::attr_before_counted;
+use crate::index::{Index, is_free};
 use crate::planes::Planes;
 use crate::probed::Probed;
 use crate::ranges::reach;
 use crate::records::{Reset, reset_cell};
 use crate::ring::{distance, forward, next, previous};
-use crate::ruling::ruled_on;
-use crate::tab::is_unprotected_field;
+use crate::ruling::{is_open_cell, ruled_on};
 use ds_codec::{Attr, Cell, Char};
-use ds_places::Pages;
 use std::alloc::{AllocError, Global};
 use std::marker::Model;
 
-/// A code and its kind for each position, and the positions of the attributes in rising order. It costs what it
-/// looks at: a search goes over the attributes, by halving.
+/// A code and its kind for each position, the positions of the attributes in rising order, and marks of the stretches in which
+/// unprotected ones may stand. It costs what it looks at: a search goes over the attributes, by halving.
 #[derive(Drop)]
 pub struct PlaneCells {
     planes: Planes,
-    index: Pages<u32>,
+    index: Index,
 }
 
 impl Model for PlaneCells {
     ghost use Rattle.std.specs.Prelude.{◌≤◌};
-    ghost use Rattle.ds_screen.specs.Planes.{Held, IsIndex};
+    ghost use Rattle.ds_screen.specs.Planes.{Held};
+    ghost use Rattle.ds_screen.specs.Listed.{AreListed};
 
     ghost Value = { Held };
 
     ghost view = { λ s. s.planes };
 
-    ghost invariant = { λ s. IsIndex s.index.entries s.planes.cells
+    ghost invariant = { λ s. AreListed s.index s.planes.cells
         × (s.planes.room ≤ s.index.room) };
-}
-
-/// Notes whether a position holds an attribute from now on, where it is known whether it held one.
-#[inline(always)]
-fn note(index: &mut Pages<u32>, places: u32, p: u32, was: bool, is: bool)
-    requires rising { IsRising itself index.old.entries }
-    requires below { p < places }
-    requires room { places ≤ index.old.room }
-    requires known { at_place itself index.old.entries p ≡ spot_if p was }
-    ensures noted { (q : ℕ) → at_place itself index.new.entries q
-        ≡ (if p == q then spot_if p is else at_place itself index.old.entries q) }
-    ensures rising { IsRising itself index.new.entries }
-    ensures room { index.new.room ≡ index.old.room }
-{
-    if is && !was {
-        index.store(p);
-    } else if was && !is {
-        index.cut(p, p + 1);
-    }
 }
 
 /// Stores a character in so many positions from one on, round the buffer.
@@ -106,8 +87,8 @@ fn write_round(planes: &mut Planes, b: u32, run: &[u8]) -> u32
 }
 
 /// Resets the modified data tags of the attributes that are listed.
-fn reset_listed(planes: &mut Planes, index: &Pages<u32>, which: Reset)
-    requires { IsIndex index.now.entries planes.old.cells }
+fn reset_listed(planes: &mut Planes, index: &Index, which: Reset)
+    requires { IsIndex index.now.all planes.old.cells }
     ensures reset { planes.new ≡ record planes.old {
       cells = ruled (length planes.old.cells)
           (λ p. after_reset which (cell_at planes.old.cells p));
@@ -130,6 +111,8 @@ impl PlaneCells {
     ghost use Rattle.ds_screen.specs.Picture.{cell_at, ruled};
     ghost use Rattle.ds_screen.specs.Fields.{is_attribute, ruling_bits, first_open};
     ghost use Rattle.ds_screen.specs.Planes.{IsIndex, HasNone, stretch_cell, erased_for};
+    ghost use Rattle.ds_screen.specs.Starts.{start_ahead};
+    ghost use Rattle.ds_screen.specs.Listed.{IsFirstFree, IsFirstOpening};
 
     /// The index of the attributes, with counts of looks that begin at 0.
     #[inline(always)]
@@ -139,7 +122,7 @@ impl PlaneCells {
         ensures blocks { result.blocks ≡ 0 }
     {
         let _places = self.planes.len();
-        Probed::new(&self.index)
+        Probed::new(self.index.all())
     }
 
     /// The attribute that rules a position; 00, an unprotected one, in a buffer without attributes.
@@ -168,31 +151,70 @@ impl PlaneCells {
         }
     }
 
+    /// The first unprotected attribute from a position on, never round the buffer. It passes over the stretches in which none
+    /// stands.
+    fn unprotected_from(&self, from: u32) -> Option<u32>
+        ensures { IsFirstFree self.now.cells from result }
+    {
+        let n = self.planes.len();
+        let mut at = from;
+        'places: while at < n {
+            let steps = if self.index.is_marked(at) {
+                if is_free(&self.planes.attribute(at)) {
+                    return Some(at);
+                }
+                1
+            } else {
+                256 - at % 256
+            };
+            at += steps.min(n - at);
+        }
+        None
+    }
+
+    /// The first unprotected attribute from a position on, never round the buffer, that a character follows.
+    fn opening_from(&self, from: u32) -> Option<u32>
+        ensures { IsFirstOpening self.now.cells from result }
+    {
+        let n = self.planes.len();
+        let mut at = from;
+        'openings: while let Some(q) = self.unprotected_from(at) {
+            if !self.planes.has_attribute(next(n, q)) {
+                return Some(q);
+            }
+            at = q + 1;
+        }
+        None
+    }
+
+    /// The first position of a field that may be typed into, at the least positive distance going on, `from` itself last; 0
+    /// where there is none.
+    fn start_from(&self, from: u32) -> u32
+        requires { from < length self.now.cells }
+        ensures start { result ≡ start_ahead self.now.cells from }
+        ensures inside { result < length self.now.cells }
+    {
+        let n = self.planes.len();
+        if let Some(q) = self.opening_from(from) {
+            return next(n, q);
+        }
+        match self.opening_from(0) {
+            Some(q) => next(n, q),
+            None => 0,
+        }
+    }
+
     /// The open position at the least distance going on, `from` itself first; 0 where there is none.
     fn open_from(&self, from: u32) -> u32
         requires { from < length self.now.cells }
         ensures first { result ≡ first_open self.now.cells from }
         ensures inside { result < length self.now.cells }
     {
-        let n = self.planes.len();
-        let mut bits = self.ruling_at(previous(n, from));
-        let mut at = from;
-        let mut gone = 0;
-        'runs: while gone < n {
-            let run = self.characters_from(at, n - gone);
-            if 0 < run && !bits.protected() {
-                return at;
-            }
-            gone += run;
-            if gone == n {
-                return 0;
-            }
-            let stop = forward(n, at, run);
-            bits = ruled_on(bits, &self.planes.cell(stop));
-            gone += 1;
-            at = next(n, stop);
+        if is_open_cell(self.ruling_at(from), &self.planes.cell(from)) {
+            from
+        } else {
+            self.start_from(from)
         }
-        0
     }
 
     /// Nulls a stretch of characters that an attribute rules, unless it protects.
@@ -245,7 +267,7 @@ impl Cells for PlaneCells {
 
     fn reserved(alloc: Global, most: u32) -> Result<PlaneCells, AllocError> {
         let planes = Planes::reserved(alloc, most)?;
-        let index = Pages::reserved(alloc, most)?;
+        let index = Index::reserved(alloc, most)?;
         Ok(PlaneCells { planes, index })
     }
 
@@ -264,10 +286,11 @@ impl Cells for PlaneCells {
 
     #[inline(always)]
     fn put(&mut self, p: u32, cell: Cell) {
-        let was = self.planes.has_attribute(p);
+        let _places = self.planes.len();
+        let was = self.planes.attribute(p);
+        let is = attribute_in(&cell);
         self.planes.put(p, cell);
-        let is = self.planes.has_attribute(p);
-        note(&mut self.index, self.planes.len(), p, was, is);
+        self.index.note(p, was, is);
     }
 
     #[inline(always)]
@@ -284,7 +307,7 @@ impl Cells for PlaneCells {
         if let Some(q) = self.index.first_near(p, guess) {
             return Some(q);
         }
-        self.index.first_from(0)
+        self.index.all().first_from(0)
     }
 
     fn copy_from(&mut self, other: &PlaneCells) {
@@ -314,22 +337,16 @@ impl Cells for PlaneCells {
 
     fn null_to_attribute(&mut self, b: u32) -> u32 {
         let n = self.planes.len();
-        let stop = self.index.first_from(b).unwrap_or(n);
+        let stop = self.index.all().first_from(b).unwrap_or(n);
         self.planes.fill(b, stop, Char::null());
         stop
     }
 
     fn stop_from(&self, from: u32) -> u32 {
-        let n = self.planes.len();
-        let mut guess = 0;
-        let mut at = from;
-        'stops: while let Some(q) = self.index.first_near(at, &mut guess) {
-            if is_unprotected_field(self.planes.cell(q)) {
-                return next(n, q);
-            }
-            at = q + 1;
+        match self.unprotected_from(from) {
+            Some(q) => next(self.planes.len(), q),
+            None => 0,
         }
-        0
     }
 
     fn reset_modified(&mut self, which: Reset) {
@@ -338,5 +355,9 @@ impl Cells for PlaneCells {
 
     fn first_open(&self, from: u32) -> u32 {
         self.open_from(from)
+    }
+
+    fn start_ahead(&self, from: u32) -> u32 {
+        self.start_from(from)
     }
 }

@@ -3,8 +3,8 @@
 ghost use Rattle.std.specs.Prelude.{◌≡◌, ◌≤◌, ◌+◌, ◌-◌, ◌&&◌, ℕ, length, slice_index, slice_index_or, nat_le, nat_lt, true, if◌then◌else◌};
 ghost use Rattle.ds_screen.specs.Planes.{AreAllPlain};
 
-use crate::stored::{Kind, Stored, cell_of, cell_stored, character_stored, is_plain};
-use ds_codec::{Cell, Char};
+use crate::stored::{Kind, Stored, attribute_of, cell_of, cell_stored, character_stored, is_plain};
+use ds_codec::{Attr, Cell, Char};
 use std::alloc::{AllocError, Global};
 use std::marker::Model;
 
@@ -88,7 +88,7 @@ fn copy_part(items: &mut [u8], at: usize, run: &[u8], from: usize, count: usize)
 impl Planes {
     ghost use Rattle.std.specs.Prelude.{◌≡◌, ◌≤◌, ◌<◌, ◌+◌, [], IfOk, true, length, replicate, slice_set};
     ghost use Rattle.ds_screen.specs.Picture.{blank, cell_at, ruled};
-    ghost use Rattle.ds_screen.specs.Fields.{is_attribute};
+    ghost use Rattle.ds_screen.specs.Fields.{is_attribute, attribute_of};
     ghost use Rattle.std.specs.List.{list_all};
     ghost use Rattle.ds_codec.specs.Character.{is_text};
     ghost use Rattle.ds_screen.specs.Planes.{filled_cell, written_cell};
@@ -135,6 +135,19 @@ impl Planes {
         ensures { result ≡ is_attribute (cell_at self.now.cells p) }
     {
         self.kinds[p as usize] == Kind::Attribute
+    }
+
+    /// The attribute at a position, if it holds one.
+    #[inline(always)]
+    pub(crate) fn attribute(&self, p: u32) -> Option<Attr>
+        requires { p < length self.now.cells }
+        ensures { result ≡ attribute_of (cell_at self.now.cells p) }
+    {
+        let stored = Stored {
+            kind: self.kinds[p as usize],
+            code: self.codes[p as usize],
+        };
+        attribute_of(stored)
     }
 
     /// The cell at a position.

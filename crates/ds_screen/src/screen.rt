@@ -67,6 +67,7 @@ impl<C: Cells> Screen<C> {
     ghost use Rattle.ds_screen.specs.Picture.{Picture, IsSound, cell_at, ruled};
     ghost use Rattle.ds_screen.specs.Fields.{is_attribute, attribute_before, attribute_from, is_open, first_open, fields_of};
     ghost use Rattle.ds_screen.specs.Orders.{repeated_cell};
+    ghost use Rattle.ds_screen.specs.Starts.{start_ahead};
     ghost use Rattle.ds_screen.specs.Shown.{printed_row};
     ghost use Rattle.ds_screen.specs.Records.{new_picture, erased, cleared, all_cleared, told_of, RecordShows, IsRefusedBy};
 
@@ -209,6 +210,16 @@ impl<C: Cells> Screen<C> {
         ensures inside { result < length self.now.cells }
     {
         self.cells.first_open(from)
+    }
+
+    /// The first position of a field that may be typed into, at the least positive distance going on round the buffer,
+    /// `from` itself last; 0 where there is none.
+    pub fn start_ahead(&self, from: u32) -> u32
+        requires { from < length self.now.cells }
+        ensures start { result ≡ start_ahead self.now.cells from }
+        ensures inside { result < length self.now.cells }
+    {
+        self.cells.start_ahead(from)
     }
 
     /// Nulls the open characters, resets the modified data tags of unprotected attributes, and puts the

@@ -1,6 +1,7 @@
 //! A cell as it is stored: a kind and a code.
 
 ghost use Rattle.std.specs.Prelude.{◌≡◌, true};
+ghost use Rattle.ds_screen.specs.Fields.{attribute_of};
 ghost use Rattle.ds_screen.specs.Planes.{stored_cell, is_storable};
 ghost use Rattle.ds_screen.specs.declared.stored.Kind.TheVariants.{Plain};
 
@@ -73,5 +74,17 @@ pub(crate) fn cell_of(stored: Stored) -> Cell
         Kind::Attribute => Cell::Field(Attr::new(stored.code)),
         Kind::Plain => Cell::Char(Char::new(stored.code, false).unwrap()),
         Kind::Alternate => Cell::Char(Char::new(stored.code, true).unwrap()),
+    }
+}
+
+/// The attribute of a kind and a code, if they are those of one.
+#[inline(always)]
+pub(crate) fn attribute_of(stored: Stored) -> Option<Attr>
+    requires { is_storable stored.kind stored.code ≡ true }
+    ensures { result ≡ attribute_of (stored_cell stored.kind stored.code) }
+{
+    match stored.kind {
+        Kind::Attribute => Some(Attr::new(stored.code)),
+        Kind::Plain | Kind::Alternate => None,
     }
 }

@@ -1,7 +1,7 @@
-//! Program Tab.
+//! Program Tab, and where fields start.
 
-ghost use Rattle.std.specs.Prelude.{◌≡◌, ◌<◌};
-ghost use Rattle.ds_screen.specs.Fields.{is_attribute};
+ghost use Rattle.std.specs.Prelude.{◌≡◌, ◌<◌, ◌&&◌};
+ghost use Rattle.ds_screen.specs.Fields.{is_attribute, is_character};
 ghost use Rattle.ds_screen.specs.Orders.{first_from, is_unprotected_attribute, tabbed};
 ghost use Rattle.ds_screen.specs.State.{writing};
 ghost use Rattle.ds_screen.specs.Surface.{Makes};
@@ -17,6 +17,16 @@ pub(crate) fn is_unprotected_field(cell: Cell) -> bool
     match cell {
         Cell::Field(attribute) => !attribute.protected(),
         Cell::Char(_) => false,
+    }
+}
+
+/// Whether a field that may be typed into starts at a cell, by the cell before it.
+pub(crate) fn starts_field(before: &Cell, cell: &Cell) -> bool
+    ensures { result ≡ (is_character cell.now && is_unprotected_attribute before.now) }
+{
+    match (cell, before) {
+        (Cell::Char(_), Cell::Field(attribute)) => !attribute.protected(),
+        _ => false,
     }
 }
 

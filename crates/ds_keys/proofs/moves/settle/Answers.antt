@@ -27,7 +27,7 @@ returns-then-auto_skip-clause-settles g c =
     let few : c.steps.steps < length cells = omega (arith, c.position_count-n.ensures.count) in
     let stops : stops_cursor (cell_at cells at) ≡ true = ap stops_cursor (sym c.cell.ensures ∙ c.in-Field.is) ∙ sym c.auto_skip.ensures ∙ c.if-auto_skip.true in
     let is : is_character (cell_at cells at) ≡ false = ap is_character (sym c.cell.ensures ∙ c.in-Field.is) in
-    c.place_ahead.ensures.start ∙ sym (stop_found cells c.args.from c.steps.steps at few c.steps.invariant.at_steps c.steps.invariant.misses stops ∙ goes_ahead cells at is)
+    c.start_ahead.ensures.start ∙ sym (stop_found cells c.args.from c.steps.steps at few c.steps.invariant.at_steps c.steps.invariant.misses stops ∙ goes_ahead cells at is)
 
 pub steps-preserved : goal.steps-preserved
 steps-preserved g c =

@@ -13,22 +13,22 @@ listed-init c = record { room = refl; whole = refl; each = λ p lt. sym (cond-fa
 
 pub cell-requires : goal.cell-requires
 cell-requires c =
-    let there = held_attribute c.args.index.now.entries c.args.planes.now.cells c.in-Some.q c.in-Some.q c.requires c.in-Some.ensures.1 in
+    let there = held_attribute c.args.index.now.all c.args.planes.now.cells c.in-Some.q c.in-Some.q c.requires c.in-Some.ensures.1 in
     omega (arith, there.2, c.listed.invariant.whole)
 
 pub put-requires : goal.put-requires
 put-requires c =
-    let there = held_attribute c.args.index.now.entries c.args.planes.now.cells c.in-Some.q c.in-Some.q c.requires c.in-Some.ensures.1 in
+    let there = held_attribute c.args.index.now.all c.args.planes.now.cells c.in-Some.q c.in-Some.q c.requires c.in-Some.ensures.1 in
     omega (arith, there.2, c.listed.invariant.whole)
 
 pub overflow_add-at : goal.overflow_add-at
 overflow_add-at c =
-    let there = held_attribute c.args.index.now.entries c.args.planes.now.cells c.in-Some.q c.in-Some.q c.requires c.in-Some.ensures.1 in
+    let there = held_attribute c.args.index.now.all c.args.planes.now.cells c.in-Some.q c.in-Some.q c.requires c.in-Some.ensures.1 in
     omega (arith, there.2, c.len-places.ensures.count, c.len-places.type_inv)
 
 pub listed-preserved : goal.listed-preserved
 listed-preserved c =
-    let xs = c.args.index.now.entries in
+    let xs = c.args.index.now.all in
     let old = c.args.planes.now.cells in
     let q = c.in-Some.q in
     let there = held_attribute xs old q q c.requires c.in-Some.ensures.1 in
@@ -44,12 +44,12 @@ listed-preserved c =
 
 pub listed-smaller : goal.listed-smaller
 listed-smaller c =
-    let there = held_attribute c.args.index.now.entries c.args.planes.now.cells c.in-Some.q c.in-Some.q c.requires c.in-Some.ensures.1 in
+    let there = held_attribute c.args.index.now.all c.args.planes.now.cells c.in-Some.q c.in-Some.q c.requires c.in-Some.ensures.1 in
     omega (arith, there.2, c.in-Some.ensures.0)
 
 pub returns : goal.returns
 returns c =
-    let xs = c.args.index.now.entries in
+    let xs = c.args.index.now.all in
     let old = c.args.planes.now.cells in
     let cells = reset_all xs old c.listed.planes.cells c.args.which c.listed.at c.requires c.in_default.ensures c.listed.invariant.whole c.listed.invariant.each in
     record {

@@ -3,8 +3,10 @@ use Rattle.ds_codec.specs.declared.cell.Cell.TheVariants.{Char}
 use Rattle.ds_codec.specs.Attribute.{is_protected}
 use Rattle.ds_places.specs.Places.{is_round}
 use Rattle.ds_screen.specs.Picture.{cell_at, ruled}
-use Rattle.ds_screen.specs.Planes.{Held, IsIndex, HasNone, stretch_cell}
-use Rattle.ds_screen.proofs.StretchLaws.{stretch_listed, stretch_filled, stretch_left}
+use Rattle.ds_screen.specs.Planes.{Held, HasNone, stretch_cell}
+use Rattle.ds_screen.specs.Listed.{AreListed}
+use Rattle.ds_screen.proofs.ListedLaws.{stretch_listed}
+use Rattle.ds_screen.proofs.StretchLaws.{stretch_filled, stretch_left}
 use Rattle.ds_screen.proofs.plane_cells.PlaneCells.null_stretch.Goals as goal
 
 pub invariant_of-self : goal.invariant_of-self
@@ -13,11 +15,11 @@ invariant_of-self c =
     let len = ap (λ (u : Held). length u.cells) c.self.view_is in
     let free = ap not (sym c.protected.ensures ∙ c.if-not-protected.true) in
     let none : HasNone cells c.args.at c.args.run = subst (λ (u : Held). HasNone u.cells c.args.at c.args.run) (sym c.self.view_is) c.requires.characters in (
-      subst (IsIndex c.self.inside.index.entries)
+      subst (AreListed c.self.inside.index)
           (sym (ap (λ (u : Held). u.cells) c.fill_round.ensures.filled
           ∙ ap (λ g. ruled (length cells) (λ p. cond (is_round (length cells) c.args.at c.args.run p) (Char g) (cell_at cells p))) c.null.ensures
           ∙ stretch_filled cells c.args.at c.args.run (not (is_protected c.args.bits)) free (omega (arith, c.requires.inside, len)) (omega (arith, c.requires.few, len))))
-          (stretch_listed c.self.inside.index.entries cells c.args.at c.args.run (not (is_protected c.args.bits)) c.self.invariant.0 (omega (arith, c.requires.inside, len)) none),
+          (stretch_listed c.self.inside.index cells c.args.at c.args.run (not (is_protected c.args.bits)) c.self.invariant.0 (omega (arith, c.requires.inside, len)) none),
       omega (arith, ap (λ (u : Held). u.room) c.fill_round.ensures.filled, c.self.invariant.1),
     )
 

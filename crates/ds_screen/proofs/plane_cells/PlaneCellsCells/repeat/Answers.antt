@@ -1,23 +1,26 @@
-use Rattle.std.proofs.Common.{length, cond, eqb, refl, sym, ◌∙◌, ap, subst, arith}
+use Rattle.std.proofs.Common.{ℕ, length, cond, eqb, refl, sym, ◌∙◌, ap, subst, arith}
 use Rattle.ds_codec.specs.declared.cell.Cell.TheVariants.{Char}
 use Rattle.ds_places.specs.Places.{is_round}
 use Rattle.ds_screen.specs.Ring.{ring_distance}
 use Rattle.ds_screen.specs.Picture.{cell_at, ruled}
 use Rattle.ds_screen.specs.Orders.{repeated_cell}
-use Rattle.ds_screen.specs.Planes.{Held, IsIndex}
+use Rattle.ds_screen.specs.Planes.{Held}
+use Rattle.ds_screen.specs.Listed.{AreListed}
 use Rattle.ds_screen.proofs.RuledLaws.{length-ruled}
-use Rattle.ds_screen.proofs.IndexLaws.{repeat_cells, repeat_listed}
+use Rattle.ds_screen.proofs.ListedLaws.{fill_loses}
+use Rattle.ds_screen.proofs.IndexLaws.{repeat_cells}
 use Rattle.ds_screen.proofs.plane_cells.PlaneCellsCells.repeat.Goals as goal
+
+pub cut_round-requires-clause-listed : goal.cut_round-requires-clause-listed
+cut_round-requires-clause-listed c = (c.self.inside.planes.cells, c.self.invariant.0, sym c.len-n.ensures.count)
 
 pub invariant_of-self : goal.invariant_of-self
 invariant_of-self c =
     let cells = c.self.inside.planes.cells in
-    let cut = c.cut_round.ensures.cut in (
-      subst (IsIndex c.cut_round.new.self.entries)
-          (ap (λ n. ruled n (λ p. cond (is_round n c.args.b c.reach-steps.result p) (Char c.args.character) (cell_at cells p))) c.len-n.ensures.count
-          ∙ sym (ap (λ (u : Held). u.cells) c.fill_round.ensures.filled))
-          (repeat_listed c.self.inside.index.entries c.cut_round.new.self.entries cells c.len-n.result c.args.b c.reach-steps.result c.args.character c.self.invariant.0 c.len-n.ensures.count
-          c.cut_round.ensures.rising c.cut_round.ensures.inside cut),
+    let n : ℕ = length cells in (
+      subst (AreListed c.cut_round.new.self) (sym (ap (λ (u : Held). u.cells) c.fill_round.ensures.filled))
+          (c.cut_round.ensures.cut cells (ruled n (λ p. cond (is_round n c.args.b c.reach-steps.result p) (Char c.args.character) (cell_at cells p))) c.self.invariant.0
+          (fill_loses cells c.len-n.result c.args.b c.reach-steps.result c.args.character c.len-n.ensures.count)),
       omega (arith, ap (λ (u : Held). u.room) c.fill_round.ensures.filled, c.cut_round.ensures.room, c.self.invariant.1),
     )
 
