@@ -34,11 +34,11 @@ runs_pressed talk it v runs old new shown is grows =
     of_part talk (λ state. state.terminal) (λ w. old ++ map Pressed (keys_of (runs_of w it))) v new shown
     (grows ∙ ap (λ z. old ++ map Pressed (keys_of z)) is)
 
-no_host : (host : Option NamedHost) → is_some host ≡ false → host ≡ None
+pub no_host : (host : Option NamedHost) → is_some host ≡ false → host ≡ None
 no_host None none = refl
 no_host (Some host) none = absurd (subst (λ (b : Bool). cond b (Unit {0}) ⊥) none tt)
 
-a_host : (host : Option NamedHost) → is_some host ≡ true → (it : NamedHost) × (host ≡ Some it)
+pub a_host : (host : Option NamedHost) → is_some host ≡ true → (it : NamedHost) × (host ≡ Some it)
 a_host None some = absurd (subst (λ (b : Bool). cond b ⊥ (Unit {0})) some tt)
 a_host (Some host) some = (host, refl)
 

@@ -11,3 +11,6 @@ mod JudgedLaws
 mod ActLaws
 mod WaitLaws
 mod SayLaws
+mod PressLaws
+mod KeyLaws
+mod TextLaws

@@ -7,9 +7,12 @@ pub mod HeldBack
 pub mod Judged
 pub mod Kinds
 pub mod Machines
+pub mod Pressing
 pub mod PrintingSeen
 pub mod SayLaws
 pub mod Says
+pub mod Keying
+pub mod TypedTexts
 pub mod SentOn
 pub mod Settings
 pub mod Steps

@@ -8,6 +8,7 @@ ghost use Rattle.script_keys.specs.Runs.{keys_of_run, keys_of};
 ghost use Rattle.tn_session.specs.KeptView.{kept_view};
 ghost use Rattle.tn_session.specs.TerminalTalk.{OfWaiting, tolerant_worked, records_kept, agreed_in, lu_name_in, takes_input_in};
 ghost use Rattle.cli_scripts.specs.declared.deed.Deed.TheVariants.{Begun, Heard, Pressed as PressedKey};
+ghost use Rattle.cli_scripts.specs.Pressing.{after_key, answer_to, is_inhibited, after_keys, any_inhibited};
 ghost use Rattle.cli_scripts.specs.Desks.{DidAll, KeepsScreens, handed_due, handed_screens, desk_of, device_in, device_of, is_error, is_waiting, link_in, model_number, protocol_of, Shows};
 
 use crate::answer::add_bytes;
@@ -101,7 +102,9 @@ fn is_shown(arrived: Arrived) -> bool
     0 < arrived.taken
 }
 
-fn is_inhibited(pressed: Pressed) -> bool {
+fn is_inhibited(pressed: Pressed) -> bool
+    ensures { result ≡ is_inhibited pressed }
+{
     matches!(pressed, Pressed::Inhibited)
 }
 
@@ -282,6 +285,8 @@ impl Desk {
     /// Presses a key. The screen on which it sends is collected before.
     pub(crate) fn press(&mut self, alloc: Global, key: &Key) -> Result<Pressed, AllocError>
         ensures deeds { OnOk result (self.new.deeds ≡ self.old.deeds ++ PressedKey key.now ∷ []) }
+        ensures talk { OnOk result (self.new.talk ≡ after_key self.old.talk key.now) }
+        ensures answer { IfOk result (λ pressed. pressed ≡ answer_to self.old.talk key.now) }
         ensures heard { self.new.heard ≡ self.old.heard }
         ensures gone { self.new.gone ≡ self.old.gone }
         ensures screens { KeepsScreens self.old self.new }
@@ -302,6 +307,10 @@ impl Desk {
     fn press_times(&mut self, alloc: Global, key: &Key, times: u32) -> Result<bool, AllocError>
         ensures deeds { OnOk result (self.new.deeds
             ≡ self.old.deeds ++ replicate times (PressedKey key.now)) }
+        ensures talk { OnOk result (self.new.talk
+            ≡ after_keys self.old.talk (replicate times key.now)) }
+        ensures inhibited { IfOk result (λ inhibited. inhibited
+            ≡ any_inhibited self.old.talk (replicate times key.now)) }
         ensures heard { self.new.heard ≡ self.old.heard }
         ensures gone { self.new.gone ≡ self.old.gone }
         ensures screens { KeepsScreens self.old self.new }
@@ -310,7 +319,7 @@ impl Desk {
         let mut inhibited = false;
         'times: for _time in 0..times {
             let pressed = self.press(alloc, key)?;
-            inhibited = inhibited || is_inhibited(pressed);
+            inhibited |= is_inhibited(pressed);
         }
         Ok(inhibited)
     }
@@ -319,6 +328,10 @@ impl Desk {
     fn press_run(&mut self, alloc: Global, run: &Run) -> Result<bool, AllocError>
         ensures deeds { OnOk result (self.new.deeds
             ≡ self.old.deeds ++ map PressedKey (keys_of_run run.now)) }
+        ensures talk { OnOk result (self.new.talk
+            ≡ after_keys self.old.talk (keys_of_run run.now)) }
+        ensures inhibited { IfOk result (λ inhibited. inhibited
+            ≡ any_inhibited self.old.talk (keys_of_run run.now)) }
         ensures heard { self.new.heard ≡ self.old.heard }
         ensures gone { self.new.gone ≡ self.old.gone }
         ensures screens { KeepsScreens self.old self.new }
@@ -331,6 +344,9 @@ impl Desk {
     pub(crate) fn press_runs(&mut self, alloc: Global, runs: &[Run]) -> Result<bool, AllocError>
         ensures deeds { OnOk result (self.new.deeds
             ≡ self.old.deeds ++ map PressedKey (keys_of runs.now)) }
+        ensures talk { OnOk result (self.new.talk ≡ after_keys self.old.talk (keys_of runs.now)) }
+        ensures inhibited { IfOk result (λ inhibited. inhibited
+            ≡ any_inhibited self.old.talk (keys_of runs.now)) }
         ensures heard { self.new.heard ≡ self.old.heard }
         ensures gone { self.new.gone ≡ self.old.gone }
         ensures screens { KeepsScreens self.old self.new }
@@ -339,7 +355,7 @@ impl Desk {
         let mut inhibited = false;
         'runs: for run in runs {
             let stopped = self.press_run(alloc, run)?;
-            inhibited = inhibited || stopped;
+            inhibited |= stopped;
         }
         Ok(inhibited)
     }

@@ -1,6 +1,9 @@
 //! Actions that press keys.
 
-ghost use Rattle.std.specs.Prelude.{◌≡◌, ◌++◌, map, OnOk};
+ghost use Rattle.std.specs.Prelude.{◌≡◌, ◌++◌, map, IfOk, OnOk};
+ghost use Rattle.script_screens.specs.declared.lines.Outcome.TheVariants.{Done};
+ghost use Rattle.cli_scripts.specs.declared.doing.Step.TheVariants.{Ended};
+ghost use Rattle.cli_scripts.specs.Keying.{OnWaiting, PressedSo, SaysKeys, SaysCode, TypesCode};
 ghost use Rattle.script_keys.specs.Runs.{keys_of};
 ghost use Rattle.script_keys.specs.Steps.{runs_of};
 ghost use Rattle.tn_session.specs.TerminalTalk.{OfWaiting};
@@ -39,6 +42,7 @@ fn is_clear(keys: &Keys) -> bool
 fn press_unconnected(alloc: Global, desk: &mut Desk, keys: &Keys) -> Result<Step, AllocError>
     ensures keeps { Keeps desk.old desk.new }
     ensures deeds { OnOk result (desk.new.deeds ≡ desk.old.deeds ++ unconnected_deeds keys.now) }
+    ensures over { IfOk result (λ step. step ≡ Ended Done) }
 {
     if is_clear(keys) {
         desk.clear(alloc)?;
@@ -56,6 +60,8 @@ fn press_now(
     ensures keeps { Keeps desk.old desk.new }
     ensures deeds { OnOk result (OfWaiting (λ state. desk.old.deeds
         ++ map Pressed (keys_of (runs_of state.terminal keys.now))) desk.old.talk desk.new.deeds) }
+    ensures says { IfOk result (λ step. OnWaiting desk.old.talk (λ state.
+        PressedSo keys.now desk.old.talk state step saying.old saying.new)) }
 {
     let runs = runs_of(alloc, desk.screen(), *keys)?;
     if desk.press_runs(alloc, &runs)? {
@@ -76,6 +82,8 @@ pub(crate) fn press(
 ) -> Result<Step, AllocError>
     ensures keeps { Keeps desk.old desk.new }
     ensures deeds { OnOk result (PressesKeys keys.now desk.old desk.new) }
+    ensures says { IfOk result (λ step. SaysKeys keys.now desk.old.host desk.old.talk step
+        saying.old saying.new) }
 {
     if !desk.is_connected() {
         return press_unconnected(alloc, desk, keys);
@@ -96,6 +104,9 @@ pub(crate) fn type_code(
 ) -> Result<Step, AllocError>
     ensures keeps { Keeps desk.old desk.new }
     ensures deeds { OnOk result (PressesOnly desk.old desk.new) }
+    ensures typed { OnOk result (TypesCode fills code desk.old desk.new) }
+    ensures says { IfOk result (λ step. SaysCode fills code desk.old.host desk.old.talk step
+        saying.old saying.new) }
 {
     if !desk.is_connected() {
         return Ok(Step::Ended(Outcome::Done));

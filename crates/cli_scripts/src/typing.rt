@@ -1,8 +1,15 @@
 //! Texts that are typed.
 
-ghost use Rattle.std.specs.Prelude.{◌≡◌, IfOk, OnOk};
+ghost use Rattle.std.specs.Prelude.{◌≡◌, ◌++◌, map, IfOk, OnOk};
+ghost use Rattle.cli_scripts.specs.declared.deed.Deed.TheVariants.{Pressed as PressedKey};
+ghost use Rattle.cli_scripts.specs.Keying.{OnWaiting, code_keys};
+ghost use Rattle.cli_scripts.specs.Pressing.{after_keys, any_inhibited};
+ghost use Rattle.cli_scripts.specs.TypedTexts.{inhibited_or_done, key_list, key_answer, piece_keys, piece_answer, piece_said, Stops, column_of, ReturnsTo, TypesFree, Cancels, is_text, TypesText};
 ghost use Rattle.cli_scripts.specs.Acts.{PressesOnly, pressed_key, function_key, access_key};
 ghost use Rattle.cli_scripts.specs.Desks.{Keeps};
+ghost use Rattle.tn_session.specs.TerminalTalk.{OfWaiting};
+ghost use Rattle.script_screens.specs.declared.lines.Outcome.TheVariants.{Done};
+ghost use Rattle.cli_scripts.specs.declared.doing.Step.TheVariants.{Ended};
 ghost use Rattle.cli_scripts.specs.Steps.{IsTypedLater};
 
 use crate::answer::Saying;
@@ -67,6 +74,13 @@ fn pressed_key(key: StringKey) -> Option<Key>
 fn press_string_key(alloc: Global, desk: &mut Desk, key: StringKey) -> Result<Pressed, AllocError>
     ensures keeps { Keeps desk.old desk.new }
     ensures deeds { OnOk result (PressesOnly desk.old desk.new) }
+    ensures typed { OnOk result (desk.new.deeds
+        ≡ desk.old.deeds ++ map PressedKey (key_list (pressed_key key))) }
+    ensures talk { OnOk result (desk.new.talk
+        ≡ after_keys desk.old.talk (key_list (pressed_key key))) }
+    ensures answer { IfOk result (λ answer. answer
+        ≡ key_answer desk.old.talk (pressed_key key)) }
+    ensures host { desk.new.host ≡ desk.old.host }
 {
     match pressed_key(key) {
         Some(key) => desk.press(alloc, &key),
@@ -83,6 +97,13 @@ fn type_character(
 ) -> Result<Pressed, AllocError>
     ensures keeps { Keeps desk.old desk.new }
     ensures deeds { OnOk result (PressesOnly desk.old desk.new) }
+    ensures typed { OnOk result (OnWaiting desk.old.talk (λ state. desk.new.deeds
+        ≡ desk.old.deeds ++ map PressedKey (code_keys fills code state))) }
+    ensures talk { OnOk result (OnWaiting desk.old.talk (λ state. desk.new.talk
+        ≡ after_keys desk.old.talk (code_keys fills code state))) }
+    ensures answer { IfOk result (λ answer. OnWaiting desk.old.talk (λ state. answer
+        ≡ inhibited_or_done (any_inhibited desk.old.talk (code_keys fills code state)))) }
+    ensures host { desk.new.host ≡ desk.old.host }
 {
     let runs = typed_runs(alloc, desk.screen(), fills, code)?;
     if desk.press_runs(alloc, &runs)? {
@@ -102,6 +123,14 @@ fn type_piece(
 ) -> Result<Pressed, AllocError>
     ensures keeps { Keeps desk.old desk.new }
     ensures deeds { OnOk result (PressesOnly desk.old desk.new) }
+    ensures typed { OnOk result (OnWaiting desk.old.talk (λ state. desk.new.deeds
+        ≡ desk.old.deeds ++ map PressedKey (piece_keys fills state piece))) }
+    ensures talk { OnOk result (OnWaiting desk.old.talk (λ state. desk.new.talk
+        ≡ after_keys desk.old.talk (piece_keys fills state piece))) }
+    ensures answer { IfOk result (λ answer. OnWaiting desk.old.talk (λ state. answer
+        ≡ piece_answer fills desk.old.talk state piece)) }
+    ensures said { OnOk result (saying.new ≡ saying.old ++ piece_said piece) }
+    ensures host { desk.new.host ≡ desk.old.host }
 {
     match piece {
         Piece::Character(code) => type_character(alloc, desk, fills, code),
@@ -125,6 +154,9 @@ fn type_pieces<'a>(
 ) -> Result<Stop<'a>, AllocError>
     ensures keeps { Keeps desk.old desk.new }
     ensures deeds { OnOk result (PressesOnly desk.old desk.new) }
+    ensures typed { IfOk result (λ stop. Stops stop code_page fills desk.old.talk text.now desk.old
+        desk.new saying.old saying.new) }
+    ensures host { OnOk result (desk.new.host ≡ desk.old.host) }
 {
     let mut rest = text;
     'pieces: while let Some((piece, after)) = next_piece(code_page, rest) {
@@ -139,7 +171,9 @@ fn type_pieces<'a>(
 }
 
 /// The cursor's column.
-fn column_of(desk: &Desk) -> u32 {
+fn column_of(desk: &Desk) -> u32
+    ensures { OfWaiting (λ state. column_of state.terminal) desk.now.talk result }
+{
     let screen = desk.screen();
     let columns = u32::from(screen.size().cols);
     if columns == 0 {
@@ -153,6 +187,9 @@ fn column_of(desk: &Desk) -> u32 {
 fn return_to(alloc: Global, desk: &mut Desk, column: u32) -> Result<Step, AllocError>
     ensures keeps { Keeps desk.old desk.new }
     ensures deeds { OnOk result (PressesOnly desk.old desk.new) }
+    ensures returns { OnOk result (ReturnsTo column desk.old desk.new) }
+    ensures over { IfOk result (λ step. step ≡ Ended Done) }
+    ensures host { desk.new.host ≡ desk.old.host }
 {
     if let Some(run) = margin_run(desk.screen(), column) {
         desk.press_runs(alloc, &[run])?;
@@ -182,6 +219,8 @@ fn type_free(
 ) -> Result<Step, AllocError>
     ensures keeps { Keeps desk.old desk.new }
     ensures deeds { OnOk result (PressesOnly desk.old desk.new) }
+    ensures typed { IfOk result (λ step. TypesFree code_page fills step text.now desk.old desk.new
+        saying.old saying.new) }
 {
     let column = column_of(desk);
     match type_pieces(alloc, desk, code_page, fills, text, saying)? {
@@ -194,12 +233,17 @@ fn type_free(
     }
 }
 
+fn is_text(text: &[u8]) -> bool
+    ensures { result ≡ is_text text.now }
+{
+    !text.is_empty()
+}
+
 /// Types a text at a terminal that isn't connected.
-fn type_unconnected(
-    alloc: Global,
-    typing: &Typing,
-    saying: &mut Saying,
-) -> Result<Step, AllocError> {
+fn type_unconnected(alloc: Global, typing: &Typing, saying: &mut Saying) -> Result<Step, AllocError>
+    ensures { IfOk result (λ step. Cancels (is_text typing.now.text.items) step saying.old
+        saying.new) }
+{
     if typing.text.is_empty() {
         return Ok(Step::Ended(Outcome::Done));
     }
@@ -217,6 +261,8 @@ pub(crate) fn type_text(
 ) -> Result<Step, AllocError>
     ensures keeps { Keeps desk.old desk.new }
     ensures deeds { OnOk result (PressesOnly desk.old desk.new) }
+    ensures typed { IfOk result (λ step. TypesText code_page fills typing step desk.old desk.new
+        saying.old saying.new) }
 {
     if !desk.is_connected() {
         return type_unconnected(alloc, &typing, saying);
@@ -224,7 +270,7 @@ pub(crate) fn type_text(
     if desk.waits() {
         return Ok(Step::Waits(Doing::Typing(typing), Need::Bytes));
     }
-    if desk.is_in_error() && !typing.text.is_empty() {
+    if desk.is_in_error() && is_text(&typing.text) {
         return Ok(Step::Ended(saying.fail(alloc, b"Operator error")?));
     }
     type_free(alloc, desk, code_page, fills, &typing.text, saying)

@@ -6,8 +6,12 @@ ghost use Rattle.cli_scripts.specs.Acts.{Acts, PressesAs, PressesNone, PressesOn
 ghost use Rattle.cli_scripts.specs.Desks.{Keeps};
 ghost use Rattle.cli_scripts.specs.Machines.{HearsCame};
 ghost use Rattle.cli_scripts.specs.Waits.{ActsWait, BeginsAsked, ClosesWait, HearsWait, TellsWait, WaitsAs, WaitsOn};
-ghost use Rattle.cli_scripts.specs.Says.{ActsSaying, Answers, EndsAnswering, Others, Prints, Reads, printing_of};
+ghost use Rattle.script_screens.specs.Lines.{failed};
+ghost use Rattle.cli_scripts.specs.Answers.{printed_text};
+ghost use Rattle.cli_scripts.specs.Says.{EndsSaying, ActsSaying, Answers, EndsAnswering, Others, Prints, Reads, printing_of};
 ghost use Rattle.cli_scripts.specs.Desks.{TellsQuery};
+ghost use Rattle.cli_scripts.specs.TypedTexts.{TypesText};
+ghost use Rattle.cli_scripts.specs.Keying.{ActsKeys, OthersKeys, SaysKeyOf, TypesKeyOf, bad_key};
 ghost use Rattle.script_requests.specs.Waits.{read_wait};
 
 use crate::answer::Saying;
@@ -67,6 +71,8 @@ impl Worker {
             self.new.saying) }
         ensures says { IfOk result (λ step. ActsSaying (read_action name.now
             (map (λ argument. argument.items) arguments.now)) self.old step self.new) }
+        ensures keys { IfOk result (λ step. ActsKeys (read_action name.now
+            (map (λ argument. argument.items) arguments.now)) self.old step self.new) }
     {
         match read_action(name, arguments) {
             Ok(Action::Keys(keys)) => press(alloc, &mut self.desk, &keys, &mut self.saying),
@@ -100,6 +106,8 @@ impl Worker {
             (map (λ argument. argument.items) arguments.now) self.old.desk step self.old.saying
             self.new.saying) }
         ensures says { IfOk result (λ step. Others kind
+            (map (λ argument. argument.items) arguments.now) self.old step self.new) }
+        ensures keys { IfOk result (λ step. OthersKeys kind
             (map (λ argument. argument.items) arguments.now) self.old step self.new) }
     {
         match kind {
@@ -147,6 +155,9 @@ impl Worker {
     fn type_on(&mut self, alloc: Global, typing: Typing) -> Result<Step, AllocError>
         ensures keeps { Keeps self.old.desk self.new.desk }
         ensures deeds { OnOk result (PressesOnly self.old.desk self.new.desk) }
+        ensures typed { IfOk result (λ step. TypesText self.old.code_page
+            self.old.settings.blank_fill typing step self.old.desk self.new.desk self.old.saying
+            self.new.saying) }
     {
         let fills = self.settings.blank_fill;
         type_text(
@@ -163,6 +174,11 @@ impl Worker {
     fn type_key(&mut self, alloc: Global, arguments: &[Vec<u8>]) -> Result<Step, AllocError>
         ensures keeps { Keeps self.old.desk self.new.desk }
         ensures deeds { OnOk result (PressesOnly self.old.desk self.new.desk) }
+        ensures typed { OnOk result (TypesKeyOf self.old.code_page self.old.settings.blank_fill
+            (map (λ argument. argument.items) arguments.now) self.old.desk self.new.desk) }
+        ensures says { IfOk result (λ step. SaysKeyOf self.old.code_page
+            self.old.settings.blank_fill (map (λ argument. argument.items) arguments.now)
+            self.old.desk.host self.old.desk.talk step self.old.saying self.new.saying) }
     {
         let [argument] = arguments else {
             return Ok(Step::Ended(Outcome::Done));
@@ -181,6 +197,8 @@ impl Worker {
     fn refuse_key(&mut self, alloc: Global, argument: &[u8]) -> Result<Step, AllocError>
         ensures keeps { Keeps self.old.desk self.new.desk }
         ensures deeds { PressesNone self.old.desk self.new.desk }
+        ensures says { IfOk result (λ step. EndsSaying
+            (failed (printed_text (bad_key argument.now))) step self.old.saying self.new.saying) }
     {
         let mut words = Vec::new(alloc);
         words.extend_from_slice(b"Key(): Nonexistent or invalid name:")?;

@@ -1,5 +1,6 @@
 use Rattle.std.proofs.Common.{◌≡◌, ◌++◌, map, take}
 use Rattle.script_keys.specs.Runs.{keys_of}
+use Rattle.cli_scripts.specs.Pressing.{after_keys, any_inhibited}
 use Rattle.cli_scripts.specs.declared.deed.Deed.TheVariants.{Pressed}
 use Rattle.cli_scripts.specs.Desks.{KeepsScreens}
 use Rattle.cli_scripts.proofs.desk.Desk.press_runs.Given as goal
@@ -12,4 +13,6 @@ invariant-runs l =
       gone : l.self.gone ≡ l.initial.self.gone;
       screens : KeepsScreens l.initial.self l.self;
       host : l.self.host ≡ l.initial.self.host;
+      talk : l.self.talk ≡ after_keys l.initial.self.talk (keys_of (take l.run-index l.runs));
+      inhibited : l.inhibited ≡ any_inhibited l.initial.self.talk (keys_of (take l.run-index l.runs));
     }
