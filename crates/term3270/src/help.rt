@@ -6,7 +6,7 @@ pub(crate) const KEYS_HELP: &str = "The file of the keys, one a line";
 
 pub(crate) const STATUSES: &str = "Statuses:
   0  done, or yes
-  1  check, talk, suite, draft or serve has findings
+  1  check, talk, suite, draft, serve or script --layouts has findings, or attach --expect isn't met
   2  bad input, or a fault of the command line
   3  a file, a read, a write, a connection or a session failed
   4  out of memory";
