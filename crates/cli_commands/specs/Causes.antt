@@ -23,10 +23,6 @@ abbrev pub Counts : {A : Type 0} → ℕ → ℕ → Option A → Type 0
 Counts old new (Some done) = new ≡ old
 Counts old new None = HasFailed old new
 
--- it was asked to pass on what it took, between two such counts
-abbrev pub IsAsked : ℕ → ℕ → Type 0
-IsAsked old new = min (old + 1) (2 ^ 64 - 1) ≤ new
-
 -- how many calls failed of several streams
 abbrev pub all_failures : {S : Type 0} → (S → ℕ) → List S → ℕ
 all_failures failures [] = 0
@@ -62,11 +58,11 @@ SendsBy old new false = HasFailed old new
 abbrev pub WritesBy : ℕ → ℕ → Status → Status → Type 0
 WritesBy old new due status = ((status ≡ due) × (new ≡ old)) ⊎ ((status ≡ Failed) × HasFailed old new)
 
--- where a text was written, it was asked to pass it on
-abbrev pub PassesOn : ℕ → ℕ → Status → Type 0
-PassesOn old new Failed = Unit {0}
-PassesOn old new NoMemory = Unit {0}
-PassesOn old new status = IsAsked old new
+-- where a text was written, the stream was asked after its last byte to pass it on
+abbrev pub PassesOn : Bool → Status → Type 0
+PassesOn waits Failed = Unit {0}
+PassesOn waits NoMemory = Unit {0}
+PassesOn waits status = waits ≡ false
 
 -- the same of what was answered; of a fault whose line was refused memory; or nothing was written
 abbrev pub FinishesBy : ℕ → ℕ → Result Answer CommandError → Status → Type 0

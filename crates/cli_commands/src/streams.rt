@@ -1,9 +1,9 @@
 //! What commands read from and write to: streams that count the calls that failed.
 
-ghost use Rattle.std.specs.Prelude.{◌≡◌, ◌<◌, ℕ, List, Option, Some, length, IfErr};
+ghost use Rattle.std.specs.Prelude.{◌≡◌, ◌<◌, ℕ, Bool, List, Option, Some, length, true, false, IfErr, IfSome};
 ghost use Rattle.std.specs.Io.{ReadsAtMost};
 ghost use Rattle.std.specs.Io.KnownBytes.{Keeps, ReadConsumes};
-ghost use Rattle.cli_commands.specs.Causes.{Counts, IsAsked, Puts, ToldBy};
+ghost use Rattle.cli_commands.specs.Causes.{Counts, Puts, ToldBy};
 ghost use Rattle.cli_commands.specs.Fault.{IsNoFault};
 
 use crate::fault::CommandError;
@@ -41,43 +41,42 @@ pub trait TakesBytes {
     /// How many writes failed.
     ghost failures: { Self → ℕ };
 
-    /// How often it was asked to pass on what it took, at most 2^64 - 1.
-    ghost asked: { Self → ℕ };
+    /// Whether bytes may wait in it: it took some, or is new, and was not asked since to pass on what it took.
+    ghost waits: { Self → Bool };
 
     /// One write of bytes, which aren't none: how many it took. None where it took none or failed, which is counted.
     fn put(&mut self, bytes: &[u8]) -> Option<usize>
         requires { 0 < length bytes.now }
         ensures bytes { Puts (contents self.old) (contents self.new) bytes.now result }
         ensures cause { Counts (failures self.old) (failures self.new) result }
-        ensures unasked { asked self.new ≡ asked self.old };
+        ensures waits { IfSome result (λ count. waits self.new ≡ true) };
 
     /// Asks it to pass on all that it took. None where it can't, which is counted.
     fn pass_on(&mut self) -> Option<()>
         ensures bytes { Keeps (contents self.old) (contents self.new) }
         ensures cause { Counts (failures self.old) (failures self.new) result }
-        ensures asked { IsAsked (asked self.old) (asked self.new) };
+        ensures waits { waits self.new ≡ false };
 }
 
-/// A stream, how many of its calls failed, and how often it was asked to pass on what it took: both at most
-/// 18,446,744,073,709,551,615.
+/// A stream, how many of its calls failed, at most 18,446,744,073,709,551,615, and whether bytes may wait in it to be passed on.
 #[derive(Drop)]
 pub struct Watched<S> {
     pub stream: S,
     pub failures: u64,
-    pub asked: u64,
+    pub waits: bool,
 }
 
 impl<S> Watched<S> {
-    /// A stream of which no call has failed.
+    /// A stream of which no call has failed. Of what was written to it before nothing is known.
     pub fn new(stream: S) -> Watched<S>
         ensures stream { result.stream ≡ stream }
         ensures none { result.failures ≡ 0 }
-        ensures unasked { result.asked ≡ 0 }
+        ensures waits { result.waits ≡ true }
     {
         Watched {
             stream,
             failures: 0,
-            asked: 0,
+            waits: true,
         }
     }
 }
@@ -125,7 +124,7 @@ impl<W: Write> TakesBytes for Watched<W> {
 
     ghost failures = { λ watched. watched.failures };
 
-    ghost asked = { λ watched. watched.asked };
+    ghost waits = { λ watched. watched.waits };
 
     fn put(&mut self, bytes: &[u8]) -> Option<usize> {
         match self.stream.write(bytes) {
@@ -133,12 +132,15 @@ impl<W: Write> TakesBytes for Watched<W> {
                 self.failures = self.failures.saturating_add(1);
                 None
             }
-            Ok(count) => Some(count),
+            Ok(count) => {
+                self.waits = true;
+                Some(count)
+            }
         }
     }
 
     fn pass_on(&mut self) -> Option<()> {
-        self.asked = self.asked.saturating_add(1);
+        self.waits = false;
         match self.stream.flush() {
             Ok(()) => Some(()),
             Err(_) => {

@@ -3,14 +3,14 @@ use Rattle.std.specs.Prelude.{ℕ, ◌≡◌, ◌+◌, Bool, true, false, List, 
 use Rattle.std.specs.Io.KnownBytes.{Appends}
 use Rattle.cli_commands.specs.Streams.{AppendsFront}
 
--- what was written, where it is known; how many texts could not be; and how often the writer was asked to pass on what it took
+-- what was written, where it is known; how many texts could not be; and whether bytes may wait that the writer was not asked to pass on
 pub record Printing : Type 0 where
   pub written : Option (List ℕ)
   pub failures : ℕ
-  pub asked : ℕ
+  pub waits : Bool
 
-abbrev pub printing : Option (List ℕ) → ℕ → ℕ → Printing
-printing written failures asked = record { written = written; failures = failures; asked = asked }
+abbrev pub printing : Option (List ℕ) → ℕ → Bool → Printing
+printing written failures waits = record { written = written; failures = failures; waits = waits }
 
 -- the text was written; or a write failed after a front of it
 abbrev pub IsPrinted : Printing → Printing → List ℕ → Bool → Type 0

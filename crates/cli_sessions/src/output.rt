@@ -1,9 +1,8 @@
 //! Where the lines of sessions are printed.
 
-ghost use Rattle.std.specs.Prelude.{◌≡◌};
+ghost use Rattle.std.specs.Prelude.{◌≡◌, false};
 ghost use Rattle.std.specs.Bool.{OnTrue};
 ghost use Rattle.std.specs.String.{string_bytes};
-ghost use Rattle.cli_commands.specs.Causes.{IsAsked};
 ghost use Rattle.cli_sessions.specs.Printing.{IsPrinted};
 
 use cli_commands::{Answer, Status, TakesBytes, finish};
@@ -28,7 +27,7 @@ impl<W: TakesBytes> Model for Output<W> {
     ghost view = { λ o. record {
       written = W.contents o.writer;
       failures = length o.failures.items;
-      asked = W.asked o.writer;
+      waits = W.waits o.writer;
     } };
 }
 
@@ -37,7 +36,7 @@ impl<W: TakesBytes> Output<W> {
 
     /// A writer to which nothing was printed.
     pub fn new(writer: W) -> Output<W>
-        ensures { result ≡ printing (W.contents writer) 0 (W.asked writer) }
+        ensures { result ≡ printing (W.contents writer) 0 (W.waits writer) }
     {
         Output {
             writer,
@@ -48,7 +47,7 @@ impl<W: TakesBytes> Output<W> {
     /// Writes a text and flushes: whether every byte was taken.
     pub(crate) fn print(&mut self, alloc: Global, text: String) -> bool
         ensures printed { IsPrinted self.old self.new (string_bytes text) result }
-        ensures passed { OnTrue result (IsAsked self.old.asked self.new.asked) }
+        ensures passed { OnTrue result (self.new.waits ≡ false) }
     {
         let status = Status::Done;
         match finish(alloc, &mut self.writer, Ok(Answer { text, status })) {
@@ -74,7 +73,7 @@ impl<W: TakesBytes> TakesBytes for Output<W> {
 
     ghost failures = { λ o. o.failures };
 
-    ghost asked = { λ o. o.asked };
+    ghost waits = { λ o. o.waits };
 
     fn put(&mut self, bytes: &[u8]) -> Option<usize> {
         let taken = self.writer.put(bytes);

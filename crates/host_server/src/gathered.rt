@@ -1,15 +1,16 @@
 //! The text of one terminal, as it is told.
 
-ghost use Rattle.std.specs.Prelude.{◌≡◌, []};
+ghost use Rattle.std.specs.Prelude.{◌≡◌, [], true};
 
 use cli_commands::TakesBytes;
 use std::alloc::Global;
 
-/// A text in memory, and how often memory was refused for it.
+/// A text in memory, how often memory was refused for it, and whether it grew since it was last asked to pass on what it took.
 #[derive(Drop)]
 pub(crate) struct Gathered {
     pub text: Vec<u8>,
     pub failures: u64,
+    pub waits: bool,
 }
 
 impl Gathered {
@@ -17,27 +18,31 @@ impl Gathered {
     pub(crate) fn new(alloc: Global) -> Gathered
         ensures text { result.text.items ≡ [] }
         ensures failures { result.failures ≡ 0 }
+        ensures waits { result.waits ≡ true }
     {
         Gathered {
             text: Vec::new(alloc),
             failures: 0,
+            waits: true,
         }
     }
 }
 
 impl TakesBytes for Gathered {
-    ghost use Rattle.std.specs.Prelude.{Some, ◌^◌, ◌-◌};
+    ghost use Rattle.std.specs.Prelude.{Some};
 
     ghost contents = { λ gathered. Some gathered.text.items };
 
     ghost failures = { λ gathered. gathered.failures };
 
-    // A text in memory has passed on all that it took.
-    ghost asked = { λ gathered. 2 ^ 64 - 1 };
+    ghost waits = { λ gathered. gathered.waits };
 
     fn put(&mut self, bytes: &[u8]) -> Option<usize> {
         match self.text.extend_from_slice(bytes) {
-            Ok(()) => Some(bytes.len()),
+            Ok(()) => {
+                self.waits = true;
+                Some(bytes.len())
+            }
             Err(_) => {
                 self.failures = self.failures.saturating_add(1);
                 None
@@ -46,6 +51,7 @@ impl TakesBytes for Gathered {
     }
 
     fn pass_on(&mut self) -> Option<()> {
+        self.waits = false;
         Some(())
     }
 }

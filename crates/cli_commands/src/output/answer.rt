@@ -1,10 +1,10 @@
 //! What a command answers, and how it is written.
 
-ghost use Rattle.std.specs.Prelude.{◌≡◌, IfErr, IfOk, Err, Result};
+ghost use Rattle.std.specs.Prelude.{◌≡◌, IfErr, IfOk, Err, Result, false};
 ghost use Rattle.std.specs.Bool.{OnTrue};
 ghost use Rattle.std.specs.Io.KnownBytes.{Appends};
 ghost use Rattle.std.specs.String.{string_bytes};
-ghost use Rattle.cli_commands.specs.Causes.{FinishesBy, IsAsked, PassesOn, SendsBy, WritesBy};
+ghost use Rattle.cli_commands.specs.Causes.{FinishesBy, PassesOn, SendsBy, WritesBy};
 ghost use Rattle.cli_commands.specs.Fault.{fault_line, GivesOrFails, IsNoFault};
 ghost use Rattle.cli_commands.specs.Held.{answer_seen};
 ghost use Rattle.cli_commands.specs.Printed.{Printed, printed, printed_or_fault};
@@ -31,7 +31,7 @@ pub fn write_text<W: TakesBytes>(writer: &mut W, text: &[u8]) -> bool
     ensures all { OnTrue result (Appends (W.contents writer.old) (W.contents writer.new) text.now) }
     ensures front { AppendsFront (W.contents writer.old) (W.contents writer.new) text.now }
     ensures cause { SendsBy (W.failures writer.old) (W.failures writer.new) result }
-    ensures passed { OnTrue result (IsAsked (W.asked writer.old) (W.asked writer.new)) }
+    ensures passed { OnTrue result (W.waits writer.new ≡ false) }
 {
     let mut rest = text;
     while !rest.is_empty() {
@@ -52,7 +52,7 @@ fn write_answer<W: TakesBytes>(writer: &mut W, answer: &Answer) -> Status
         (answer_seen answer.now) result }
     ensures cause { WritesBy (W.failures writer.old) (W.failures writer.new) answer.now.status
         result }
-    ensures passed { PassesOn (W.asked writer.old) (W.asked writer.new) result }
+    ensures passed { PassesOn (W.waits writer.new) result }
 {
     if write_text(writer, answer.text.as_bytes()) {
         answer.status
@@ -101,7 +101,7 @@ fn write_fault<W: TakesBytes>(alloc: Global, writer: &mut W, fault: Fault) -> St
         (Err (Told fault)) result }
     ensures cause { FinishesBy (W.failures writer.old) (W.failures writer.new)
         (Err (Told fault)) result }
-    ensures passed { PassesOn (W.asked writer.old) (W.asked writer.new) result }
+    ensures passed { PassesOn (W.waits writer.new) result }
 {
     match fault_answer(alloc, fault) {
         Ok(answer) => write_answer(writer, &answer),
@@ -118,7 +118,7 @@ pub fn finish<W: TakesBytes>(
 ) -> Status
     ensures writes { Finishes (W.contents writer.old) (W.contents writer.new) answer result }
     ensures cause { FinishesBy (W.failures writer.old) (W.failures writer.new) answer result }
-    ensures passed { PassesOn (W.asked writer.old) (W.asked writer.new) result }
+    ensures passed { PassesOn (W.waits writer.new) result }
 {
     match answer {
         Ok(answer) => write_answer(writer, &answer),

@@ -13,5 +13,4 @@ loop-rest-preserved g c =
         appends_more (g.W.TakesBytes.contents c.args.writer.now) (g.W.TakesBytes.contents c.loop-rest.writer) _ i.0 (take c.in-Some.taken c.loop-rest.rest.now) i.2 c.in-Some.ensures.bytes.2,
       );
       cause = c.in-Some.ensures.cause ∙ c.loop-rest.invariant.cause;
-      unasked = c.in-Some.ensures.unasked ∙ c.loop-rest.invariant.unasked;
     }

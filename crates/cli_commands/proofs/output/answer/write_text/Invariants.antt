@@ -7,7 +7,6 @@ invariant-loop-rest g l =
     record {
       so : (front : List ℕ) × (l.text ≡ front ++ l.rest) × Appends (g.W.TakesBytes.contents l.fn.writer) (g.W.TakesBytes.contents l.writer) front;
       cause : g.W.TakesBytes.failures l.writer ≡ g.W.TakesBytes.failures l.fn.writer;
-      unasked : g.W.TakesBytes.asked l.writer ≡ g.W.TakesBytes.asked l.fn.writer;
     }
 
 abbrev pub decreases-loop-rest : goal.decreases-loop-rest
