@@ -1,2 +1,4 @@
+pub mod HearLaws
 pub mod Spaced
 pub mod Texts
+pub mod WalkLaws

@@ -10,7 +10,7 @@ use Rattle.cli_reasons.specs.declared.head.Place.{Place}
 use Rattle.cli_reasons.specs.declared.head.Place.TheVariants.{Whole, Line}
 use Rattle.cli_reasons.specs.declared.layout_line.Wanted.{Wanted}
 use Rattle.cli_reasons.specs.declared.layout_line.Wanted.TheVariants.{Key, UnknownTop, UnknownField}
-use Rattle.cli_reasons.specs.Ear.{next_number}
+use Rattle.cli_reasons.specs.Counts.{next_number}
 use Rattle.cli_reasons.specs.Head.{head_text, line_head}
 use Rattle.cli_reasons.specs.LayoutLine.{line_where, table_line, key_of}
 use Rattle.cli_reasons.specs.LayoutWords.{key_reason}

@@ -1,7 +1,8 @@
 pub mod Digits
-pub mod Ear
+pub mod Counts
 pub mod Flaw
 pub mod Head
+pub mod Hearing
 pub mod Judged
 pub mod CharacterLine
 pub mod KeyLine
@@ -20,5 +21,6 @@ pub mod Sentence
 pub mod Shown
 pub mod Text
 pub mod TomlPlace
+pub mod Walked
 pub mod Words
 pub mod BufferLine

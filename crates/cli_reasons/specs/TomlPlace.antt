@@ -1,7 +1,7 @@
 -- The place after some bytes of a text.
 use Rattle.std.specs.Prelude.{ℕ, ◌==◌, List, [], ◌∷◌, if◌then◌else◌}
 use Rattle.cli_reasons.specs.declared.toml_place.LineColumn.{LineColumn}
-use Rattle.cli_reasons.specs.Ear.{next_number}
+use Rattle.cli_reasons.specs.Counts.{next_number}
 use Rattle.cli_reasons.specs.Text.{begins_character}
 
 abbrev pub line_column : ℕ → ℕ → LineColumn

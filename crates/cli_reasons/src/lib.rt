@@ -24,10 +24,11 @@ mod shown;
 mod telling;
 mod text;
 mod toml_place;
+mod walk;
 mod words;
 
 pub use buffer_line::buffer_sentence;
-pub use ear::{Ear, Lines};
+pub use ear::Ear;
 pub use flaw::{Flaw, Limit, Why};
 pub use head::Place;
 pub use heard::Heard;
@@ -38,3 +39,4 @@ pub use order_line::order_flaw;
 pub use record_line::{SizesBy, record_flaw};
 pub use refused_answer::answer_sentences;
 pub use telling::sentence;
+pub use walk::Lines;

@@ -65,11 +65,11 @@ pub(crate) fn heard_file<'a>(rt: &'a HostRuntime, lines: Lines, path: &'a str) -
 /// Says why an input of this name is refused, and tells whether it is.
 fn is_told(rt: &HostRuntime, name: &str, ear: &mut Ear) -> bool {
     match ear.sentence(name) {
-        Some(text) => {
+        Ok(Some(text)) => {
             let _ = eprint!(rt; "{text}");
             true
         }
-        None => false,
+        Ok(None) | Err(_) => false,
     }
 }
 
@@ -98,11 +98,11 @@ fn says_refusal<S>(rt: &HostRuntime, status: Status, input: &Heard<Watched<Named
         return false;
     }
     match input.ear.refusal(input.stream.stream.name) {
-        Some(text) => {
+        Ok(Some(text)) => {
             let _ = eprint!(rt; "{text}");
             true
         }
-        None => false,
+        Ok(None) | Err(_) => false,
     }
 }
 
@@ -184,7 +184,7 @@ fn says_answers(rt: &HostRuntime, layouts: &[HeardFile<'_>], answers: &HeardInpu
     let Ok(layouts) = layouts_heard(rt, layouts) else {
         return;
     };
-    if let Some(text) = answers.ear.answers(INPUT, layouts.as_slice()) {
+    if let Ok(Some(text)) = answers.ear.answers(INPUT, layouts.as_slice()) {
         let _ = eprint!(rt; "{text}");
     }
 }

@@ -111,7 +111,7 @@ fn record_lines(kind: Kind) -> Option<Lines> {
 pub(crate) fn heard(alloc: Global, lines: Lines, name: &str, text: &[u8]) -> Option<String> {
     let mut ear = Ear::new(alloc, lines);
     ear.hear(text);
-    ear.sentence(name)
+    ear.sentence(name).unwrap_or(None)
 }
 
 impl Disk<'_> {
