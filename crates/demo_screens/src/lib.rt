@@ -1,0 +1,5 @@
+//! The keys of demos, pressed on one screen one demo after the other.
+#![tactic(auto)]
+
+mod answer;
+mod notes;
