@@ -2,4 +2,5 @@
 #![tactic(auto)]
 
 mod answer;
+mod keys;
 mod notes;
