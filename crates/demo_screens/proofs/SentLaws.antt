@@ -2,7 +2,7 @@
 use Rattle.std.proofs.Common.{◌≡◌, ℕ, zero, suc, ◌+◌, ◌-◌, ◌<◌, ◌≤◌, ◌&&◌, Bool, true, false, not, cond, ltb, List, [], ◌∷◌, ◌++◌, length, map, take, get_or, Option, Some, None, refl, sym, ◌∙◌, ap, subst, arith, append_assoc}
 use Rattle.std.specs.Option.{is_some}
 use Rattle.std.specs.List.{range_with_len, filter, flat_map}
-use Rattle.std.proofs.lemmas.Bool.{cond_both, lt-ltb}
+use Rattle.std.proofs.lemmas.Bool.{cond_both, cond-true, cond-false, lt-ltb}
 use Rattle.std.proofs.lemmas.List.{map-append, append-nil, take_more, take_all}
 use Rattle.std.proofs.lemmas.Grind.{flat_map-append}
 use Rattle.ds_codec.specs.declared.cell.Cell.{Cell}
@@ -10,13 +10,15 @@ use Rattle.ds_codec.specs.declared.cell.Cell.TheVariants.{Field, Char}
 use Rattle.ds_codec.specs.declared.size.Mode.{Mode}
 use Rattle.ds_codec.specs.Address.{written_address}
 use Rattle.ds_codec.specs.Aid.{is_short_aid}
+use Rattle.ds_codec.specs.Attribute.{is_modified}
+use Rattle.ds_screen.specs.declared.field.FieldAt.{FieldAt}
 use Rattle.ds_screen.specs.Ring.{ring_on}
 use Rattle.ds_screen.specs.Picture.{Picture, cell_at}
-use Rattle.ds_screen.specs.Fields.{is_attribute, span_of, field_at, attribute_from, attributes_from}
+use Rattle.ds_screen.specs.Fields.{is_attribute, span_of, field_at, attribute_from, attributes_from, fields_of}
 use Rattle.ds_screen.proofs.SpanLaws.{next_ahead, next_nowhere}
 use Rattle.ds_screen.proofs.OutlineFieldLaws.{attributes_none, attributes_first}
 use Rattle.ds_inbound.specs.Answer.{Sent, is_null, is_modified_at, characters_at, field_sent, fields_sent, lead_sent, written_characters, written_field, written_fields, bytes_sent}
-use Rattle.ds_inbound.specs.Sending.{sent_in, places_on}
+use Rattle.ds_inbound.specs.Sending.{sent_in, places_on, IsFieldOf}
 use Rattle.ds_inbound.proofs.Sent.{field_bytes}
 use Rattle.ds_inbound.proofs.Again.{long_bytes}
 use Rattle.demo_screens.specs.Modified.{modified_places, IsAttributeAt, sent_of}
@@ -109,3 +111,25 @@ listed_bytes v empty one addressed out long some none first second last =
     let led : addressed ≡ addressed ++ written_characters (lead_sent v.cells (attributes_from v.cells 0)) =
     sym (ap (λ cs. addressed ++ written_characters cs) (no_lead v.cells (attributes_from v.cells 0) some) ∙ append-nil addressed) in
     long_bytes v false empty one addressed addressed out (ap (λ t. t && true) long) none first second led last
+
+-- ---- the modified fields, one after the other
+abbrev pub modified_among : List Cell → List FieldAt → List ℕ
+modified_among cells fields = filter (is_modified_at cells) (map (λ f. f.at) fields)
+
+places_of : (cells : List Cell) (places : List ℕ) → map (λ f. f.at) (map (field_at cells) places) ≡ places
+places_of cells [] = refl
+places_of cells (q ∷ places) = ap (λ rest. q ∷ rest) (places_of cells places)
+
+pub among_all : (cells : List Cell) → modified_among cells (fields_of cells) ≡ modified_places cells
+among_all cells = ap (filter (is_modified_at cells)) (places_of cells (attributes_from cells 0))
+
+tag_is : (cells : List Cell) (field : FieldAt) → IsFieldOf cells field → is_modified field.attr ≡ is_modified_at cells field.at
+tag_is cells field here = ap (λ f. is_modified f.attr) here.same
+
+pub among_more : (cells : List Cell) (field : FieldAt) (fields : List FieldAt) → IsFieldOf cells field → is_modified field.attr ≡ true
+    → modified_among cells (field ∷ fields) ≡ field.at ∷ modified_among cells fields
+among_more cells field fields here modified = cond-true (is_modified_at cells field.at) _ _ (sym (tag_is cells field here) ∙ modified)
+
+pub among_less : (cells : List Cell) (field : FieldAt) (fields : List FieldAt) → IsFieldOf cells field → is_modified field.attr ≡ false
+    → modified_among cells (field ∷ fields) ≡ modified_among cells fields
+among_less cells field fields here unmodified = cond-false (is_modified_at cells field.at) _ _ (sym (tag_is cells field here) ∙ unmodified)
