@@ -24,6 +24,7 @@ mod script;
 mod shapes;
 mod taken;
 mod talks;
+mod tried;
 mod words;
 
 use anyhow::{Context, Result};
@@ -45,7 +46,7 @@ pub(crate) struct Setup {
 /// The verbs of the setup's layout.
 const OF_LAYOUT: &[&str] = &[
     "check", "count", "often", "bind", "conforms", "bound", "pressed", "origins", "traced",
-    "shape", "entries", "copy", "at", "taken", "pen",
+    "shape", "entries", "copy", "at", "taken", "pen", "tried",
 ];
 
 fn take_list(row: &mut Row, setup: &mut Setup, words: &str) {
@@ -86,6 +87,7 @@ fn push_declared(row: &mut Row, setup: &Setup, layout: &Layout, verb: &str, word
         "origins" => origins::push_origins(row, layout, words),
         "traced" => origins::push_found(row, layout, words),
         "taken" => taken::push_taken(row, layout, words),
+        "tried" => tried::push_tried(row, setup, layout, words),
         "shape" => promise::push_after(row, setup, layout, Told::Shape, words),
         "entries" => layouts::push_all(row, layout),
         "copy" => layouts::push_copy(row, layout, words),

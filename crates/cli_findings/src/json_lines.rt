@@ -1,6 +1,6 @@
 //! The report as lines of JSON.
 
-ghost use Rattle.std.specs.Prelude.{◌≡◌, ◌++◌, false, option_map, IfOk, OnOk, Some};
+ghost use Rattle.std.specs.Prelude.{◌≡◌, ◌++◌, false, IfOk, OnOk, Some};
 ghost use Rattle.std.specs.List.{flat_map};
 ghost use Rattle.std.specs.String.{string_bytes};
 ghost use Rattle.serde_json.specs.View.{view};
@@ -17,9 +17,10 @@ ghost use Rattle.cli_findings.specs.Report.{finding_line, verdict_data, verdict_
 use crate::members::finding_value;
 use crate::object::put_str;
 use crate::record_line::record_numbers;
-use cli_commands::{Answer, Demos, Fault, Status, demo_terminal};
+use crate::rehearsal::rehearsal_after;
+use cli_commands::{Answer, Fault, Status};
+use demo_screens::Rehearsal;
 use ds_screen::PlaneCells;
-use ds_terminal::Terminal;
 use scr_check::Traced;
 use scr_layout::Layout;
 use serde_json::{Map, Value, put};
@@ -41,7 +42,7 @@ pub fn push_line(alloc: Global, out: &mut String, value: &Value) -> Result<(), A
 }
 
 /// A finding of records, in their text, with the orders that it comes from, as JSON: the keys that it has. Keys of its
-/// demo are pressed on the terminal that the records leave. A parser reads the same value again.
+/// demo are tried on the screen that the records leave. A parser reads the same value again.
 ///
 /// # Errors
 ///
@@ -51,16 +52,17 @@ pub fn finding_json(
     alloc: Global,
     layout: &Layout,
     input: &[u8],
-    terminal: Option<&Terminal<PlaneCells>>,
+    rehearsal: &mut Option<Rehearsal<PlaneCells>>,
     traced: &Traced,
 ) -> Result<String, AllocError>
-    ensures text { IfOk result (λ text. string_bytes text
-        ≡ compact_text (finding_data layout.now (record_numbers input.now) (option_map (λ t. t.now) terminal.entry) traced.now)) }
+    ensures text { IfOk result (λ text. string_bytes text ≡ compact_text
+        (finding_data layout.now (record_numbers input.now) rehearsal.old traced.now)) }
     ensures again { IfOk result (λ text. read (string_bytes text)
-        ≡ Some (finding_data layout.now (record_numbers input.now) (option_map (λ t. t.now) terminal.entry) traced.now)) }
+        ≡ Some (finding_data layout.now (record_numbers input.now) rehearsal.old traced.now)) }
+    ensures kept { rehearsal.new ≡ rehearsal.old }
 {
     let numbers = record_numbers(alloc, input)?;
-    let value = finding_value(alloc, layout, numbers.as_slice(), terminal, traced)?;
+    let value = finding_value(alloc, layout, numbers.as_slice(), rehearsal, traced)?;
     value.to_string(alloc)
 }
 
@@ -71,13 +73,14 @@ fn push_finding(
     out: &mut String,
     layout: &Layout,
     numbers: &[usize],
-    terminal: Option<&Terminal<PlaneCells>>,
+    rehearsal: &mut Option<Rehearsal<PlaneCells>>,
     traced: &Traced,
 ) -> Result<(), AllocError>
-    ensures { OnOk result (string_bytes out.new ≡ string_bytes out.old
-        ++ finding_line layout.now numbers.now (option_map (λ t. t.now) terminal.entry) traced.now) }
+    ensures pushed { OnOk result (string_bytes out.new ≡ string_bytes out.old
+        ++ finding_line layout.now numbers.now rehearsal.old traced.now) }
+    ensures kept { rehearsal.new ≡ rehearsal.old }
 {
-    let value = finding_value(alloc, layout, numbers, terminal, traced)?;
+    let value = finding_value(alloc, layout, numbers, rehearsal, traced)?;
     push_line(alloc, out, &value)
 }
 
@@ -87,35 +90,16 @@ fn push_findings(
     out: &mut String,
     layout: &Layout,
     numbers: &[usize],
-    terminal: Option<&Terminal<PlaneCells>>,
+    rehearsal: &mut Option<Rehearsal<PlaneCells>>,
     findings: &[Traced],
 ) -> Result<(), AllocError>
     ensures { OnOk result (string_bytes out.new ≡ string_bytes out.old
-        ++ flat_map (finding_line layout.now numbers.now (option_map (λ t. t.now) terminal.entry)) findings.now) }
+        ++ flat_map (finding_line layout.now numbers.now rehearsal.old) findings.now) }
 {
     for finding in findings {
-        push_finding(alloc, out, layout, numbers, terminal, finding)?;
+        push_finding(alloc, out, layout, numbers, rehearsal, finding)?;
     }
     Ok(())
-}
-
-/// The same of records in their text, which isn't looked at where there is no finding.
-fn push_all(
-    alloc: Global,
-    out: &mut String,
-    layout: &Layout,
-    input: &[u8],
-    terminal: Option<&Terminal<PlaneCells>>,
-    findings: &[Traced],
-) -> Result<(), AllocError>
-    ensures { OnOk result (string_bytes out.new ≡ string_bytes out.old
-        ++ flat_map (finding_line layout.now (record_numbers input.now) (option_map (λ t. t.now) terminal.entry)) findings.now) }
-{
-    if findings.is_empty() {
-        return Ok(());
-    }
-    let numbers = record_numbers(alloc, input)?;
-    push_findings(alloc, out, layout, numbers.as_slice(), terminal, findings)
 }
 
 fn verdict_word(findings: &[Traced]) -> &'static str
@@ -198,7 +182,8 @@ pub fn refusal_answer(alloc: Global, fault: Fault) -> Result<Answer, AllocError>
     })
 }
 
-/// The same, with what keys send on the picture that the records leave.
+/// The lines of findings, with what keys send on the picture that the records leave. Neither this nor the text of the records is
+/// looked at where there is no finding.
 fn push_pressed(
     alloc: Global,
     out: &mut String,
@@ -210,8 +195,19 @@ fn push_pressed(
     ensures { OnOk result (string_bytes out.new ≡ string_bytes out.old
         ++ pressed_lines layout.now input.now (records_held records.now) findings.now) }
 {
-    let terminal = demo_terminal(alloc, layout, records, Demos::Printed)?;
-    push_all(alloc, out, layout, input, terminal.as_ref(), findings)
+    if findings.is_empty() {
+        return Ok(());
+    }
+    let mut rehearsal = rehearsal_after(alloc, layout, records)?;
+    let numbers = record_numbers(alloc, input)?;
+    push_findings(
+        alloc,
+        out,
+        layout,
+        numbers.as_slice(),
+        &mut rehearsal,
+        findings,
+    )
 }
 
 /// The report of findings: a line for each, and one for the verdict.

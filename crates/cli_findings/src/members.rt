@@ -13,10 +13,9 @@ use crate::facts::{
 use crate::help::help_text;
 use crate::names::name_of;
 use crate::object::{Members, put_str};
-use cli_commands::demo_sends;
+use demo_screens::Rehearsal;
 use ds_codec::Size;
 use ds_screen::PlaneCells;
-use ds_terminal::Terminal;
 use order_lines::push_bytes;
 use scr_check::{Demo, Finding, Origin, Traced};
 use scr_layout::{Entry, Layout};
@@ -246,19 +245,20 @@ fn keys_value(alloc: Global, demo: Demo) -> Result<Value, AllocError>
 /// What the keys of a demo send, in hexadecimal.
 fn sends_text(
     alloc: Global,
-    terminal: &Terminal<PlaneCells>,
+    rehearsal: &mut Rehearsal<PlaneCells>,
     demo: Demo,
 ) -> Result<String, AllocError>
-    ensures { IfOk result (λ text. Some (string_bytes text)
-        ≡ option_map encode_upper (sent_from (Some terminal.now) (Some demo))) }
+    ensures text { IfOk result (λ text. Some (string_bytes text)
+        ≡ option_map encode_upper (sent_from (Some rehearsal.old) (Some demo))) }
+    ensures kept { rehearsal.new ≡ rehearsal.old }
 {
-    let bytes = demo_sends(alloc, terminal, demo)?;
+    let bytes = rehearsal.sends(alloc, demo)?;
     let mut text = String::new(alloc);
     push_bytes(&mut text, bytes.as_slice())?;
     Ok(text)
 }
 
-/// The keys that show a finding, and what they send from a terminal.
+/// The keys that show a finding, and what they send where they are tried.
 ///
 /// # Errors
 ///
@@ -266,18 +266,19 @@ fn sends_text(
 pub fn put_keys(
     alloc: Global,
     members: &mut Members,
-    terminal: Option<&Terminal<PlaneCells>>,
+    rehearsal: &mut Option<Rehearsal<PlaneCells>>,
     demo: Option<Demo>,
 ) -> Result<(), AllocError>
-    ensures { OnOk result (members_view members.new.entries
-        ≡ with_keys (option_map (λ t. t.now) terminal.entry) demo (members_view members.old.entries)) }
+    ensures put { OnOk result (members_view members.new.entries
+        ≡ with_keys rehearsal.old demo (members_view members.old.entries)) }
+    ensures kept { rehearsal.new ≡ rehearsal.old }
 {
     let Some(demo) = demo else {
         return Ok(());
     };
     put(members, alloc, "keys", keys_value(alloc, demo)?)?;
-    match terminal {
-        Some(terminal) => put_text(alloc, members, "sends", sends_text(alloc, terminal, demo)?),
+    match rehearsal {
+        Some(rehearsal) => put_text(alloc, members, "sends", sends_text(alloc, rehearsal, demo)?),
         None => Ok(()),
     }
 }
@@ -309,11 +310,12 @@ pub fn finding_members(
     alloc: Global,
     layout: &Layout,
     numbers: &[usize],
-    terminal: Option<&Terminal<PlaneCells>>,
+    rehearsal: &mut Option<Rehearsal<PlaneCells>>,
     traced: &Traced,
 ) -> Result<Members, AllocError>
-    ensures { IfOk result (λ members. members_view members.entries
-        ≡ finding_members layout.now numbers.now (option_map (λ t. t.now) terminal.entry) traced.now) }
+    ensures members { IfOk result (λ members. members_view members.entries
+        ≡ finding_members layout.now numbers.now rehearsal.old traced.now) }
+    ensures kept { rehearsal.new ≡ rehearsal.old }
 {
     let entries = layout.entries();
     let finding = &traced.finding;
@@ -331,7 +333,7 @@ pub fn finding_members(
     put_place(alloc, &mut members, layout.size(), place)?;
     put_entry(alloc, &mut members, entries, finding)?;
     put_sizes(alloc, &mut members, sizes_of(finding))?;
-    put_keys(alloc, &mut members, terminal, finding.demo())?;
+    put_keys(alloc, &mut members, rehearsal, finding.demo())?;
     put_help(alloc, &mut members, layout, traced)?;
     Ok(members)
 }
@@ -341,12 +343,13 @@ pub(crate) fn finding_value(
     alloc: Global,
     layout: &Layout,
     numbers: &[usize],
-    terminal: Option<&Terminal<PlaneCells>>,
+    rehearsal: &mut Option<Rehearsal<PlaneCells>>,
     traced: &Traced,
 ) -> Result<Value, AllocError>
-    ensures { IfOk result (λ value. view value
-        ≡ finding_data layout.now numbers.now (option_map (λ t. t.now) terminal.entry) traced.now) }
+    ensures value { IfOk result (λ value. view value
+        ≡ finding_data layout.now numbers.now rehearsal.old traced.now) }
+    ensures kept { rehearsal.new ≡ rehearsal.old }
 {
-    let members = finding_members(alloc, layout, numbers, terminal, traced)?;
+    let members = finding_members(alloc, layout, numbers, rehearsal, traced)?;
     Ok(Value::Object(members))
 }

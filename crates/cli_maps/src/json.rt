@@ -19,13 +19,12 @@ use crate::rules::{id_of, name_of};
 use crate::source::macro_region;
 use bms_map::{Field, Map, push_label};
 use bms_source::push_codes;
-use cli_commands::{Demos, demo_terminal};
 use cli_findings::{
     Members, Region, place_of, push_line, put_entry, put_keys, put_number, put_place, put_str,
-    put_text,
+    put_text, rehearsal_after,
 };
+use demo_screens::Rehearsal;
 use ds_screen::PlaneCells;
-use ds_terminal::Terminal;
 use scr_check::Finding;
 use scr_layout::{Entry, Layout};
 use serde_json::{Map as Object, Value, put};
@@ -140,32 +139,34 @@ fn put_screen(
     alloc: Global,
     members: &mut Members,
     layout: &Layout,
-    terminal: Option<&Terminal<PlaneCells>>,
+    rehearsal: &mut Option<Rehearsal<PlaneCells>>,
     finding: Finding,
 ) -> Result<(), AllocError>
-    ensures { OnOk result (members_view members.new.entries ≡ with_facts layout.now
-        (option_map (λ t. t.now) terminal.entry) (MapFinding.Found finding) (members_view members.old.entries)) }
+    ensures put { OnOk result (members_view members.new.entries ≡ with_facts layout.now
+        rehearsal.old (MapFinding.Found finding) (members_view members.old.entries)) }
+    ensures kept { rehearsal.new ≡ rehearsal.old }
 {
     let entries = layout.entries();
     let place = place_of(entries, &finding);
     put_place(alloc, members, layout.size(), place)?;
     put_entry(alloc, members, entries, &finding)?;
-    put_keys(alloc, members, terminal, finding.demo())
+    put_keys(alloc, members, rehearsal, finding.demo())
 }
 
 fn put_facts(
     alloc: Global,
     members: &mut Members,
     layout: &Layout,
-    terminal: Option<&Terminal<PlaneCells>>,
+    rehearsal: &mut Option<Rehearsal<PlaneCells>>,
     finding: MapFinding,
 ) -> Result<(), AllocError>
-    ensures { OnOk result (members_view members.new.entries ≡ with_facts layout.now
-        (option_map (λ t. t.now) terminal.entry) finding (members_view members.old.entries)) }
+    ensures put { OnOk result (members_view members.new.entries
+        ≡ with_facts layout.now rehearsal.old finding (members_view members.old.entries)) }
+    ensures kept { rehearsal.new ≡ rehearsal.old }
 {
     match finding {
         MapFinding::Overlapping(_) => Ok(()),
-        MapFinding::Found(found) => put_screen(alloc, members, layout, terminal, found),
+        MapFinding::Found(found) => put_screen(alloc, members, layout, rehearsal, found),
     }
 }
 
@@ -191,18 +192,19 @@ fn finding_value(
     lines: &[&[u8]],
     map: &Map,
     layout: &Layout,
-    terminal: Option<&Terminal<PlaneCells>>,
+    rehearsal: &mut Option<Rehearsal<PlaneCells>>,
     finding: MapFinding,
 ) -> Result<Value, AllocError>
-    ensures { IfOk result (λ value. view value ≡ finding_data path.now
-        (all_of (λ line. line.now) lines.now) map.now layout.now (option_map (λ t. t.now) terminal.entry) finding) }
+    ensures value { IfOk result (λ value. view value ≡ finding_data path.now
+        (all_of (λ line. line.now) lines.now) map.now layout.now rehearsal.old finding) }
+    ensures kept { rehearsal.new ≡ rehearsal.old }
 {
     let entries = layout.entries();
     let field = field_of(map, entries, finding);
     let mut members = Object::new(alloc);
     put_words(alloc, &mut members, map, entries, finding)?;
     put_macro(alloc, &mut members, path, lines, map, field)?;
-    put_facts(alloc, &mut members, layout, terminal, finding)?;
+    put_facts(alloc, &mut members, layout, rehearsal, finding)?;
     put_help(alloc, &mut members, map, entries, finding)?;
     Ok(Value::Object(members))
 }
@@ -216,13 +218,14 @@ fn push_finding(
     lines: &[&[u8]],
     map: &Map,
     layout: &Layout,
-    terminal: Option<&Terminal<PlaneCells>>,
+    rehearsal: &mut Option<Rehearsal<PlaneCells>>,
     finding: MapFinding,
 ) -> Result<(), AllocError>
-    ensures { OnOk result (string_bytes out.new ≡ string_bytes out.old ++ finding_line path.now
-        (all_of (λ line. line.now) lines.now) map.now layout.now (option_map (λ t. t.now) terminal.entry) finding) }
+    ensures pushed { OnOk result (string_bytes out.new ≡ string_bytes out.old ++ finding_line
+        path.now (all_of (λ line. line.now) lines.now) map.now layout.now rehearsal.old finding) }
+    ensures kept { rehearsal.new ≡ rehearsal.old }
 {
-    let value = finding_value(alloc, path, lines, map, layout, terminal, finding)?;
+    let value = finding_value(alloc, path, lines, map, layout, rehearsal, finding)?;
     push_line(alloc, out, &value)
 }
 
@@ -233,15 +236,15 @@ fn push_findings(
     lines: &[&[u8]],
     map: &Map,
     layout: &Layout,
-    terminal: Option<&Terminal<PlaneCells>>,
+    rehearsal: &mut Option<Rehearsal<PlaneCells>>,
     findings: &[MapFinding],
 ) -> Result<(), AllocError>
     ensures { OnOk result (string_bytes out.new ≡ string_bytes out.old
         ++ flat_map (finding_line path.now
-        (all_of (λ line. line.now) lines.now) map.now layout.now (option_map (λ t. t.now) terminal.entry)) findings.now) }
+        (all_of (λ line. line.now) lines.now) map.now layout.now rehearsal.old) findings.now) }
 {
     for finding in findings {
-        push_finding(alloc, out, path, lines, map, layout, terminal, *finding)?;
+        push_finding(alloc, out, path, lines, map, layout, rehearsal, *finding)?;
     }
     Ok(())
 }
@@ -263,7 +266,7 @@ fn push_pressed(
         return Ok(());
     }
     let layout = &judged.layout;
-    let terminal = demo_terminal(alloc, layout, judged.records.as_slice(), Demos::Printed)?;
+    let mut rehearsal = rehearsal_after(alloc, layout, judged.records.as_slice())?;
     push_findings(
         alloc,
         out,
@@ -271,7 +274,7 @@ fn push_pressed(
         lines,
         map,
         layout,
-        terminal.as_ref(),
+        &mut rehearsal,
         findings,
     )
 }

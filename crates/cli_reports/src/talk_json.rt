@@ -55,7 +55,8 @@ fn turn_value(
     ensures { IfOk result (λ value. view value
         ≡ turn_data layout.now numbers.now span traced.now) }
 {
-    let mut members = finding_members(alloc, layout, numbers, None, traced)?;
+    let mut untried = None;
+    let mut members = finding_members(alloc, layout, numbers, &mut untried, traced)?;
     let record = record_in(span, traced);
     put_spot(alloc, &mut members, numbers, record, byte_of(traced))?;
     put(&mut members, alloc, "turn", Value::from(span.turn))?;

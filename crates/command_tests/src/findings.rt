@@ -74,7 +74,11 @@ fn push_made(row: &mut Row, layout: &Layout, traced: &Traced) {
 /// A finding as JSON, and as a result of a log.
 fn push_forms(row: &mut Row, layout: &Layout, traced: &Traced) {
     let alloc = row.alloc();
-    let json = text_of(row, finding_json(alloc, layout, RECORDS, None, traced));
+    let mut untried = None;
+    let json = text_of(
+        row,
+        finding_json(alloc, layout, RECORDS, &mut untried, traced),
+    );
     row.word("\n");
     row.word(json.as_str());
     let path = "a \\ \"b\".hex";

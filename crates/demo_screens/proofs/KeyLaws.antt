@@ -1,9 +1,6 @@
 -- Keys of a demo, one after the other.
 use Rattle.std.proofs.Common.{◌≡◌, ℕ, zero, suc, ◌+◌, List, [], ◌∷◌, ◌++◌, replicate, refl, sym, ap, subst, arith, ◌∙◌}
-use Rattle.ds_codec.specs.declared.cell.Cell.{Cell}
-use Rattle.ds_codec.specs.declared.size.Size.{Size}
 use Rattle.ds_codec.specs.Aid.{is_long_aid}
-use Rattle.ds_codec.specs.Geometry.{Sizes}
 use Rattle.ds_screen.specs.declared.lock.Lock.{Lock}
 use Rattle.ds_screen.specs.declared.lock.Lock.TheVariants.{Free, Waiting, Error}
 use Rattle.ds_screen.specs.Picture.{Picture}

@@ -1,5 +1,5 @@
 -- The list of modified attributes: what it holds at each place, and that it is the only such list.
-use Rattle.std.proofs.Common.{◌≡◌, ℕ, zero, suc, ◌+◌, ◌-◌, ◌<◌, ◌≤◌, ◌&&◌, ◌||◌, Bool, true, false, not, cond, eqb, ltb, leb, List, [], ◌∷◌, length, Option, Some, None, unwrap_or, refl, sym, ◌∙◌, ap, subst, arith, inl, inr}
+use Rattle.std.proofs.Common.{◌≡◌, ℕ, zero, suc, ◌+◌, ◌-◌, ◌<◌, ◌≤◌, ◌||◌, Bool, true, false, cond, eqb, List, [], ◌∷◌, length, Option, Some, None, unwrap_or, refl, sym, ◌∙◌, ap, subst, arith, inl, inr}
 use Rattle.std.specs.List.{range_with_len, filter}
 use Rattle.std.proofs.lemmas.Bool.{cond-true, cond-false, cases_Bool, cases_eq, cases_lt, eqb-true, eq-eqb, ne_eqb, false≢true}
 use Rattle.std.proofs.lemmas.List.{get_or_past}
@@ -7,9 +7,9 @@ use Rattle.ds_codec.specs.declared.cell.Cell.{Cell}
 use Rattle.ds_codec.specs.declared.cell.Cell.TheVariants.{Field, Char}
 use Rattle.ds_codec.specs.Attribute.{is_modified}
 use Rattle.ds_places.specs.Places.{at_place, RisesFrom, IsRising}
-use Rattle.ds_places.proofs.ListLaws.{rises_weaken, rises_filter, at_filter}
+use Rattle.ds_places.proofs.ListLaws.{rises_filter, at_filter}
 use Rattle.ds_screen.specs.Picture.{blank, cell_at}
-use Rattle.ds_screen.specs.Fields.{is_attribute, bits_of, attributes_from}
+use Rattle.ds_screen.specs.Fields.{is_attribute, bits_of}
 use Rattle.ds_inbound.specs.Answer.{is_modified_at}
 use Rattle.demo_screens.specs.Modified.{modified_places}
 

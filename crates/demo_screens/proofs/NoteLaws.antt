@@ -6,7 +6,7 @@ use Rattle.ds_codec.specs.declared.cell.Cell.{Cell}
 use Rattle.ds_screen.specs.Picture.{Picture, blank, cell_at}
 use Rattle.ds_screen.specs.Fields.{is_attribute}
 use Rattle.demo_screens.specs.declared.notes.Note.{Note}
-use Rattle.demo_screens.specs.Notes.{note_of, undone, AreAlike, LeadBack}
+use Rattle.demo_screens.specs.Notes.{undone, AreAlike}
 
 abbrev pub with_undone : Picture → List Note → Picture
 with_undone v notes = record v { cells = undone v.cells notes }
@@ -37,13 +37,15 @@ alike_last cells [] others both = both
 alike_last cells (note ∷ notes) others both = alike_last cells notes others both.2
 
 pub set_kinds : (cells : List Cell) (q : ℕ) (cell : Cell) → q < length cells → is_attribute (cell_at cells q) ≡ is_attribute cell → SameKinds cells (set cells q cell)
-set_kinds cells q cell inside alike =
-    (length-set cells q cell, λ p. elim (cases_eq p q) [
-      | inl same ↦
-          ap (λ k. is_attribute (get_or (set cells q cell) k blank)) same
-          ∙ ap is_attribute (get_or-set_same cells q cell blank inside) ∙ sym alike ∙ ap (λ k. is_attribute (cell_at cells k)) (sym same)
-      | inr apart ↦ ap is_attribute (get_or-set_other cells q p cell blank apart)
-    ])
+set_kinds cells q cell inside alike = (
+  length-set cells q cell,
+  λ p. elim (cases_eq p q) [
+    | inl same ↦
+        ap (λ k. is_attribute (get_or (set cells q cell) k blank)) same
+        ∙ ap is_attribute (get_or-set_same cells q cell blank inside) ∙ sym alike ∙ ap (λ k. is_attribute (cell_at cells k)) (sym same)
+    | inr apart ↦ ap is_attribute (get_or-set_other cells q p cell blank apart)
+  ],
+)
 
 -- ---- one note less
 pub last_alike : (cells : List Cell) (notes rest : List Note) (note : Note) → notes ≡ rest ++ note ∷ [] → AreAlike cells notes → AreAlike cells (note ∷ [])

@@ -1,12 +1,10 @@
 -- Right so many times.
 use Rattle.std.proofs.Common.{◌≡◌, ℕ, zero, suc, ◌+◌, ◌%◌, ◌<◌, length, replicate, refl, sym, ap, arith, ◌∙◌, inl, inr}
 use Rattle.std.proofs.Math.Nat.{add-mod_left, mod-eq_of_lt}
-use Rattle.ds_screen.specs.declared.lock.Lock.{Lock}
 use Rattle.ds_screen.specs.declared.lock.Lock.TheVariants.{Free, Waiting, Error}
 use Rattle.ds_screen.specs.Ring.{ring_on}
 use Rattle.ds_screen.specs.Picture.{Picture}
 use Rattle.ds_screen.proofs.RingLaws.{on_cases, on_lt}
-use Rattle.ds_keys.specs.declared.key.Key.{Key}
 use Rattle.ds_keys.specs.declared.key.Key.TheVariants.{Right}
 use Rattle.ds_keys.specs.KeyStep.{step_of, step_under, free_step}
 use Rattle.ds_keys.specs.KeyRuns.{after, after_key}

@@ -1,6 +1,6 @@
 -- Typing C1: what it leaves, and that it is undone.
-use Rattle.std.proofs.Common.{◌≡◌, ◌≢◌, ℕ, zero, suc, ◌+◌, ◌<◌, ◌≤◌, ◌⊎◌, ◌&&◌, ◌||◌, Bool, true, false, not, cond, eqb, List, [], ◌∷◌, ◌++◌, length, set, replicate, Option, Some, None, unwrap_or, refl, sym, ◌∙◌, ap, subst, arith, append_assoc, inl, inr}
-use Rattle.std.proofs.lemmas.Bool.{cond-true, cond-false, cases_Bool, cases_eq, cases_lt, eq-eqb, ne_eqb, eqb-true, false≢true, not-true}
+use Rattle.std.proofs.Common.{◌≡◌, ◌≢◌, ℕ, ◌<◌, ◌⊎◌, ◌||◌, Bool, true, false, cond, eqb, List, [], ◌∷◌, ◌++◌, length, set, Some, None, unwrap_or, refl, sym, ◌∙◌, ap, subst, arith, inl, inr}
+use Rattle.std.proofs.lemmas.Bool.{cond-true, cond-false, cases_Bool, cases_eq, cases_lt, eq-eqb, ne_eqb, eqb-true, false≢true}
 use Rattle.std.proofs.lemmas.List.{set-get_or}
 use Rattle.ds_codec.specs.declared.cell.Cell.{Cell}
 use Rattle.ds_codec.specs.declared.cell.Cell.TheVariants.{Field, Char}
@@ -13,7 +13,6 @@ use Rattle.ds_screen.specs.Picture.{Picture, cell_at, ruled}
 use Rattle.ds_screen.specs.Fields.{is_attribute, bits_of, attribute_before, is_at, is_open}
 use Rattle.ds_screen.proofs.RuledLaws.{length-ruled, cell_at-ruled, as_ruled, set-ruled}
 use Rattle.ds_inbound.specs.Answer.{is_modified_at}
-use Rattle.ds_keys.specs.declared.key.Key.{Key}
 use Rattle.ds_keys.specs.declared.key.Key.TheVariants.{Typed}
 use Rattle.ds_keys.specs.Moves.{settled}
 use Rattle.ds_keys.specs.KeyStep.{Step, modified, marked_cell, typed_cell, edited, inhibited, ignored, if_open, typed_step, free_step, step_under, step_of}
@@ -143,20 +142,22 @@ marked_kind cells c p = either (is_at (attribute_before cells c) p) (cell_at cel
     either false x = refl
 
 pub typed_kinds : (cells : List Cell) (c : ℕ) → is_open cells c ≡ true → SameKinds cells (typed_cells cells c)
-typed_kinds cells c opens =
-    (length-ruled (length cells) (typed_cell cells c 0xC1), λ p. elim (cases_lt p (length cells)) [
-      | inl lt ↦
-          ap is_attribute (cell_at-ruled (length cells) (typed_cell cells c 0xC1) p lt)
-          ∙ elim (cases_eq p c) [
-            | inl same ↦
-                ap (λ q. is_attribute (typed_cell cells c 0xC1 q)) same ∙ ap is_attribute (typed_here cells c)
-                ∙ sym (ap (λ q. is_attribute (cell_at cells q)) same ∙ open_character cells c opens)
-            | inr apart ↦ ap is_attribute (typed_elsewhere cells c p apart) ∙ marked_kind cells c p
-          ]
-      | inr far ↦
-          ap is_attribute (past_blank (typed_cells cells c) p (omega (arith, far, length-ruled (length cells) (typed_cell cells c 0xC1))))
-          ∙ sym (ap is_attribute (past_blank cells p far))
-    ])
+typed_kinds cells c opens = (
+  length-ruled (length cells) (typed_cell cells c 0xC1),
+  λ p. elim (cases_lt p (length cells)) [
+    | inl lt ↦
+        ap is_attribute (cell_at-ruled (length cells) (typed_cell cells c 0xC1) p lt)
+        ∙ elim (cases_eq p c) [
+          | inl same ↦
+              ap (λ q. is_attribute (typed_cell cells c 0xC1 q)) same ∙ ap is_attribute (typed_here cells c)
+              ∙ sym (ap (λ q. is_attribute (cell_at cells q)) same ∙ open_character cells c opens)
+          | inr apart ↦ ap is_attribute (typed_elsewhere cells c p apart) ∙ marked_kind cells c p
+        ]
+    | inr far ↦
+        ap is_attribute (past_blank (typed_cells cells c) p (omega (arith, far, length-ruled (length cells) (typed_cell cells c 0xC1))))
+        ∙ sym (ap is_attribute (past_blank cells p far))
+  ],
+)
 
 -- the character that was there takes its place again, and then the attribute
 back_here : (cells : List Cell) (c : ℕ) → c < length cells → is_open cells c ≡ true

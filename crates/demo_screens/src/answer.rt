@@ -88,11 +88,7 @@ fn governed_count<C: Cells>(screen: &Screen<C>, at: u32) -> u32
 }
 
 /// The field of the attribute at a position: its mark, its place and its characters.
-fn push_field<C: Cells>(
-    out: &mut Vec<u8>,
-    screen: &Screen<C>,
-    at: u32,
-) -> Result<(), AllocError>
+fn push_field<C: Cells>(out: &mut Vec<u8>, screen: &Screen<C>, at: u32) -> Result<(), AllocError>
     requires { IsAttributeAt screen.now.cells at }
     ensures { OnOk result (out.new.items ≡ out.old.items
         ++ written_field screen.now.geometry.mode (length screen.now.cells) (field_sent screen.now.cells at)) }

@@ -26,6 +26,7 @@ mod of_cli_taps;
 mod of_cli_traces;
 mod of_cli_turns;
 mod of_cli_words;
+mod of_demo_screens;
 mod of_ds_codec;
 mod of_ds_inbound;
 mod of_ds_keys;

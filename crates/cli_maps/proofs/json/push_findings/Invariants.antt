@@ -1,5 +1,4 @@
 use Rattle.std.proofs.Common.{◌≡◌, ◌++◌, map, drop}
-use Rattle.std.specs.Prelude.{option_map}
 use Rattle.std.specs.List.{flat_map}
 use Rattle.std.specs.String.{string_bytes}
 use Rattle.cli_maps.specs.Json.{finding_line}
@@ -7,5 +6,8 @@ use Rattle.cli_maps.proofs.json.push_findings.Given as goal
 
 abbrev pub invariant-loop-finding : goal.invariant-loop-finding
 invariant-loop-finding l =
-    string_bytes l.out ++ flat_map (finding_line l.path (map (λ line. line.now) l.lines) l.map l.layout (option_map (λ t. t.now) l.terminal)) (drop l.finding-index l.findings)
-    ≡ string_bytes l.fn.out ++ flat_map (finding_line l.path (map (λ line. line.now) l.lines) l.map l.layout (option_map (λ t. t.now) l.terminal)) l.findings
+    record {
+      pushed : string_bytes l.out ++ flat_map (finding_line l.path (map (λ line. line.now) l.lines) l.map l.layout l.fn.rehearsal) (drop l.finding-index l.findings)
+          ≡ string_bytes l.fn.out ++ flat_map (finding_line l.path (map (λ line. line.now) l.lines) l.map l.layout l.fn.rehearsal) l.findings;
+      kept : l.rehearsal ≡ l.fn.rehearsal;
+    }

@@ -1,5 +1,4 @@
-use Rattle.std.proofs.Common.{◌≡◌, ◌<◌, length, sym, ◌∙◌, ap, arith}
-use Rattle.ds_codec.specs.Geometry.{cells_of}
+use Rattle.std.proofs.Common.{◌<◌, length, ◌∙◌, arith}
 use Rattle.demo_screens.proofs.SentLaws.{formatted}
 use Rattle.demo_screens.proofs.answer.is_formatted.Goals as goal
 

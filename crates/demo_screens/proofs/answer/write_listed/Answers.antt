@@ -1,4 +1,4 @@
-use Rattle.std.proofs.Common.{◌≡◌, ◌∷◌, [], ◌++◌, true, false, length, sym, ◌∙◌, ap}
+use Rattle.std.proofs.Common.{◌≡◌, ◌∷◌, [], ◌++◌, false, length, sym, ◌∙◌, ap}
 use Rattle.ds_codec.specs.Address.{written_address}
 use Rattle.ds_codec.specs.Aid.{is_short_aid}
 use Rattle.demo_screens.proofs.SentLaws.{listed_bytes}

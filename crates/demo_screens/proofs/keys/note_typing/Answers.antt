@@ -1,5 +1,4 @@
-use Rattle.std.proofs.Common.{◌≡◌, ◌<◌, ◌∷◌, [], ◌++◌, length, List, Option, Some, None, sym, ◌∙◌, ap, subst, arith, append_assoc}
-use Rattle.ds_codec.specs.Geometry.{cells_of}
+use Rattle.std.proofs.Common.{◌≡◌, ◌<◌, ◌∷◌, [], ◌++◌, length, List, Some, None, sym, ◌∙◌, ap, subst, arith, append_assoc}
 use Rattle.ds_places.specs.Places.{IsRising}
 use Rattle.ds_screen.specs.Picture.{Picture}
 use Rattle.ds_screen.specs.Fields.{attribute_before}

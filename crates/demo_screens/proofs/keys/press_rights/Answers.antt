@@ -1,4 +1,4 @@
-use Rattle.std.proofs.Common.{◌≡◌, ◌+◌, ◌%◌, ◌<◌, length, sym, ◌∙◌, ap, arith, inl, inr}
+use Rattle.std.proofs.Common.{◌≡◌, ◌<◌, length, sym, ◌∙◌, ap, arith, inl, inr}
 use Rattle.ds_codec.specs.Geometry.{cells_of}
 use Rattle.ds_screen.specs.Picture.{Picture}
 use Rattle.demo_screens.proofs.RightLaws.{rights_put, rights_waiting, rights_error}

@@ -1,10 +1,8 @@
-use Rattle.std.proofs.Common.{◌≡◌, false, sym, ◌∙◌, ap, subst}
+use Rattle.std.proofs.Common.{◌≡◌, false, sym, ◌∙◌, ap}
 use Rattle.ds_screen.specs.Picture.{Picture}
 use Rattle.ds_keys.specs.declared.key.Key.TheVariants.{Typed}
 use Rattle.ds_keys.specs.KeyRuns.{answer_of, is_accepted}
 use Rattle.ds_keys.specs.KeyStep.{Step}
-use Rattle.demo_screens.specs.Notes.{LeadBack}
-use Rattle.demo_screens.specs.Modified.{modified_places}
 use Rattle.demo_screens.proofs.TypeLaws.{typed, back_refused, listed_refused}
 use Rattle.demo_screens.proofs.keys.type_once.Goals as goal
 use Rattle.demo_screens.proofs.keys.type_once.Goals.{then-can_type+in_ok-note_typing, else-can_type}

@@ -1,7 +1,4 @@
-use Rattle.std.proofs.Common.{◌≡◌, replicate, sym, ◌∙◌, ap, arith}
-use Rattle.ds_keys.specs.declared.key.Key.{Key}
 use Rattle.ds_keys.specs.declared.key.Key.TheVariants.{Typed}
-use Rattle.ds_keys.specs.KeyRuns.{after}
 use Rattle.demo_screens.proofs.KeyLaws.{not_pressed, pressed_again}
 use Rattle.demo_screens.proofs.keys.type_times.Goals as goal
 
@@ -18,4 +15,3 @@ times-preserved g c =
       listed = c.in_ok-type_once.ensures.listed;
       back = λ before back. c.type_once.ensures.back before (c.times.invariant.back before back);
     }
-

@@ -1,6 +1,5 @@
 use Rattle.std.proofs.Common.{◌≡◌, replicate}
 use Rattle.ds_screen.specs.Picture.{Picture}
-use Rattle.ds_keys.specs.declared.key.Key.{Key}
 use Rattle.ds_keys.specs.declared.key.Key.TheVariants.{Typed}
 use Rattle.ds_keys.specs.KeyRuns.{after}
 use Rattle.demo_screens.specs.Notes.{LeadBack}

@@ -1,6 +1,5 @@
-use Rattle.std.proofs.Common.{◌≡◌, ℕ, length}
-use Rattle.ds_screen.specs.Picture.{Picture}
-use Rattle.demo_screens.specs.Notes.{undone, AreAlike}
+use Rattle.std.proofs.Common.{◌≡◌, length}
+use Rattle.demo_screens.specs.Notes.{AreAlike}
 use Rattle.demo_screens.proofs.NoteLaws.{with_undone}
 use Rattle.demo_screens.proofs.notes.put_back.Given as goal
 

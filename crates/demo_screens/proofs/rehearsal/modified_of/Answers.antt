@@ -3,7 +3,6 @@ use Rattle.std.proofs.lemmas.List.{append-nil}
 use Rattle.ds_screen.specs.Fields.{fields_of}
 use Rattle.ds_screen.specs.declared.field.FieldAt.{FieldAt}
 use Rattle.ds_inbound.proofs.Sent.{AreFieldsOf, all_fields}
-use Rattle.demo_screens.specs.Modified.{modified_places}
 use Rattle.demo_screens.proofs.SentLaws.{modified_among, among_all, among_more, among_less}
 use Rattle.demo_screens.proofs.rehearsal.modified_of.Goals as goal
 

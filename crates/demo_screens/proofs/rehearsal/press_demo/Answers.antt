@@ -1,10 +1,7 @@
 use Rattle.std.proofs.Common.{◌≡◌, sym, ◌∙◌, ap, subst}
 use Rattle.ds_screen.specs.Picture.{Picture}
 use Rattle.ds_keys.specs.KeyRuns.{after}
-use Rattle.ds_keys.specs.declared.key.Key.{Key}
-use Rattle.ds_keys.specs.declared.key.Key.TheVariants.{Attention}
 use Rattle.scr_check.specs.Demos.{demo_keys}
-use Rattle.demo_screens.specs.Notes.{LeadBack}
 use Rattle.demo_screens.specs.Modified.{modified_places}
 use Rattle.demo_screens.proofs.KeyLaws.{SameCells, rights_same, enter_same, back_same, demo_pressed}
 use Rattle.demo_screens.proofs.rehearsal.press_demo.Goals as goal

@@ -1,4 +1,4 @@
-use Rattle.std.proofs.Common.{◌≡◌, ◌<◌, length, sym, ◌∙◌, ap, subst, arith}
+use Rattle.std.proofs.Common.{◌≡◌, length, sym, ◌∙◌, ap, subst, arith}
 use Rattle.ds_screen.specs.Picture.{Picture}
 use Rattle.demo_screens.specs.Notes.{LeadBack}
 use Rattle.demo_screens.proofs.KeyLaws.{none_noted, restored}
