@@ -1,5 +1,5 @@
 -- What was done, and one deed more.
-use Rattle.std.proofs.Common.{◌≡◌, ℕ, Bool, true, false, List, [], ◌∷◌, ◌++◌, refl, sym, ap, ◌∙◌, append_assoc, subst}
+use Rattle.std.proofs.Common.{◌≡◌, ℕ, Bool, true, false, Some, None, List, [], ◌∷◌, ◌++◌, refl, sym, ap, ◌∙◌, append_assoc, subst}
 use Rattle.std.proofs.lemmas.List.{append-nil}
 use Rattle.tn_cores.specs.declared.device.Device.{Device}
 use Rattle.tn_session.specs.declared.terminal_state.TerminalState.{TerminalState}
@@ -7,6 +7,7 @@ use Rattle.tn_session.specs.Talk.{Talk}
 use Rattle.cli_scripts.specs.declared.deed.Deed.{Deed}
 use Rattle.cli_scripts.specs.declared.deed.Deed.TheVariants.{Begun}
 use Rattle.cli_scripts.specs.Deeds.{Does, Did, DidSo, new_talk}
+use Rattle.cli_scripts.specs.Desks.{NamedHost, Worked, opened}
 use Rattle.cli_scripts.specs.SentOn.{SentOn, collected}
 
 pub one_more_deed : (device : Device) (deeds : List Deed) (deed : Deed) (heard bytes given more : List ℕ) (all here : List SentOn)
@@ -94,3 +95,18 @@ pub begun_step : (device : Device) (deeds longer : List Deed) (heard gone due : 
 begun_step device deeds longer heard gone due collects screens mid new is did begins =
     plain_step device deeds longer Begun heard heard [] gone due due [] collects screens mid new is (sym (append-nil heard)) (sym (append-nil due)) did
     (refl, refl, refl, begins)
+
+-- ---- a session anew
+
+-- a terminal anew is in place of the one that was there
+pub renewed_is : (w v : Worked) (talk : Talk TerminalState) (deeds : List Deed) → w ≡ v → talk ≡ new_talk w.device → deeds ≡ w.deeds ++ Begun ∷ []
+    → record w { talk = talk; deeds = deeds } ≡ record v { talk = new_talk v.device; deeds = v.deeds ++ Begun ∷ [] }
+renewed_is w v talk deeds same is grows =
+    ap (λ (t : Talk TerminalState). record w { talk = t; deeds = deeds }) is
+    ∙ ap (λ (ds : List Deed). record w { talk = new_talk w.device; deeds = ds }) grows
+    ∙ ap (λ (u : Worked). record u { talk = new_talk u.device; deeds = u.deeds ++ Begun ∷ [] }) same
+
+-- with a host
+pub opened_is : (w v old : Worked) (host : NamedHost) → w ≡ v → v ≡ record old { talk = new_talk old.device; deeds = old.deeds ++ Begun ∷ [] }
+    → record w { host = Some host; was_read = false; reads = 0; fault = None } ≡ opened old host
+opened_is w v old host same is = ap (λ (u : Worked). record u { host = Some host; was_read = false; reads = 0; fault = None }) (same ∙ is)

@@ -14,3 +14,6 @@ mod SayLaws
 mod PressLaws
 mod KeyLaws
 mod TextLaws
+mod FaultLaws
+mod LineEnds
+mod ResumeLaws

@@ -14,7 +14,6 @@ use Rattle.std.specs.Prelude.{is_some}
 use Rattle.tn_session.specs.TerminalTalk.{OfWaiting, worked}
 use Rattle.cli_scripts.specs.declared.doing.Step.{Step}
 use Rattle.cli_scripts.specs.declared.doing.Typing.{Typing}
-use Rattle.cli_scripts.specs.declared.deed.Deed.{Deed}
 use Rattle.cli_scripts.specs.declared.deed.Deed.TheVariants.{Pressed as PressedKey}
 use Rattle.cli_scripts.specs.Desks.{NamedHost, Worked, is_error, is_waiting}
 use Rattle.cli_scripts.specs.Keying.{OnWaiting}

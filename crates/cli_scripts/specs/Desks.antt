@@ -1,5 +1,5 @@
 -- The terminal that a script works, and what is known of its line.
-use Rattle.std.specs.Prelude.{◌≡◌, ℕ, Bool, true, false, List, [], ◌++◌, codes, Option, Some, None, if◌then◌else◌}
+use Rattle.std.specs.Prelude.{◌≡◌, ℕ, ◌+◌, nat_le, nat_lt, Bool, true, false, not, ◌&&◌, List, [], ◌∷◌, ◌++◌, codes, Option, Some, None, Result, Ok, Err, if◌then◌else◌}
 use Rattle.ds_screen.specs.Picture.{Picture}
 use Rattle.ds_screen.specs.declared.lock.Lock.{Lock}
 use Rattle.ds_screen.specs.declared.lock.Lock.TheVariants.{Free, Waiting, Error}
@@ -14,12 +14,18 @@ use Rattle.tn_cores.specs.declared.device.Device.{Device}
 use Rattle.tn_cores.specs.declared.device.ScreenModel.{ScreenModel}
 use Rattle.tn_cores.specs.declared.device.ScreenModel.TheVariants.{Two, Three, Four, Five}
 use Rattle.tn_cores.specs.declared.session.Agreed.{Agreed}
+use Rattle.tn_cores.specs.declared.session.SessionFault.TheVariants.{TooManyReads}
 use Rattle.tn_cores.specs.Devices.{name_of}
+use Rattle.tn_session.specs.declared.fault.RunFault.{RunFault}
+use Rattle.tn_session.specs.declared.fault.RunFault.TheVariants.{Wire, Session, OutOfMemory}
+use Rattle.tn_session.specs.declared.progress.Progress.{Progress}
 use Rattle.tn_session.specs.declared.terminal_state.TerminalState.{TerminalState}
-use Rattle.tn_session.specs.Talk.{Talk}
-use Rattle.tn_session.specs.TerminalTalk.{OfWaiting, agreed_in, lu_name_in}
+use Rattle.tn_session.specs.OneLog.{has_failed, is_at_fault}
+use Rattle.tn_session.specs.Talk.{Adds, Talk, stands, starved}
+use Rattle.tn_session.specs.TerminalTalk.{OfWaiting, TerminalTakes, agreed_in, lu_name_in}
 use Rattle.cli_scripts.specs.Answers.{printed_name}
 use Rattle.cli_scripts.specs.declared.deed.Deed.{Deed}
+use Rattle.cli_scripts.specs.declared.deed.Deed.TheVariants.{Begun}
 use Rattle.cli_scripts.specs.Deeds.{DidSo, new_talk}
 use Rattle.cli_scripts.specs.SentOn.{SentOn}
 
@@ -33,14 +39,16 @@ link_of_host None protocol lu_name = None
 link_of_host (Some host) protocol lu_name =
     Some (record { host = host.name; port = host.port; protocol = protocol; lu_name = lu_name })
 
--- The session, the host while it is connected, all that was done at it and was heard of hosts, and the bytes that were due: those that were
--- handed out, and those that weren't. Where screens on which keys send are collected to be judged, so are those: the ones that were handed
--- out, and the ones that weren't.
+-- The session, the host while it is connected, how often it was read, why the last session failed, all that was done at it and was heard of
+-- hosts, and the bytes that were due: those that were handed out, and those that weren't. Where screens on which keys send are collected to be
+-- judged, so are those: the ones that were handed out, and the ones that weren't.
 pub record Worked : Type 0 where
   pub device : Device
   pub talk : Talk TerminalState
   pub host : Option NamedHost
   pub was_read : Bool
+  pub reads : ℕ
+  pub fault : Option RunFault
   pub deeds : List Deed
   pub heard : List ℕ
   pub gone : List ℕ
@@ -56,6 +64,8 @@ desk_of device collects = record {
   talk = new_talk device;
   host = None;
   was_read = false;
+  reads = 0;
+  fault = None;
   deeds = [];
   heard = [];
   gone = [];
@@ -129,6 +139,71 @@ is_error Waiting = false
 -- no screen was handed out, and they are collected or not, as before
 abbrev pub KeepsScreens : Worked → Worked → Type 0
 KeepsScreens old new = (new.judged ≡ old.judged) × (new.collects ≡ old.collects)
+
+-- ---- a session begins, and is over
+
+-- a session anew with this host
+abbrev pub opened : Worked → NamedHost → Worked
+opened w host = record w {
+  talk = new_talk w.device;
+  host = Some host;
+  was_read = false;
+  reads = 0;
+  fault = None;
+  deeds = w.deeds ++ Begun ∷ [];
+}
+
+-- why a call failed, if it did
+abbrev pub why_of : {A : Type 0} → Result A RunFault → Option RunFault
+why_of (Ok done) = None
+why_of (Err why) = Some why
+
+-- why a session failed
+abbrev pub fault_in : Talk TerminalState → Option RunFault
+fault_in (stands (has_failed why)) = Some why
+fault_in (stands (is_at_fault fault)) = Some (Wire fault)
+fault_in starved = Some OutOfMemory
+fault_in talk = None
+
+-- reads are counted up to the last one of a session
+abbrev pub read_again : ℕ → ℕ
+read_again reads = if nat_lt reads 1000000 then reads + 1 else reads
+
+-- why a session is over after so many reads: it failed, or the last of them was made
+abbrev pub over_by : Option RunFault → ℕ → Option RunFault
+over_by (Some why) reads = Some why
+over_by None reads = if nat_le 1000000 reads then Some (Session TooManyReads) else None
+
+-- the host, and the fault that is to be told, after a session that is over by this or goes on
+abbrev pub host_after : Option RunFault → Option NamedHost → Option NamedHost
+host_after None host = host
+host_after (Some why) host = None
+
+abbrev pub fault_after : Option RunFault → Option RunFault → Option RunFault
+fault_after None fault = fault
+fault_after (Some why) fault = Some why
+
+-- the session is over by this, or goes on
+abbrev pub over : Option RunFault → Worked → Worked
+over why w = record w { host = host_after why w.host; fault = fault_after why w.fault }
+
+-- one read more, after which a session that didn't fail may be over
+abbrev pub counted : Worked → Worked
+counted w = over (over_by None (read_again w.reads)) (record w { reads = read_again w.reads })
+
+-- the session took bytes of the host, and what it gave for them is due
+abbrev pub TakesBytes : Worked → List ℕ → Worked → Type 0
+TakesBytes old bytes new =
+    (told : Result Progress RunFault) × Adds old.due new.due (λ given. TerminalTakes old.talk bytes told given new.talk)
+
+-- One read was made, and the session is over or goes on after it. Where a record was shown, the screen wasn't read since.
+abbrev pub HearsOnce : Worked → List ℕ → Bool → Worked → Type 0
+HearsOnce old bytes shown new =
+    TakesBytes old bytes new
+    × (new.reads ≡ read_again old.reads)
+    × (new.host ≡ host_after (over_by (fault_in new.talk) new.reads) old.host)
+    × (new.fault ≡ fault_after (over_by (fault_in new.talk) new.reads) old.fault)
+    × (new.was_read ≡ (old.was_read && not shown))
 
 -- nothing was heard, and nothing handed out
 abbrev pub Keeps : Worked → Worked → Type 0

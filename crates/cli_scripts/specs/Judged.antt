@@ -4,6 +4,8 @@ use Rattle.std.specs.Bool.{OnTrue}
 use Rattle.std.specs.Io.KnownBytes.{Appends}
 use Rattle.script_checks.specs.Forms.{due_at_the_end}
 use Rattle.script_checks.specs.Report.{Judging, judging_after, report_due}
+use Rattle.cli_commands.specs.declared.fault.CommandError.{CommandError}
+use Rattle.cli_commands.specs.declared.fault.CommandError.TheVariants.{Fault, ReadFailed, OutOfMemory}
 use Rattle.cli_commands.specs.declared.status.Status.{Status}
 use Rattle.cli_commands.specs.declared.status.Status.TheVariants.{Done, Findings, Failed, NoMemory}
 use Rattle.cli_scripts.specs.declared.run.Ended.{Ended}
@@ -44,6 +46,12 @@ pub record JudgesAll (old new : Worked) (judging judging_new : Judging) (written
   pub collects : new.collects ≡ old.collects
   pub after : judging_new ≡ judged_all judging screens
   pub reported : Appends written written_new (reports_of judging screens ++ end_of_report judging_new)
+
+-- how a script ends by an error of a read of its lines
+abbrev pub ended_by : CommandError → Ended
+ended_by OutOfMemory = ended.NoMemory
+ended_by ReadFailed = ended.Failed
+ended_by (Fault fault) = ended.Failed
 
 -- the status of a script that is over, by whether the report was written and a screen had findings
 abbrev pub judged_status : Ended → Bool → Bool → Status

@@ -17,4 +17,5 @@ pub mod SentOn
 pub mod Settings
 pub mod Steps
 pub mod Waits
+pub mod Workers
 pub mod Worlds

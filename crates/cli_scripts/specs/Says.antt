@@ -24,7 +24,7 @@ use Rattle.script_checks.specs.Said.{said_of_check}
 use Rattle.tn_cores.specs.Devices.{sizes_of}
 use Rattle.tn_session.specs.Kept.{Kept as KeptRecord}
 use Rattle.tn_session.specs.TerminalTalk.{OfWaiting, agreed_in, records_kept}
-use Rattle.cli_scripts.specs.Answers.{printed_text, last_line}
+use Rattle.cli_scripts.specs.Answers.{Telling, printed_text, last_line}
 use Rattle.cli_scripts.specs.Desks.{Worked, NamedHost, Shows, TellsQuery, device_in, model_number, protocol_of, link_in, link_of_host}
 use Rattle.cli_scripts.specs.Kinds.{kind_of}
 use Rattle.cli_scripts.specs.Settings.{changed}
@@ -48,6 +48,10 @@ EndsSaying said step old new = (step ≡ Ended said.outcome) × (new ≡ old ++ 
 abbrev pub TellsAnswer : Worked → List ℕ → Outcome → List ℕ → Type 0
 TellsAnswer w said outcome text =
     (v : Picture) × Shows w v × (text ≡ said ++ (status_line v (link_in w []) (model_number (device_in w).model) ++ last_line outcome))
+
+-- it comes after those that were finished before
+abbrev pub TellsNext : Worked → List ℕ → Outcome → Telling → Telling → Type 0
+TellsNext w said outcome old new = (text : List ℕ) × (new.lines ≡ old.lines ++ text) × TellsAnswer w said outcome text
 
 -- ---- reading
 

@@ -9,6 +9,10 @@ use Rattle.cli_scripts.specs.declared.settings.Toggle.TheVariants.{AidWait, Blan
 use Rattle.cli_scripts.specs.declared.settings.Verb.{Verb}
 use Rattle.cli_scripts.specs.declared.settings.Verb.TheVariants.{Set, Toggle as Turn}
 
+-- as s3270 begins
+abbrev pub first_settings : Settings
+first_settings = record { blank_fill = true; mono_case = false }
+
 abbrev pub toggle_name : Toggle → List ℕ
 toggle_name AidWait = codes "aidWait"
 toggle_name BlankFill = codes "blankFill"

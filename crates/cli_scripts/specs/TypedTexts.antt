@@ -1,10 +1,13 @@
 -- What a text types, piece by piece.
-use Rattle.std.specs.Prelude.{◌≡◌, ◌⊎◌, ◌==◌, ◌%◌, ℕ, Bool, true, false, ◌&&◌, map, List, [], ◌∷◌, ◌++◌, codes, Option, Some, None, if◌then◌else◌}
+use Rattle.std.specs.Prelude.{◌≡◌, ◌⊎◌, ◌==◌, ◌%◌, ℕ, Bool, true, false, ◌&&◌, map, List, [], ◌∷◌, ◌++◌, codes, Option, Some, None, Result, Ok, if◌then◌else◌}
+use Rattle.std.specs.List.{concat}
 use Rattle.ds_keys.specs.declared.key.Key.{Key}
 use Rattle.script_screens.specs.declared.code_page.CodePage.{CodePage}
 use Rattle.script_screens.specs.declared.pieces.Piece.{Piece}
 use Rattle.script_screens.specs.declared.pieces.Piece.TheVariants as pieces
 use Rattle.ds_screen.specs.Picture.{Picture}
+use Rattle.script_keys.specs.Actions.{Action, other}
+use Rattle.script_keys.specs.Faults.{Fault}
 use Rattle.script_keys.specs.declared.run.Run.{Run}
 use Rattle.script_keys.specs.Runs.{keys_of}
 use Rattle.script_keys.specs.Steps.{margin_run}
@@ -28,7 +31,11 @@ use Rattle.cli_scripts.specs.declared.doing.Doing.TheVariants.{Typing as Typed}
 use Rattle.cli_scripts.specs.declared.doing.Step.{Step}
 use Rattle.cli_scripts.specs.declared.doing.Step.TheVariants.{Ended, Waits}
 use Rattle.cli_scripts.specs.declared.doing.Typing.{Typing}
+use Rattle.cli_scripts.specs.declared.kind.Kind.{Kind}
+use Rattle.cli_scripts.specs.declared.kind.Kind.TheVariants.{Types}
+use Rattle.cli_scripts.specs.declared.worker.Worker.{Worker}
 use Rattle.cli_scripts.specs.Answers.{printed_text}
+use Rattle.cli_scripts.specs.Kinds.{kind_of}
 use Rattle.cli_scripts.specs.Keying.{OnWaiting, code_keys}
 use Rattle.cli_scripts.specs.Says.{EndsSaying}
 use Rattle.cli_scripts.specs.Steps.{IsTypedLater}
@@ -192,3 +199,19 @@ TypesAt (Some host) page fills typing step old new before after =
 
 abbrev pub TypesText : CodePage → Bool → Typing → Step → Worked → Worked → List ℕ → List ℕ → Type 0
 TypesText page fills typing step old new before after = TypesAt old.host page fills typing step old new before after
+
+-- ---- String
+
+-- the text is its arguments, put together
+abbrev pub TypesArguments : CodePage → Bool → List (List ℕ) → Step → Worked → Worked → List ℕ → List ℕ → Type 0
+TypesArguments page fills arguments step old new before after =
+    (typing : Typing) × (typing.text.items ≡ concat arguments) × (typing.after_send ≡ false) × TypesText page fills typing step old new before after
+
+abbrev pub OthersTexts : Kind → List (List ℕ) → Worker → Step → Worker → Type 0
+OthersTexts Types arguments old step new =
+    TypesArguments old.code_page old.settings.blank_fill arguments step old.desk new.desk old.saying new.saying
+OthersTexts kind arguments old step new = Unit {0}
+
+abbrev pub ActsTexts : Result Action Fault → Worker → Step → Worker → Type 0
+ActsTexts (Ok (other name arguments)) old step new = OthersTexts (kind_of name) arguments old step new
+ActsTexts action old step new = Unit {0}

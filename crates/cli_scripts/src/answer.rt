@@ -438,6 +438,7 @@ pub(crate) fn add_bytes(history: &mut History<u8>, bytes: &[u8])
 impl Answers {
     ghost use Rattle.std.specs.Prelude.{[], ◌∷◌};
     ghost use Rattle.cli_scripts.specs.Answers.{AreAnswers, handed_lines, nothing_told};
+    ghost use Rattle.cli_scripts.specs.Says.{TellsNext};
 
     /// No answer yet.
     pub(crate) fn new(alloc: Global) -> Answers
@@ -472,6 +473,8 @@ impl Answers {
     ) -> Result<(), AllocError>
         ensures outcomes { OnOk result (self.new.outcomes ≡ self.old.outcomes ++ outcome ∷ []) }
         ensures gone { self.new.gone ≡ self.old.gone }
+        ensures tells { OnOk result (TellsNext desk.now saying.old outcome self.old self.new) }
+        ensures none { OnOk result (saying.new ≡ []) }
     {
         let text = answer_of(alloc, saying, desk, outcome)?;
         self.add(&text, outcome)?;

@@ -4,7 +4,7 @@ ghost use Rattle.std.specs.Prelude.{◌≡◌, ◌++◌, is_some, codes, IfOk, O
 ghost use Rattle.script_requests.specs.Addresses.{read_address, address_fault_text};
 ghost use Rattle.script_screens.specs.Lines.{failed};
 ghost use Rattle.cli_scripts.specs.Answers.{printed_text};
-ghost use Rattle.cli_scripts.specs.Desks.{Keeps};
+ghost use Rattle.cli_scripts.specs.Desks.{Keeps, opened};
 ghost use Rattle.cli_scripts.specs.Says.{CallsHost, Connects, EndsSaying, IsOpening, unconnected_said, unconnected_text};
 
 use crate::answer::Saying;
@@ -60,6 +60,7 @@ pub(crate) fn connect(
 /// Begins the session with a host that is connected, and waits for its first record.
 pub(crate) fn connected(alloc: Global, desk: &mut Desk, host: Host) -> Result<Step, AllocError>
     ensures keeps { Keeps desk.old desk.new }
+    ensures opened { OnOk result (desk.new ≡ opened desk.old host) }
     ensures waits { IfOk result (λ step. IsOpening step) }
 {
     desk.open_session(alloc, host)?;

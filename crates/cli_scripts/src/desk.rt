@@ -1,6 +1,6 @@
 //! The terminal that a script works, and what is known of its line.
 
-ghost use Rattle.std.specs.Prelude.{◌≡◌, ◌++◌, [], ◌∷◌, length, map, nat_lt, not, ◌&&◌, option_map, replicate, Some, None, is_some, true, false, IfOk, OnOk};
+ghost use Rattle.std.specs.Prelude.{◌≡◌, ◌++◌, [], ◌∷◌, length, map, nat_lt, not, ◌&&◌, option_map, replicate, Some, None, is_some, true, false, IfOk, OnErr, OnOk};
 ghost use Rattle.std.specs.List.{flat_map};
 ghost use Rattle.script_screens.specs.Laws.{LinkIsWhole, is_whole};
 ghost use Rattle.script_screens.specs.Status.{link_seen};
@@ -9,7 +9,8 @@ ghost use Rattle.tn_session.specs.KeptView.{kept_view};
 ghost use Rattle.tn_session.specs.TerminalTalk.{OfWaiting, tolerant_worked, records_kept, agreed_in, lu_name_in, takes_input_in};
 ghost use Rattle.cli_scripts.specs.declared.deed.Deed.TheVariants.{Begun, Heard, Pressed as PressedKey};
 ghost use Rattle.cli_scripts.specs.Pressing.{after_key, answer_to, is_inhibited, after_keys, any_inhibited};
-ghost use Rattle.cli_scripts.specs.Desks.{DidAll, KeepsScreens, handed_due, handed_screens, desk_of, device_in, device_of, is_error, is_waiting, link_in, model_number, protocol_of, Shows};
+ghost use Rattle.cli_scripts.specs.Deeds.{new_talk};
+ghost use Rattle.cli_scripts.specs.Desks.{DidAll, HearsOnce, KeepsScreens, TakesBytes, counted, fault_in, opened, read_again, why_of, handed_due, handed_screens, desk_of, device_in, device_of, is_error, is_waiting, link_in, model_number, protocol_of, Shows};
 
 use crate::answer::add_bytes;
 use crate::deed::Deed;
@@ -23,7 +24,7 @@ use std::alloc::{AllocError, Global};
 use std::marker::Model;
 use tn_cores::Agreed;
 use tn_session::{
-    Arrived, Device, History, KeptRecord, Pressed, RunFault, ScreenModel, SessionFault,
+    Arrived, Device, History, KeptRecord, Pressed, Progress, RunFault, ScreenModel, SessionFault,
     TerminalSession,
 };
 
@@ -68,6 +69,8 @@ impl Model for Desk {
       talk = d.session.talk;
       host = d.host;
       was_read = d.was_read;
+      reads = d.reads;
+      fault = d.fault;
       deeds = d.deeds.items;
       heard = d.heard.items;
       gone = d.gone.items;
@@ -134,6 +137,23 @@ fn protocol_of(agreed: Option<Agreed>) -> Protocol
     }
 }
 
+/// One read more, up to the last one of a session.
+fn read_again(reads: u32) -> u32
+    ensures { result ≡ read_again reads }
+{
+    if reads < MAX_READS { reads + 1 } else { reads }
+}
+
+/// Whether a session failed, and why.
+fn ended_by(told: Result<Progress, RunFault>) -> Result<(), RunFault>
+    ensures { why_of result ≡ why_of told }
+{
+    match told {
+        Ok(_progress) => Ok(()),
+        Err(why) => Err(why),
+    }
+}
+
 /// A terminal's session, which gets through where it can.
 fn new_session(alloc: Global, device: Device) -> Result<TerminalSession, AllocError>
     ensures { IfOk result (λ session. session ≡ tolerant_worked device true true) }
@@ -170,6 +190,11 @@ impl Desk {
         ensures gone { self.new.gone ≡ self.old.gone }
         ensures screens { KeepsScreens self.old self.new }
         ensures host { self.new.host ≡ self.old.host }
+        ensures renewed { OnOk result (self.new ≡ record self.old {
+          talk = new_talk self.old.device;
+          deeds = self.old.deeds ++ Begun ∷ [];
+        }) }
+        ensures same { OnErr result (self.new ≡ self.old) }
     {
         let session = new_session(alloc, self.device)?;
         self.session = session;
@@ -184,6 +209,8 @@ impl Desk {
         ensures gone { self.new.gone ≡ self.old.gone }
         ensures screens { KeepsScreens self.old self.new }
         ensures host { OnOk result (self.new.host ≡ Some host) }
+        ensures opened { OnOk result (self.new ≡ opened self.old host) }
+        ensures same { OnErr result (self.new ≡ self.old) }
     {
         self.renew(alloc)?;
         self.host = Some(host);
@@ -202,7 +229,7 @@ impl Desk {
 
     /// Ends a session that failed.
     fn fail(&mut self, why: RunFault)
-        ensures { self.new ≡ record self.old { host = None } }
+        ensures { self.new ≡ record self.old { host = None; fault = Some why } }
     {
         self.fault = Some(why);
         self.host = None;
@@ -215,22 +242,26 @@ impl Desk {
         ensures gone { self.new.gone ≡ self.old.gone }
         ensures screens { KeepsScreens self.old self.new }
         ensures host { self.new.host ≡ self.old.host }
+        ensures rest { (self.new.reads ≡ self.old.reads) × (self.new.fault ≡ self.old.fault)
+            × (self.new.was_read ≡ self.old.was_read) }
+        ensures takes { TakesBytes self.old bytes.now self.new }
+        // It fails where the session does, for that reason.
+        ensures told { why_of result ≡ fault_in self.new.talk }
     {
         let told = self.session.take(alloc, bytes, &mut self.due);
         self.deeds = self.deeds.and(&Deed::Heard(bytes.len()));
         add_bytes(&mut self.heard, bytes);
-        match told {
-            Ok(_progress) => Ok(()),
-            Err(why) => Err(why),
-        }
+        ended_by(told)
     }
 
     /// Takes bytes of the host: whether a record was shown, or answered. After a fault of the session, and after 1,000,000 reads, the
     /// session is over.
     pub(crate) fn hear(&mut self, alloc: Global, bytes: &[u8]) -> Result<bool, AllocError>
+        ensures deeds { self.new.deeds ≡ self.old.deeds ++ Heard (length bytes.now) ∷ [] }
         ensures heard { self.new.heard ≡ self.old.heard ++ bytes.now }
         ensures gone { self.new.gone ≡ self.old.gone }
         ensures screens { KeepsScreens self.old self.new }
+        ensures once { IfOk result (λ shown. HearsOnce self.old bytes.now shown self.new) }
     {
         let told = self.take(alloc, bytes);
         self.count_read();
@@ -246,11 +277,9 @@ impl Desk {
 
     /// Counts a read, up to the last one.
     fn count_read(&mut self)
-        ensures heard { self.new.heard ≡ self.old.heard }
-        ensures gone { self.new.gone ≡ self.old.gone }
-        ensures screens { KeepsScreens self.old self.new }
+        ensures { self.new ≡ counted self.old }
     {
-        self.reads = self.reads.saturating_add(1);
+        self.reads = read_again(self.reads);
         if self.reads >= MAX_READS {
             self.fail(RunFault::Session(SessionFault::TooManyReads));
         }
@@ -264,6 +293,8 @@ impl Desk {
         ensures gone { self.new.gone ≡ self.old.gone }
         ensures screens { KeepsScreens self.old self.new }
         ensures host { self.new.host ≡ self.old.host }
+        ensures rest { (self.new.reads ≡ self.old.reads) × (self.new.fault ≡ self.old.fault)
+            × (self.new.talk ≡ self.old.talk) × (self.new.due ≡ self.old.due) }
     {
         let came = is_shown(self.session.arrived());
         if came {
@@ -455,7 +486,8 @@ impl Desk {
 
     /// Why the last session failed, once.
     pub(crate) fn take_fault(&mut self) -> Option<RunFault>
-        ensures { self.new ≡ self.old }
+        ensures fault { result ≡ self.old.fault }
+        ensures rest { self.new ≡ record self.old { fault = None } }
     {
         self.fault.take()
     }

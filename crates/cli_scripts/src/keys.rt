@@ -1,6 +1,6 @@
 //! Actions that press keys.
 
-ghost use Rattle.std.specs.Prelude.{◌≡◌, ◌++◌, map, IfOk, OnOk};
+ghost use Rattle.std.specs.Prelude.{◌≡◌, ◌++◌, is_some, map, IfOk, OnOk};
 ghost use Rattle.script_screens.specs.declared.lines.Outcome.TheVariants.{Done};
 ghost use Rattle.cli_scripts.specs.declared.doing.Step.TheVariants.{Ended};
 ghost use Rattle.cli_scripts.specs.Keying.{OnWaiting, PressedSo, SaysKeys, SaysCode, TypesCode};
@@ -10,6 +10,7 @@ ghost use Rattle.tn_session.specs.TerminalTalk.{OfWaiting};
 ghost use Rattle.cli_scripts.specs.declared.deed.Deed.TheVariants.{Pressed};
 ghost use Rattle.cli_scripts.specs.Acts.{is_clear, is_reset, unconnected_deeds, PressesKeys, PressesOnly};
 ghost use Rattle.cli_scripts.specs.Desks.{Keeps};
+ghost use Rattle.cli_scripts.specs.Workers.{AfterSent};
 
 use crate::answer::Saying;
 use crate::came::Need;
@@ -122,7 +123,9 @@ pub(crate) fn type_code(
 }
 
 /// What a key that sent waits for: whether it still does.
-pub(crate) fn after_sent(desk: &Desk) -> Step {
+pub(crate) fn after_sent(desk: &Desk) -> Step
+    ensures { AfterSent (is_some desk.now.host) desk.now.talk result }
+{
     if desk.is_connected() && desk.waits() {
         Step::Waits(Doing::Sent, Need::Bytes)
     } else {

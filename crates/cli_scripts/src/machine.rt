@@ -1,11 +1,12 @@
 //! A terminal that lines of a script work.
 
-ghost use Rattle.std.specs.Prelude.{◌≡◌, ◌++◌, [], ◌∷◌, true, false, is_some, IfOk, IfSome, OnOk};
-ghost use Rattle.cli_scripts.specs.Answers.{AreAnswers, handed_lines, nothing_told};
-ghost use Rattle.cli_scripts.specs.Desks.{DidAll, Keeps, handed_due, handed_screens, desk_of, new_desk};
+ghost use Rattle.std.specs.Prelude.{◌≡◌, ◌++◌, [], ◌∷◌, None, true, false, is_some, option_map, IfOk, IfSome, OnErr, OnOk};
+ghost use Rattle.cli_scripts.specs.Answers.{AreAnswers, handed_lines, printed_text};
+ghost use Rattle.cli_scripts.specs.Desks.{DidAll, Keeps, handed_due, handed_screens, desk_of, new_desk, opened};
 ghost use Rattle.tn_session.specs.TerminalTalk.{OfWaiting};
 ghost use Rattle.cli_scripts.specs.declared.came.Wants.TheVariants.{Line};
-ghost use Rattle.cli_scripts.specs.Machines.{HearsNext, AnswersSo, DrainsFirst, IsDrained, goes_on};
+ghost use Rattle.cli_scripts.specs.Machines.{HearsNext, AnswersSo, DrainsFirst, IsDrained, IsKept, StopsAt, TellsOf, TellsSo, file_wanted, goes_on, host_named, host_wanted, scripted};
+ghost use Rattle.cli_scripts.specs.declared.doing.Doing.TheVariants.{Arriving};
 
 use crate::answer::Answers;
 use crate::came::{Came, Need, Wants};
@@ -30,7 +31,7 @@ struct Job {
 }
 
 /// A terminal that is worked by lines of a script, without a line to a host and without files: it is given what came, and tells what it
-/// wants next. Contracts see its terminal, with all that was done at it, its answers, and whether a line is under way.
+/// wants next. Contracts see its terminal, with all that was done at it, what was set and kept, its answers, and what is under way of a line.
 #[derive(Drop)]
 pub struct Machine {
     worker: Worker,
@@ -44,7 +45,16 @@ impl Model for Machine {
 
     ghost Value = { Scripted };
 
-    ghost view = { λ m. record { desk = m.worker.desk; telling = m.answers; is_busy = is_some m.job } };
+    ghost view = { λ m. record {
+      desk = m.worker.desk;
+      code_page = m.worker.code_page;
+      settings = m.worker.settings;
+      kept = m.worker.kept;
+      saying = m.worker.saying;
+      telling = m.answers;
+      job = m.job;
+      is_busy = is_some m.job;
+    } };
 }
 
 /// Said of a line of more than 65,536 bytes.
@@ -57,11 +67,7 @@ fn begun(
     code_page: CodePage,
     collects: bool,
 ) -> Result<Machine, AllocError>
-    ensures { IfOk result (λ machine. machine ≡ record {
-      desk = desk_of device collects;
-      telling = nothing_told;
-      is_busy = false;
-    }) }
+    ensures { IfOk result (λ machine. machine ≡ scripted (desk_of device collects) code_page) }
 {
     let desk = Desk::new(alloc, device, collects)?;
     Ok(Machine {
@@ -74,11 +80,7 @@ fn begun(
 impl Machine {
     /// A terminal of this device, not connected.
     pub fn new(alloc: Global, device: Device, code_page: CodePage) -> Result<Machine, AllocError>
-        ensures { IfOk result (λ machine. machine ≡ record {
-          desk = new_desk device;
-          telling = nothing_told;
-          is_busy = false;
-        }) }
+        ensures { IfOk result (λ machine. machine ≡ scripted (new_desk device) code_page) }
     {
         begun(alloc, device, code_page, false)
     }
@@ -86,11 +88,7 @@ impl Machine {
     /// A terminal of this device, not connected, whose screens are to be judged: of each on which Enter, a PF or a PA key sends a copy is
     /// kept, as it was before the key.
     pub fn judged(alloc: Global, device: Device, code_page: CodePage) -> Result<Machine, AllocError>
-        ensures { IfOk result (λ machine. machine ≡ record {
-          desk = desk_of device true;
-          telling = nothing_told;
-          is_busy = false;
-        }) }
+        ensures { IfOk result (λ machine. machine ≡ scripted (desk_of device true) code_page) }
     {
         begun(alloc, device, code_page, true)
     }
@@ -99,6 +97,9 @@ impl Machine {
     pub fn attach(&mut self, alloc: Global, name: &[u8], port: u16) -> Result<(), AllocError>
         ensures desk { Keeps self.old.desk self.new.desk }
         ensures rest { self.new ≡ record self.old { desk = self.new.desk } }
+        ensures opened { OnOk result
+            (self.new.desk ≡ opened self.old.desk (host_named (printed_text name.now) port)) }
+        ensures same { OnErr result (self.new ≡ self.old) }
     {
         let host = Host::new(alloc, name, port)?;
         self.worker.desk.open_session(alloc, host)
@@ -120,7 +121,9 @@ impl Machine {
 
     /// The host that is wanted: its name or number, and its port.
     pub fn wanted_host(&self) -> Option<(&[u8], u16)>
-        ensures { IfSome result (λ host. self.now.is_busy ≡ true) }
+        ensures value { option_map (λ host. host_named host.0.now host.1) result
+            ≡ host_wanted self.now.job }
+        ensures busy { IfSome result (λ host. self.now.is_busy ≡ true) }
     {
         match &self.job {
             Some(
@@ -135,7 +138,8 @@ impl Machine {
 
     /// The file that is wanted.
     pub fn wanted_file(&self) -> Option<&[u8]>
-        ensures { IfSome result (λ path. self.now.is_busy ≡ true) }
+        ensures value { option_map (λ path. path.now) result ≡ file_wanted self.now.job }
+        ensures busy { IfSome result (λ path. self.now.is_busy ≡ true) }
     {
         match &self.job {
             Some(
@@ -196,7 +200,9 @@ impl Machine {
 
     /// Why the last session failed, once.
     pub fn take_fault(&mut self) -> Option<RunFault>
-        ensures { self.new ≡ self.old }
+        ensures fault { result ≡ self.old.desk.fault }
+        ensures rest { self.new
+            ≡ record self.old { desk = record self.old.desk { fault = None } } }
     {
         self.worker.desk.take_fault()
     }
@@ -204,9 +210,12 @@ impl Machine {
     /// Takes what came, and tells what is wanted next.
     pub fn take(&mut self, alloc: Global, came: Came<'_>) -> Result<Wants, AllocError>
         ensures heard { HearsNext self.old.is_busy came.entry self.old.desk self.new.desk }
+        ensures page { self.new.code_page ≡ self.old.code_page }
         ensures gone { self.new.telling.gone ≡ self.old.telling.gone }
         ensures answered { IfOk result (λ wants.
             AnswersSo (goes_on self.old.is_busy came.entry) self.old wants self.new) }
+        ensures tells { IfOk result (λ wants.
+            TellsSo (goes_on self.old.is_busy came.entry) self.old wants self.new) }
         // At a terminal that is connected a line begins with what has arrived of the host.
         ensures drains { self.old.is_busy ≡ false → IfOk result (λ wants.
             DrainsFirst came.entry self.old.desk wants self.new.desk) }
@@ -224,9 +233,12 @@ impl Machine {
     fn take_line(&mut self, alloc: Global, came: Came<'_>) -> Result<Wants, AllocError>
         requires { self.old.is_busy ≡ false }
         ensures desk { Keeps self.old.desk self.new.desk }
+        ensures page { self.new.code_page ≡ self.old.code_page }
         ensures gone { self.new.telling.gone ≡ self.old.telling.gone }
         ensures answered { IfOk result (λ wants.
             AnswersSo (goes_on false came.entry) self.old wants self.new) }
+        ensures tells { IfOk result (λ wants.
+            TellsSo (goes_on false came.entry) self.old wants self.new) }
         ensures drains { IfOk result (λ wants.
             DrainsFirst came.entry self.old.desk wants self.new.desk) }
     {
@@ -244,10 +256,14 @@ impl Machine {
     fn begin(&mut self, alloc: Global, line: &[u8]) -> Result<Wants, AllocError>
         requires { self.old.is_busy ≡ false }
         ensures desk { Keeps self.old.desk self.new.desk }
+        ensures page { self.new.code_page ≡ self.old.code_page }
         ensures gone { self.new.telling.gone ≡ self.old.telling.gone }
         ensures answered { IfOk result (λ wants. AnswersSo true self.old wants self.new) }
+        ensures tells { IfOk result (λ wants. TellsSo true self.old wants self.new) }
         ensures drains { is_some self.old.desk.host ≡ true → IfOk result (λ wants.
             IsDrained self.old.desk wants self.new.desk) }
+        ensures kept { is_some self.old.desk.host ≡ true → OnOk result
+            (IsKept Arriving line.now self.new.job) }
     {
         if self.worker.desk.is_connected() {
             let rest = line.to_vec(alloc)?;
@@ -264,11 +280,15 @@ impl Machine {
     /// Ends a line's answer.
     fn end_line(&mut self, alloc: Global, outcome: Outcome) -> Result<Wants, AllocError>
         ensures desk { self.new.desk ≡ self.old.desk }
+        ensures page { self.new.code_page ≡ self.old.code_page }
         ensures gone { self.new.telling.gone ≡ self.old.telling.gone }
         ensures busy { self.new.is_busy ≡ self.old.is_busy }
+        ensures job { self.new.job ≡ self.old.job }
         ensures wants { IfOk result (λ wants. wants ≡ Line) }
         ensures outcomes { OnOk result
             (self.new.telling.outcomes ≡ self.old.telling.outcomes ++ outcome ∷ []) }
+        ensures tells { OnOk result
+            (TellsOf self.old.desk self.old.saying outcome self.old self.new) }
     {
         let Worker { desk, saying, .. } = &mut self.worker;
         self.answers.finish(alloc, saying, desk, outcome)?;
@@ -279,8 +299,10 @@ impl Machine {
     fn go_on(&mut self, alloc: Global, step: Step, rest: &[u8]) -> Result<Wants, AllocError>
         requires { self.old.is_busy ≡ false }
         ensures desk { Keeps self.old.desk self.new.desk }
+        ensures page { self.new.code_page ≡ self.old.code_page }
         ensures gone { self.new.telling.gone ≡ self.old.telling.gone }
         ensures answered { IfOk result (λ wants. AnswersSo true self.old wants self.new) }
+        ensures tells { IfOk result (λ wants. TellsSo true self.old wants self.new) }
     {
         match step {
             Step::Ended(Outcome::Done) => self.perform(alloc, rest),
@@ -292,8 +314,11 @@ impl Machine {
     fn stop_at(&mut self, alloc: Global, step: Step, rest: &[u8]) -> Result<Wants, AllocError>
         requires { self.old.is_busy ≡ false }
         ensures desk { Keeps self.old.desk self.new.desk }
+        ensures page { self.new.code_page ≡ self.old.code_page }
         ensures gone { self.new.telling.gone ≡ self.old.telling.gone }
         ensures answered { IfOk result (λ wants. AnswersSo true self.old wants self.new) }
+        ensures tells { IfOk result (λ wants. TellsSo true self.old wants self.new) }
+        ensures stops { IfOk result (λ wants. StopsAt step rest.now wants self.new.job) }
     {
         match step {
             Step::Ended(outcome) => self.end_line(alloc, outcome),
@@ -314,8 +339,10 @@ impl Machine {
     fn perform(&mut self, alloc: Global, line: &[u8]) -> Result<Wants, AllocError>
         requires { self.old.is_busy ≡ false }
         ensures desk { Keeps self.old.desk self.new.desk }
+        ensures page { self.new.code_page ≡ self.old.code_page }
         ensures gone { self.new.telling.gone ≡ self.old.telling.gone }
         ensures answered { IfOk result (λ wants. AnswersSo true self.old wants self.new) }
+        ensures tells { IfOk result (λ wants. TellsSo true self.old wants self.new) }
     {
         let mut rest = line;
         'actions: for _ in 0..line.len() {

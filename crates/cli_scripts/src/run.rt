@@ -52,12 +52,22 @@ fn finished(ended: Ended, is_told: bool) -> Finish
 }
 
 impl From<AllocError> for Ended {
+    ghost use Rattle.std.specs.Prelude.{◌≡◌};
+    ghost use Rattle.cli_scripts.specs.declared.run.Ended.TheVariants.{NoMemory as no_memory};
+
+    ghost from_gives = { λ _ ended. ended ≡ no_memory };
+
     fn from(_e: AllocError) -> Ended {
         Ended::NoMemory
     }
 }
 
 impl From<CommandError> for Ended {
+    ghost use Rattle.std.specs.Prelude.{◌≡◌};
+    ghost use Rattle.cli_scripts.specs.Judged.{ended_by};
+
+    ghost from_gives = { λ error ended. ended ≡ ended_by error };
+
     fn from(error: CommandError) -> Ended {
         match error {
             CommandError::OutOfMemory => Ended::NoMemory,

@@ -2,6 +2,7 @@
 
 ghost use Rattle.std.specs.Prelude.{◌≡◌, is_some, true, IfOk};
 ghost use Rattle.cli_scripts.specs.Waits.{HoldsSo, OnLine, Begins, BeginsTold, HearsAt, HearsTold, IsReadOn, Tells, wanted, on_line, unread, off_line, is_seconds, is_zero, lacks_time, closed, late, failure_words};
+ghost use Rattle.cli_scripts.specs.Workers.{ArrivesOn};
 
 use crate::answer::Saying;
 use crate::came::Need;
@@ -199,7 +200,8 @@ fn tell(alloc: Global, wait: Wait, became: Becomes, saying: &mut Saying) -> Resu
 
 /// What comes after bytes that had arrived of the host: more of them, until nothing more has, or its line ends.
 pub(crate) fn arrived(desk: &Desk) -> Step
-    ensures { is_some desk.now.host ≡ true → IsReadOn result }
+    ensures reads { is_some desk.now.host ≡ true → IsReadOn result }
+    ensures arrives { ArrivesOn (is_some desk.now.host) result }
 {
     if desk.is_connected() {
         Step::Waits(Doing::Arriving, Need::Arrived)

@@ -1,16 +1,17 @@
 //! The actions of a script at its terminal.
 
-ghost use Rattle.std.specs.Prelude.{◌≡◌, map, IfOk, OnOk};
+ghost use Rattle.std.specs.Prelude.{◌≡◌, map, is_some, IfOk, OnOk};
 ghost use Rattle.script_keys.specs.Actions.{read_action};
 ghost use Rattle.cli_scripts.specs.Acts.{Acts, PressesAs, PressesNone, PressesOnly};
 ghost use Rattle.cli_scripts.specs.Desks.{Keeps};
 ghost use Rattle.cli_scripts.specs.Machines.{HearsCame};
+ghost use Rattle.cli_scripts.specs.Workers.{ActsSet, ClosedOn, GoesOn, HeardAt, HearsOn, KeepsSet, SetsAs, ToldOn, new_worker};
 ghost use Rattle.cli_scripts.specs.Waits.{ActsWait, BeginsAsked, ClosesWait, HearsWait, TellsWait, WaitsAs, WaitsOn};
 ghost use Rattle.script_screens.specs.Lines.{failed};
 ghost use Rattle.cli_scripts.specs.Answers.{printed_text};
 ghost use Rattle.cli_scripts.specs.Says.{EndsSaying, ActsSaying, Answers, EndsAnswering, Others, Prints, Reads, printing_of};
 ghost use Rattle.cli_scripts.specs.Desks.{TellsQuery};
-ghost use Rattle.cli_scripts.specs.TypedTexts.{TypesText};
+ghost use Rattle.cli_scripts.specs.TypedTexts.{ActsTexts, OthersTexts, TypesArguments, TypesText};
 ghost use Rattle.cli_scripts.specs.Keying.{ActsKeys, OthersKeys, SaysKeyOf, TypesKeyOf, bad_key};
 ghost use Rattle.script_requests.specs.Waits.{read_wait};
 
@@ -45,7 +46,7 @@ pub(crate) struct Worker {
 
 impl Worker {
     pub(crate) fn new(alloc: Global, desk: Desk, code_page: CodePage) -> Worker
-        ensures { result.desk ≡ desk }
+        ensures { result ≡ new_worker desk code_page }
     {
         Worker {
             desk,
@@ -64,6 +65,9 @@ impl Worker {
         arguments: &[Vec<u8>],
     ) -> Result<Step, AllocError>
         ensures keeps { Keeps self.old.desk self.new.desk }
+        ensures page { self.new.code_page ≡ self.old.code_page }
+        ensures set { ActsSet (read_action name.now
+            (map (λ argument. argument.items) arguments.now)) self.old self.new }
         ensures acts { OnOk result (Acts (read_action name.now
             (map (λ argument. argument.items) arguments.now)) self.old.desk self.new.desk) }
         ensures waits { IfOk result (λ step. ActsWait (read_action name.now
@@ -72,6 +76,8 @@ impl Worker {
         ensures says { IfOk result (λ step. ActsSaying (read_action name.now
             (map (λ argument. argument.items) arguments.now)) self.old step self.new) }
         ensures keys { IfOk result (λ step. ActsKeys (read_action name.now
+            (map (λ argument. argument.items) arguments.now)) self.old step self.new) }
+        ensures texts { IfOk result (λ step. ActsTexts (read_action name.now
             (map (λ argument. argument.items) arguments.now)) self.old step self.new) }
     {
         match read_action(name, arguments) {
@@ -101,6 +107,8 @@ impl Worker {
         arguments: &[Vec<u8>],
     ) -> Result<Step, AllocError>
         ensures keeps { Keeps self.old.desk self.new.desk }
+        ensures page { self.new.code_page ≡ self.old.code_page }
+        ensures set { SetsAs kind self.old self.new }
         ensures acts { OnOk result (PressesAs kind self.old.desk self.new.desk) }
         ensures waits { IfOk result (λ step. WaitsAs kind
             (map (λ argument. argument.items) arguments.now) self.old.desk step self.old.saying
@@ -108,6 +116,8 @@ impl Worker {
         ensures says { IfOk result (λ step. Others kind
             (map (λ argument. argument.items) arguments.now) self.old step self.new) }
         ensures keys { IfOk result (λ step. OthersKeys kind
+            (map (λ argument. argument.items) arguments.now) self.old step self.new) }
+        ensures texts { IfOk result (λ step. OthersTexts kind
             (map (λ argument. argument.items) arguments.now) self.old step self.new) }
     {
         match kind {
@@ -128,6 +138,8 @@ impl Worker {
         arguments: &[Vec<u8>],
     ) -> Result<Step, AllocError>
         ensures keeps { Keeps self.old.desk self.new.desk }
+        ensures page { self.new.code_page ≡ self.old.code_page }
+        ensures set { SetsAs kind self.old self.new }
         ensures deeds { PressesNone self.old.desk self.new.desk }
         ensures says { IfOk result (λ step. EndsAnswering kind
             (map (λ argument. argument.items) arguments.now) self.old step self.new) }
@@ -139,7 +151,12 @@ impl Worker {
     /// Types what the arguments of String say, put together.
     fn type_arguments(&mut self, alloc: Global, arguments: &[Vec<u8>]) -> Result<Step, AllocError>
         ensures keeps { Keeps self.old.desk self.new.desk }
+        ensures page { self.new.code_page ≡ self.old.code_page }
+        ensures set { KeepsSet self.old self.new }
         ensures deeds { OnOk result (PressesOnly self.old.desk self.new.desk) }
+        ensures typed { IfOk result (λ step. TypesArguments self.old.code_page
+            self.old.settings.blank_fill (map (λ argument. argument.items) arguments.now) step
+            self.old.desk self.new.desk self.old.saying self.new.saying) }
     {
         let mut text = Vec::new(alloc);
         'arguments: for argument in arguments {
@@ -154,6 +171,8 @@ impl Worker {
 
     fn type_on(&mut self, alloc: Global, typing: Typing) -> Result<Step, AllocError>
         ensures keeps { Keeps self.old.desk self.new.desk }
+        ensures page { self.new.code_page ≡ self.old.code_page }
+        ensures set { KeepsSet self.old self.new }
         ensures deeds { OnOk result (PressesOnly self.old.desk self.new.desk) }
         ensures typed { IfOk result (λ step. TypesText self.old.code_page
             self.old.settings.blank_fill typing step self.old.desk self.new.desk self.old.saying
@@ -173,6 +192,8 @@ impl Worker {
     /// Types the characters that the arguments of Key say, in turn.
     fn type_key(&mut self, alloc: Global, arguments: &[Vec<u8>]) -> Result<Step, AllocError>
         ensures keeps { Keeps self.old.desk self.new.desk }
+        ensures page { self.new.code_page ≡ self.old.code_page }
+        ensures set { KeepsSet self.old self.new }
         ensures deeds { OnOk result (PressesOnly self.old.desk self.new.desk) }
         ensures typed { OnOk result (TypesKeyOf self.old.code_page self.old.settings.blank_fill
             (map (λ argument. argument.items) arguments.now) self.old.desk self.new.desk) }
@@ -196,6 +217,8 @@ impl Worker {
     /// Says that there is no such key.
     fn refuse_key(&mut self, alloc: Global, argument: &[u8]) -> Result<Step, AllocError>
         ensures keeps { Keeps self.old.desk self.new.desk }
+        ensures page { self.new.code_page ≡ self.old.code_page }
+        ensures set { KeepsSet self.old self.new }
         ensures deeds { PressesNone self.old.desk self.new.desk }
         ensures says { IfOk result (λ step. EndsSaying
             (failed (printed_text (bad_key argument.now))) step self.old.saying self.new.saying) }
@@ -211,6 +234,8 @@ impl Worker {
 
     fn begin_wait(&mut self, alloc: Global, arguments: &[Vec<u8>]) -> Result<Step, AllocError>
         ensures keeps { Keeps self.old.desk self.new.desk }
+        ensures page { self.new.code_page ≡ self.old.code_page }
+        ensures set { KeepsSet self.old self.new }
         ensures deeds { PressesNone self.old.desk self.new.desk }
         ensures waits { IfOk result (λ step.
             BeginsAsked (read_wait (map (λ argument. argument.items) arguments.now)) self.old.desk
@@ -225,6 +250,8 @@ impl Worker {
     /// Prints the screen.
     fn print(&mut self, alloc: Global, arguments: &[Vec<u8>]) -> Result<Step, AllocError>
         ensures keeps { Keeps self.old.desk self.new.desk }
+        ensures page { self.new.code_page ≡ self.old.code_page }
+        ensures set { KeepsSet self.old self.new }
         ensures deeds { PressesNone self.old.desk self.new.desk }
         ensures says { IfOk result (λ step.
             Prints (printing_of (map (λ argument. argument.items) arguments.now)) self.old step
@@ -248,6 +275,8 @@ impl Worker {
         arguments: &[Vec<u8>],
     ) -> Result<Outcome, AllocError>
         ensures keeps { Keeps self.old.desk self.new.desk }
+        ensures page { self.new.code_page ≡ self.old.code_page }
+        ensures set { SetsAs kind self.old self.new }
         ensures deeds { PressesNone self.old.desk self.new.desk }
         ensures says { IfOk result (λ outcome. Answers kind
             (map (λ argument. argument.items) arguments.now) self.old outcome self.new) }
@@ -294,6 +323,8 @@ impl Worker {
         arguments: &[Vec<u8>],
     ) -> Result<Outcome, AllocError>
         ensures keeps { Keeps self.old.desk self.new.desk }
+        ensures page { self.new.code_page ≡ self.old.code_page }
+        ensures set { KeepsSet self.old self.new }
         ensures deeds { PressesNone self.old.desk self.new.desk }
         ensures reads { IfOk result (λ outcome. Reads self.old.code_page reading
             (map (λ argument. argument.items) arguments.now) self.old.desk self.old.saying outcome
@@ -317,6 +348,8 @@ impl Worker {
         arguments: &[Vec<u8>],
     ) -> Result<Outcome, AllocError>
         ensures keeps { Keeps self.old.desk self.new.desk }
+        ensures page { self.new.code_page ≡ self.old.code_page }
+        ensures set { KeepsSet self.old self.new }
         ensures deeds { PressesNone self.old.desk self.new.desk }
         ensures tells { IfOk result (λ outcome. TellsQuery self.old.desk asked
             (map (λ argument. argument.items) arguments.now) self.old.saying self.new.saying
@@ -333,8 +366,11 @@ impl Worker {
         came: Came<'_>,
     ) -> Result<Step, AllocError>
         ensures heard { HearsCame came.entry self.old.desk self.new.desk }
+        ensures page { self.new.code_page ≡ self.old.code_page }
+        ensures set { KeepsSet self.old self.new }
         ensures waits { IfOk result (λ step.
             WaitsOn doing came.entry self.new.desk step self.old.saying self.new.saying) }
+        ensures goes { IfOk result (λ step. GoesOn doing came.entry self.old step self.new) }
     {
         match came {
             Came::Bytes(bytes) => {
@@ -352,8 +388,11 @@ impl Worker {
     /// Goes on after bytes of the host, of which it is known whether a record was shown.
     fn heard(&mut self, alloc: Global, doing: Doing, shown: bool) -> Result<Step, AllocError>
         ensures keeps { Keeps self.old.desk self.new.desk }
+        ensures page { self.new.code_page ≡ self.old.code_page }
+        ensures set { KeepsSet self.old self.new }
         ensures waits { IfOk result (λ step.
             HearsWait doing self.new.desk step self.old.saying self.new.saying) }
+        ensures goes { IfOk result (λ step. HearsOn doing shown self.old step self.new) }
     {
         match doing {
             Doing::Arriving => Ok(arrived(&self.desk)),
@@ -364,7 +403,11 @@ impl Worker {
 
     /// Goes on after bytes of the host with anything but a wait.
     fn heard_for(&mut self, alloc: Global, doing: Doing, shown: bool) -> Result<Step, AllocError>
-        ensures { Keeps self.old.desk self.new.desk }
+        ensures keeps { Keeps self.old.desk self.new.desk }
+        ensures page { self.new.code_page ≡ self.old.code_page }
+        ensures set { KeepsSet self.old self.new }
+        ensures goes { IfOk result (λ step.
+            HeardAt (is_some self.old.desk.host) doing shown self.old step self.new) }
     {
         if !self.desk.is_connected() {
             return self.closed(alloc, doing);
@@ -389,8 +432,11 @@ impl Worker {
     /// Goes on after the line to the host ended.
     fn closed(&mut self, alloc: Global, doing: Doing) -> Result<Step, AllocError>
         ensures keeps { Keeps self.old.desk self.new.desk }
+        ensures page { self.new.code_page ≡ self.old.code_page }
+        ensures set { KeepsSet self.old self.new }
         ensures waits { IfOk result (λ step.
             ClosesWait doing step self.old.saying self.new.saying) }
+        ensures goes { IfOk result (λ step. ClosedOn doing self.old step self.new) }
     {
         match doing {
             Doing::Opening | Doing::Calling(_) => disconnected(alloc, &mut self.saying),
@@ -408,8 +454,11 @@ impl Worker {
     /// Goes on after something else than the host's bytes.
     fn told(&mut self, alloc: Global, doing: Doing, came: Came<'_>) -> Result<Step, AllocError>
         ensures keeps { Keeps self.old.desk self.new.desk }
+        ensures page { self.new.code_page ≡ self.old.code_page }
+        ensures set { KeepsSet self.old self.new }
         ensures waits { IfOk result (λ step.
             TellsWait doing came.entry step self.old.saying self.new.saying) }
+        ensures goes { IfOk result (λ step. ToldOn doing came.entry self.old step self.new) }
     {
         match (doing, came) {
             (Doing::Calling(host), Came::Connected) => connected(alloc, &mut self.desk, host),

@@ -1,0 +1,12 @@
+use Rattle.std.proofs.Common.{◌≡◌, Bool, true, sym, ap, ◌∙◌, subst}
+use Rattle.std.specs.Prelude.{IfOk, is_some}
+use Rattle.cli_scripts.specs.Machines.{Scripted, TellsSo, goes_on}
+use Rattle.cli_scripts.proofs.LineEnds.{of_parts, told_after}
+use Rattle.cli_scripts.proofs.machine.Machine.take.Goals as goal
+
+pub returns-in_ok-step-in-Some-clause-tells : goal.returns-in_ok-step-in-Some-clause-tells
+returns-in_ok-step-in-Some-clause-tells c =
+    let busy : c.args.self.now.is_busy ≡ true = sym (ap (λ (m : Scripted). m.is_busy) c.self.view_is) ∙ ap is_some (sym c.take.ensures.value ∙ c.in-Some.is) in
+    subst (λ (b : Bool). IfOk c.go_on.result (λ wants. TellsSo (goes_on b c.args.came) c.args.self.now wants c.go_on.new.self)) (sym busy)
+    (told_after c.go_on.result c.args.self.now (of_parts c.resume.new.self c.take.new.self c.self.inside.answers) c.go_on.new.self
+    (ap (λ (m : Scripted). m.telling) c.self.view_is) c.go_on.ensures.tells)
