@@ -44,10 +44,10 @@ pub(crate) fn push_tried(row: &mut Row, setup: &Setup, layout: &Layout, words: &
     let Some(mut rehearsal) = ready(row, layout, setup.after.as_str()) else {
         return;
     };
-    let mut before = "";
+    let mut is_first = true;
     for demo in words.split(", ") {
-        row.word(before);
+        row.word_if(!is_first, ", ");
         push_demo(row, &mut rehearsal, demo);
-        before = ", ";
+        is_first = false;
     }
 }
