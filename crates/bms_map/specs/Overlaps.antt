@@ -1,17 +1,18 @@
 -- Fields that overlap, or go past the end of their map.
 use Rattle.std.specs.List.{flat_map, range_with_len}
 use Rattle.std.specs.Prelude.{◌≡◌, ◌≤◌, ◌<◌, ℕ, zero, suc, ◌+◌, ◌-◌, ◌*◌, ◌/◌, ◌%◌, ◌^◌, min, Bool, ◌&&◌, ◌||◌, ◌==◌, not, nat_le, nat_lt, List, [], ◌∷◌, ◌++◌, length, slice_get, Option, Some, None, if◌then◌else◌}
+use Rattle.ds_codec.specs.Attribute.{is_protected, is_modified}
 use Rattle.bms_map.specs.Maps.{Ground, Shown, Sheet}
 use Rattle.bms_map.specs.declared.overlap.Overlap.{Overlap}
 use Rattle.bms_map.specs.declared.overlap.Overlap.TheVariants.{Overlaps, PastEnd}
 
--- 20 protects
+-- an operator can type there
 abbrev pub is_input : Shown → Bool
-is_input field = field.attribute / 0x20 % 2 == 0
+is_input field = not (is_protected field.attribute)
 
--- it has a label, and an operator can type there or 01 is among its bits
+-- it has a label, and an operator can type there or it is modified
 abbrev pub is_declared : Shown → Bool
-is_declared field = not (length field.label == 0) && (is_input field || field.attribute % 2 == 1)
+is_declared field = not (length field.label == 0) && (is_input field || is_modified field.attribute)
 
 -- the position on the screen of a place of a map, counted from 0, line by line
 abbrev pub cell_in : Ground → ℕ → ℕ

@@ -4,6 +4,7 @@ ghost use Rattle.std.specs.Prelude.{◌≡◌, ◌≤◌};
 ghost use Rattle.bms_map.specs.Lookup.{or_else, looks_or};
 ghost use Rattle.bms_map.specs.Entries.{effect, effects};
 
+use ds_codec::Attr;
 use std::marker::Model;
 
 /// The pairs that a field has besides its attribute: none, or a value, which is 0 where it has no effect.
@@ -80,8 +81,7 @@ pub struct Field {
     pub cell: u32,
     /// How many characters it has; of a group all together.
     pub length: u32,
-    /// Six bits.
-    pub attribute: u8,
+    pub attribute: Attr,
     /// The pairs of Start Field Extended, the attribute's first; none where Start Field says all.
     pub pairs: Vec<u8>,
     /// As many codes as the field has characters, or none.
@@ -114,13 +114,13 @@ impl Field {
     pub fn is_input(&self) -> bool
         ensures { result ≡ is_input self.now }
     {
-        self.attribute / 0x20 % 2 == 0
+        !self.attribute.protected()
     }
 
     /// Whether the layout has an entry for it.
     pub fn is_declared(&self) -> bool
         ensures { result ≡ is_declared self.now }
     {
-        !self.label.is_empty() && (self.is_input() || self.attribute % 2 == 1)
+        !self.label.is_empty() && (self.is_input() || self.attribute.modified())
     }
 }

@@ -9,7 +9,7 @@ ghost use Rattle.bms_map.specs.Record.{text_orders, attribute_order, cursor_orde
 use crate::field::{Field, Later};
 use crate::map::Map;
 use crate::place::DEFAULT_ROWS;
-use ds_codec::{Attr, Command, Mode, Order, Unwritable, to_six_bit_code};
+use ds_codec::{Attr, Command, Mode, Order, Unwritable, WriteControlCharacter, to_six_bit_code};
 use order_lines::Draft;
 use std::alloc::{AllocError, Global};
 
@@ -26,7 +26,11 @@ fn freed(bits: u8) -> u8
     ensures value { result ≡ with_bit true 2 bits }
     ensures six { result < 64 }
 {
-    if bits / 2 % 2 == 0 { bits + 2 } else { bits }
+    if WriteControlCharacter::from_byte(bits).restores_keyboard() {
+        bits
+    } else {
+        bits + 2
+    }
 }
 
 /// The bits with 01, unless it is among them.
@@ -35,7 +39,11 @@ fn reset(bits: u8) -> u8
     ensures value { result ≡ with_bit true 1 bits }
     ensures six { result < 64 }
 {
-    if bits % 2 == 0 { bits + 1 } else { bits }
+    if WriteControlCharacter::from_byte(bits).resets_modified_tags() {
+        bits
+    } else {
+        bits + 1
+    }
 }
 
 fn control_bits(bits: u8, control: Control) -> u8
@@ -120,7 +128,7 @@ fn push_field(draft: &mut Draft, cursor: Option<u32>, field: &Field) -> Result<(
         draft,
         cursor,
         field.cell,
-        field.attribute,
+        field.attribute.bits(),
         field.pairs.as_slice(),
         field.text.as_slice(),
         field.later.as_slice(),
@@ -156,7 +164,8 @@ fn cells_of(map: &Map) -> u32
 fn command_of(map: &Map, control: Control) -> Command
     ensures { result ≡ command_of map.now control }
 {
-    let wcc = to_six_bit_code(control_bits(map.control.bits, control));
+    let byte = to_six_bit_code(control_bits(map.control.bits, control));
+    let wcc = WriteControlCharacter::from_byte(byte);
     if map.area.screen.rows == DEFAULT_ROWS {
         Command::EraseWrite(wcc)
     } else {

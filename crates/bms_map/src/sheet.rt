@@ -12,6 +12,7 @@ use crate::macros::{FieldMacro, MapMacro};
 use crate::map::Map;
 use crate::pairs::pairs_of;
 use crate::place::Area;
+use ds_codec::Attr;
 use std::alloc::{AllocError, Global};
 
 /// Adds so many blanks.
@@ -141,11 +142,10 @@ fn number_of(entry: &FieldMacro, k: u32) -> u16
     if entry.count() < 2 { 0 } else { (k + 1) as u16 }
 }
 
-fn attribute_of(entry: &FieldMacro) -> u8
-    ensures attribute { result ≡ entry.now.attribute }
-    ensures six { result < 64 }
+fn attribute_of(entry: &FieldMacro) -> Attr
+    ensures { result ≡ entry.now.attribute }
 {
-    entry.attribute
+    Attr::new(entry.attribute)
 }
 
 fn pairs_in(alloc: Global, entry: &FieldMacro) -> Result<Vec<u8>, AllocError>

@@ -12,6 +12,6 @@ mod words;
 
 pub use flaw::Flaw;
 pub use line::{BufferLine, read_line};
-pub use record::record_of;
+pub use record::{push_cell, record_of};
 pub use screen::{Open, Shot, Step};
 pub use status::Status;

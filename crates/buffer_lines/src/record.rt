@@ -7,7 +7,7 @@ ghost use Rattle.ds_codec.specs.Geometry.{cells_of};
 ghost use Rattle.buffer_lines.specs.Left.{AreHeld, IsHeld, LeaveWhole};
 ghost use Rattle.buffer_lines.specs.Record.{cell_bytes, cursor_bytes, erase_code, is_usual, record_of};
 
-use ds_codec::{Cell, Geometry, OrderCode, Size, encode_address, to_six_bit_code};
+use ds_codec::{Cell, Geometry, OrderCode, Size, encode_address, push_character, to_six_bit_code};
 use std::alloc::{AllocError, Global};
 
 /// The keyboard is restored; no MDT is reset, as there is none on a screen that was erased.
@@ -26,7 +26,12 @@ fn erase_code(size: Size) -> u8
     if is_usual(size) { 0xF5 } else { 0x7E }
 }
 
-fn push_cell(out: &mut Vec<u8>, cell: Cell) -> Result<(), AllocError>
+/// Adds a cell as it is written: Start Field and the attribute, or the character, of the alternate set after Graphic Escape.
+///
+/// # Errors
+///
+/// Where a request for memory was refused.
+pub fn push_cell(out: &mut Vec<u8>, cell: Cell) -> Result<(), AllocError>
     ensures written { OnOk result (out.new.items ≡ out.old.items ++ cell_bytes cell) }
     ensures held { OnOk result (IsHeld cell) }
 {
@@ -36,11 +41,8 @@ fn push_cell(out: &mut Vec<u8>, cell: Cell) -> Result<(), AllocError>
             to_six_bit_code(attribute.bits()),
         ]),
         Cell::Char(character) => {
-            if character.alt() {
-                out.push(OrderCode::Ge.byte())?;
-            }
-            out.push(character.code())?;
-            Ok(())
+            let _code = character.code();
+            push_character(out, character)
         }
     }
 }

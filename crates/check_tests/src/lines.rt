@@ -1,7 +1,7 @@
 //! Order lines read and printed.
 
 use crate::script::{keep, text_of};
-use ds_codec::{Command, Mode, Order, Record, Unwritable};
+use ds_codec::{Command, Mode, Order, Record, Unwritable, WriteControlCharacter};
 use order_lines::{Draft, OwnedOrder, Told, cut, push_bytes, push_hex, push_record, read_line};
 use std::alloc::Global;
 use test_words::Row;
@@ -53,7 +53,7 @@ fn push_written(row: &mut Row, recorded: &Recorded) {
 /// An Erase/Write of no order.
 fn no_orders(alloc: Global) -> Recorded {
     Recorded {
-        command: Command::EraseWrite(0xC2),
+        command: Command::EraseWrite(WriteControlCharacter::from_byte(0xC2)),
         orders: Vec::new(alloc),
     }
 }

@@ -1,16 +1,14 @@
 -- The line of sizes before the first record.
-use Rattle.std.specs.Prelude.{ℕ, Bool, false, not, ◌==◌, ◌&&◌, List, [], ◌++◌, codes, Option, Some, None}
+use Rattle.std.specs.Prelude.{ℕ, Bool, false, not, List, [], ◌++◌, codes, Option, Some, None}
 use Rattle.std.specs.Fmt.{decimal}
 use Rattle.ds_codec.specs.declared.size.Size.{Size}
+use Rattle.ds_codec.specs.Same.{same_size}
 use Rattle.cli_buffers.specs.declared.sizes.SizesLine.{SizesLine}
 use Rattle.cli_buffers.specs.declared.sizes.SizesLine.TheVariants.{Told, Omitted}
 
-abbrev pub is_same : Size → Size → Bool
-is_same size other = size.rows == other.rows && size.cols == other.cols
-
 -- another size stands in the line
 abbrev pub is_other : SizesLine → Option Size → Size → Bool
-is_other Told (Some first) size = not (is_same first size)
+is_other Told (Some first) size = not (same_size first size)
 is_other Told None size = false
 is_other Omitted first size = false
 

@@ -2,7 +2,7 @@
 
 ghost use Rattle.std.specs.Prelude.{◌≡◌, ◌++◌, OnOk};
 ghost use Rattle.std.specs.String.{string_bytes};
-ghost use Rattle.cli_buffers.specs.Sizes.{first_size, is_other, is_same, size_line, sizes_text};
+ghost use Rattle.cli_buffers.specs.Sizes.{first_size, is_other, size_line, sizes_text};
 
 use ds_codec::Size;
 use std::alloc::AllocError;
@@ -14,18 +14,12 @@ pub enum SizesLine {
     Omitted,
 }
 
-fn is_same(size: Size, other: Size) -> bool
-    ensures { result ≡ is_same size other }
-{
-    size.rows == other.rows && size.cols == other.cols
-}
-
 /// Whether the line of sizes can't be true of a screen: another size stands in it.
 pub(crate) fn is_other(sizes: SizesLine, first: Option<Size>, size: Size) -> bool
     ensures { result ≡ is_other sizes first size }
 {
     match (sizes, first) {
-        (SizesLine::Told, Some(first)) => !is_same(first, size),
+        (SizesLine::Told, Some(first)) => first != size,
         _ => false,
     }
 }

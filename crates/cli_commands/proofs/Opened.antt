@@ -9,12 +9,13 @@ use Rattle.ds_screen.specs.declared.refused.Refused as shown
 use Rattle.ds_screen.specs.Picture.{Picture}
 use Rattle.ds_screen.specs.Fields.{fields_of}
 use Rattle.ds_screen.specs.Records.{new_picture, shown_of}
+use Rattle.ds_codec.specs.Same.{same_size}
 use Rattle.scr_layout.specs.Entry.{Declared}
 use Rattle.scr_layout.specs.Layout.{Declaration}
 use Rattle.scr_check.specs.declared.finding.Demo.{Demo}
 use Rattle.scr_check.specs.declared.finding.Finding.{Finding}
 use Rattle.scr_check.specs.declared.finding.Finding.TheVariants.{FirstNotErase, NotAWrite, KeyboardLocked, OtherSize, Unformatted}
-use Rattle.scr_check.specs.Opening.{erases, writes, unless_found, applied, taken, taken_from, is_free, is_size, is_none_of, ready, opening_of}
+use Rattle.scr_check.specs.Opening.{erases, writes, unless_found, applied, taken, taken_from, is_free, is_none_of, ready, opening_of}
 use Rattle.scr_check.specs.Findings.{findings_of, told, answer_of}
 use Rattle.scr_check.specs.FindingText.{demo_of, finding_text}
 use Rattle.scr_check.specs.Pen.{selectable_of, told_with_pen, answer_with_pen}
@@ -64,7 +65,7 @@ by_ready true true false size v shown is = is
 
 ready_fits : (size : Size) (opened : Result Picture Finding) (shown : Result Picture RefusedRecord) → Fits opened shown → Fits (opened >>= ready size) shown
 ready_fits size (Err finding) shown fits = fits
-ready_fits size (Ok v) shown fits = by_ready (is_free v.lock) (is_size v.size size) (is_none_of (fields_of v.cells)) size v shown fits
+ready_fits size (Ok v) shown fits = by_ready (is_free v.lock) (same_size v.size size) (is_none_of (fields_of v.cells)) size v shown fits
 
 opening_fits : (layout : Declaration) (records : List (List ℕ)) → Fits (opening_of layout records) (shown_on layout records)
 opening_fits layout [] = refl

@@ -1,5 +1,5 @@
 -- The turns of a dialogue and their layouts, one after the other.
-use Rattle.std.proofs.Common.{◌≡◌, ℕ, suc, ◌+◌, ◌<◌, ◌≤◌, ◌&&◌, Bool, true, false, cond, ltb, List, [], ◌∷◌, ◌++◌, length, map, get_or, drop, Option, Some, None, Result, Ok, Err, refl, sym, ◌∙◌, ap, subst, arith, add-one}
+use Rattle.std.proofs.Common.{◌≡◌, ℕ, suc, ◌+◌, ◌<◌, ◌≤◌, Bool, true, false, cond, ltb, List, [], ◌∷◌, ◌++◌, length, map, get_or, drop, Option, Some, None, Result, Ok, Err, refl, sym, ◌∙◌, ap, subst, arith, add-one}
 use Rattle.std.specs.Prelude.{IfSome}
 use Rattle.std.specs.Global.{Vec}
 use Rattle.std.specs.Borrow.{Bor}
@@ -10,17 +10,16 @@ use Rattle.ds_codec.specs.Geometry.{Sizes}
 use Rattle.scr_layout.specs.declared.fault.LayoutFault.{LayoutFault}
 use Rattle.scr_layout.specs.Layout.{Declaration}
 use Rattle.scr_check.specs.declared.talk.Turn.{Turn}
-use Rattle.ds_codec.specs.declared.size.Mode.{Mode}
-use Rattle.ds_codec.specs.declared.size.Mode.TheVariants.{Bits14, Bits16}
+use Rattle.ds_codec.specs.Same.{same_sizes}
+use Rattle.ds_codec.proofs.Same.{sizes_are}
 use Rattle.scr_check.specs.TalkSeen.{round_of, rounds_of, AreOfGeometry, HaveOneGeometry}
 use Rattle.scr_check.specs.Walk.{Round}
-use Rattle.scr_check.proofs.GeometryLaws.{modes_equal as compared, same_is}
 use Rattle.ds_codec.specs.Reading.{◌>>=◌}
 use Rattle.cli_commands.specs.declared.fault.Fault.{Fault}
 use Rattle.cli_commands.specs.declared.fault.Fault.TheVariants.{LayoutRefused, TurnLayoutRefused, TooLong}
 use Rattle.cli_commands.specs.LayoutText.{layout_said, layout_or_fault, layout_in}
 use Rattle.cli_commands.specs.Lines.{within_limit}
-use Rattle.cli_commands.specs.Talk.{turn_layout_or_fault, turn_layout_in, layouts_from, modes_equal, is_geometry, other_from, first_other, rounds}
+use Rattle.cli_commands.specs.Talk.{turn_layout_or_fault, turn_layout_in, layouts_from, other_from, first_other, rounds}
 use Rattle.cli_commands.specs.TurnsHeld.{lent_held, both_known, all_remaining}
 use Rattle.cli_commands.specs.declared.fault.CommandError.{CommandError}
 use Rattle.cli_commands.specs.declared.fault.CommandError.TheVariants.{Fault as Told, ReadFailed, OutOfMemory}
@@ -35,19 +34,19 @@ use Rattle.cli_commands.proofs.Answered.{finishes}
 use Rattle.cli_commands.proofs.Causes.{ends_known}
 
 -- ---- the first of another geometry
-pub other_on : (geometry : Sizes) (layouts : List Declaration) (index turn : ℕ) (d : Declaration) → index < length layouts → is_geometry (get_or layouts index d).geometry geometry ≡ true
+pub other_on : (geometry : Sizes) (layouts : List Declaration) (index turn : ℕ) (d : Declaration) → index < length layouts → same_sizes (get_or layouts index d).geometry geometry ≡ true
     → other_from geometry (turn + 1) (drop (index + 1) layouts) ≡ other_from geometry turn (drop index layouts)
 unfolding other_from
 other_on geometry layouts index turn d lt same =
     let next : index + 1 ≡ suc index = omega arith in
     ap (λ k. other_from geometry (turn + 1) (drop k layouts)) next
-    ∙ sym (ap (other_from geometry turn) (drop-cons layouts index d lt) ∙ cond-true (is_geometry (get_or layouts index d).geometry geometry) _ _ same)
+    ∙ sym (ap (other_from geometry turn) (drop-cons layouts index d lt) ∙ cond-true (same_sizes (get_or layouts index d).geometry geometry) _ _ same)
 
-pub other_here : (geometry : Sizes) (layouts : List Declaration) (index turn : ℕ) (d : Declaration) → index < length layouts → is_geometry (get_or layouts index d).geometry geometry ≡ false
+pub other_here : (geometry : Sizes) (layouts : List Declaration) (index turn : ℕ) (d : Declaration) → index < length layouts → same_sizes (get_or layouts index d).geometry geometry ≡ false
     → Some turn ≡ other_from geometry turn (drop index layouts)
 unfolding other_from
 other_here geometry layouts index turn d lt other =
-    sym (ap (other_from geometry turn) (drop-cons layouts index d lt) ∙ cond-false (is_geometry (get_or layouts index d).geometry geometry) _ _ other)
+    sym (ap (other_from geometry turn) (drop-cons layouts index d lt) ∙ cond-false (same_sizes (get_or layouts index d).geometry geometry) _ _ other)
 
 pub other_end : (geometry : Sizes) (layouts : List Declaration) (index turn : ℕ) → length layouts ≤ index → None ≡ other_from geometry turn (drop index layouts)
 unfolding other_from
@@ -93,25 +92,13 @@ pub turn_layout_is : (turn : ℕ) (input : List ℕ) (fault : LayoutFault) → l
 turn_layout_is turn input fault is = told_by turn input fault (within_limit input) refl is
 
 -- ---- layouts of one geometry
-and_same : (a b c d : Bool) → (a && (b && c)) ≡ true → (c ≡ true → d ≡ true) → (a && (b && d)) ≡ true
-and_same true true true d is leads = leads refl
-and_same true true false d is leads = absurd cc
-and_same true false c d is leads = absurd cc
-and_same false b c d is leads = absurd cc
-
-mode_same : (a b : Mode) → modes_equal a b ≡ true → compared a b ≡ true
-mode_same Bits14 Bits14 is = refl
-mode_same Bits14 Bits16 is = absurd cc
-mode_same Bits16 Bits14 is = absurd cc
-mode_same Bits16 Bits16 is = refl
-
 pub all_same : (geometry : Sizes) (turn : ℕ) (turns : List (List (List ℕ))) (layouts : List Declaration) → other_from geometry turn layouts ≡ None → AreOfGeometry geometry (rounds turns layouts)
 unfolding other_from rounds
 all_same geometry turn [] layouts none = tt
 all_same geometry turn (records ∷ turns) [] none = tt
 all_same geometry turn (records ∷ turns) (layout ∷ layouts) none =
-    let parts = none_here (is_geometry layout.geometry geometry) (other_from geometry (turn + 1) layouts) turn none in
-    (same_is layout.geometry geometry (and_same _ _ _ _ parts.0 (mode_same layout.geometry.mode geometry.mode)), all_same geometry (turn + 1) turns layouts parts.1)
+    let parts = none_here (same_sizes layout.geometry geometry) (other_from geometry (turn + 1) layouts) turn none in
+    (sizes_are layout.geometry geometry parts.0, all_same geometry (turn + 1) turns layouts parts.1)
   where
     none_here : (t : Bool) (others : Option ℕ) (turn : ℕ) → cond t others (Some turn) ≡ None → (t ≡ true) × (others ≡ None)
     none_here true others turn none = (refl, none)

@@ -64,6 +64,13 @@ PassesOn waits Failed = Unit {0}
 PassesOn waits NoMemory = Unit {0}
 PassesOn waits status = waits ≡ false
 
+-- an answer has no error; of a fault the line may be refused memory; another error stays
+abbrev pub StaysError : Result Answer CommandError → CommandError → Type 0
+StaysError (Ok answer) error = ⊥
+StaysError (Err (Told fault)) error = error ≡ OutOfMemory
+StaysError (Err ReadFailed) error = error ≡ ReadFailed
+StaysError (Err OutOfMemory) error = error ≡ OutOfMemory
+
 -- the same of what was answered; of a fault whose line was refused memory; or nothing was written
 abbrev pub FinishesBy : ℕ → ℕ → Result Answer CommandError → Status → Type 0
 FinishesBy old new (Ok answer) status = WritesBy old new answer.status status

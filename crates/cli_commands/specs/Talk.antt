@@ -1,11 +1,9 @@
 -- What `talk` prints, as a function of its layouts' texts and its records, and its status.
-use Rattle.std.specs.Prelude.{ℕ, ◌+◌, Bool, true, false, ◌&&◌, ◌==◌, List, [], ◌∷◌, ◌++◌, codes, length, slice_get, Option, Some, None, Result, Ok, Err, if◌then◌else◌}
+use Rattle.std.specs.Prelude.{ℕ, ◌+◌, ◌==◌, List, [], ◌∷◌, ◌++◌, codes, length, slice_get, Option, Some, None, Result, Ok, Err, if◌then◌else◌}
 use Rattle.std.specs.List.{flat_map}
 use Rattle.std.specs.Fmt.{decimal}
-use Rattle.ds_codec.specs.declared.size.Size.{Size}
-use Rattle.ds_codec.specs.declared.size.Mode.{Mode}
-use Rattle.ds_codec.specs.declared.size.Mode.TheVariants.{Bits14, Bits16}
 use Rattle.ds_codec.specs.Geometry.{Sizes}
+use Rattle.ds_codec.specs.Same.{same_sizes}
 use Rattle.ds_codec.specs.Reading.{◌>>=◌}
 use Rattle.scr_layout.specs.declared.fault.LayoutFault.{LayoutFault}
 use Rattle.scr_layout.specs.Layout.{Declaration}
@@ -37,24 +35,10 @@ layouts_from turn layouts (text ∷ texts) = turn_layout_in turn text >>= λ lay
 
 -- ---- one geometry
 
-abbrev pub sizes_equal : Size → Size → Bool
-sizes_equal a b = (a.rows == b.rows) && (a.cols == b.cols)
-
--- addresses of as many bits
-abbrev pub modes_equal : Mode → Mode → Bool
-modes_equal Bits14 Bits14 = true
-modes_equal Bits14 Bits16 = false
-modes_equal Bits16 Bits14 = false
-modes_equal Bits16 Bits16 = true
-
--- the sizes and the addresses of two terminals
-abbrev pub is_geometry : Sizes → Sizes → Bool
-is_geometry a b = sizes_equal a.default b.default && (sizes_equal a.alternate b.alternate && modes_equal a.mode b.mode)
-
 -- the first layout from this number on that is for a terminal of another geometry
 unfoldable pub other_from : Sizes → ℕ → List Declaration → Option ℕ
 other_from geometry turn [] = None
-other_from geometry turn (layout ∷ layouts) = if is_geometry layout.geometry geometry then other_from geometry (turn + 1) layouts else Some turn
+other_from geometry turn (layout ∷ layouts) = if same_sizes layout.geometry geometry then other_from geometry (turn + 1) layouts else Some turn
 
 abbrev pub first_other : List Declaration → Option ℕ
 first_other [] = None

@@ -22,6 +22,7 @@ pub use input::bytes::{read_text, within_limit};
 pub use input::keys::{Keys, keys_in, read_keys};
 pub use input::last_layout::LastLayout;
 pub use input::layout::{layout_in, read_layout};
+pub use input::lines::is_ignored;
 pub use input::next::{next_line, without_end};
 pub use input::records::{Records, read_records, records_in};
 pub use input::sizes::SizeLine;

@@ -18,7 +18,8 @@ use Rattle.ds_codec.specs.Order.{Item, Site, set_buffer_address, insert_cursor, 
 use Rattle.ds_codec.specs.Writing.{are_good_pairs}
 use Rattle.ds_screen.specs.Picture.{Picture, blank, cell_at, ruled}
 use Rattle.ds_screen.specs.Orders.{Writing, byte_cell, text_cell, single_cell, effect_of, fault_of}
-use Rattle.ds_screen.specs.Records.{begun, erased, finished, finishes, written, acts, unmodified, resets, shown_of}
+use Rattle.ds_codec.specs.WriteControl.{resets_modified_tags}
+use Rattle.ds_screen.specs.Records.{begun, erased, finished, finishes, written, acts, unmodified, shown_of}
 use Rattle.ds_screen.specs.Ring.{ring_on, greatest}
 use Rattle.ds_screen.proofs.ActLaws.{acts_on, acts_end}
 use Rattle.ds_screen.proofs.RuledLaws.{length-ruled, cell_at-ruled, as_ruled, ruled_same}
@@ -314,7 +315,7 @@ nulls : (n p : ℕ) → p < n → cell_at (replicate n blank) p ≡ blank
 nulls n p lt = get_or-replicate n p blank blank lt
 
 begins : (n wcc : ℕ) → Holds n [] 0 (begun wcc (replicate n blank) 0)
-begins n wcc = elim (resets wcc) as (λ b. Holds n [] 0 (record {
+begins n wcc = elim (resets_modified_tags wcc) as (λ b. Holds n [] 0 (record {
   cells = cond b (ruled (length (replicate n blank)) (λ p. unmodified (cell_at (replicate n blank) p))) (replicate n blank);
   cursor = 0;
   address = 0;

@@ -1,7 +1,8 @@
 -- What to do about a finding of a map: the change of its source that ends it.
-use Rattle.std.specs.Prelude.{ℕ, ◌+◌, ◌-◌, ◌*◌, ◌/◌, ◌%◌, Bool, not, ◌&&◌, ◌==◌, nat_le, nat_lt, List, [], ◌++◌, codes, slice_get, Option, Some, None, if◌then◌else◌}
+use Rattle.std.specs.Prelude.{ℕ, ◌+◌, ◌-◌, ◌*◌, ◌/◌, ◌%◌, Bool, ◌&&◌, ◌==◌, nat_le, nat_lt, List, [], ◌++◌, codes, slice_get, Option, Some, None, if◌then◌else◌}
 use Rattle.std.specs.Fmt.{decimal}
 use Rattle.std.specs.List.{find}
+use Rattle.ds_codec.specs.Attribute.{is_protected, is_numeric, is_auto_skip, is_hidden, is_intensified, is_detectable}
 use Rattle.bms_map.specs.Maps.{Ground, Sheet, Shown}
 use Rattle.bms_map.specs.declared.overlap.Overlap.{Overlap}
 use Rattle.bms_map.specs.declared.overlap.Overlap.TheVariants.{Overlaps, PastEnd}
@@ -11,6 +12,10 @@ use Rattle.scr_check.specs.declared.finding.Finding.{Finding}
 use Rattle.scr_check.specs.declared.finding.Finding.TheVariants.{KeyboardLocked, Unformatted, Undeclared, UndeclaredFixed, Missing, TooLong, EmptyModified}
 use Rattle.cli_maps.specs.declared.judged.MapFinding.{MapFinding}
 use Rattle.cli_maps.specs.declared.judged.MapFinding.TheVariants.{Overlapping, Found}
+use Rattle.cli_maps.specs.declared.mend.Protection.{Protection}
+use Rattle.cli_maps.specs.declared.mend.Protection.TheVariants.{Unprotected, Numeric, Protected, Skipped}
+use Rattle.cli_maps.specs.declared.mend.Look.{Look}
+use Rattle.cli_maps.specs.declared.mend.Look.TheVariants.{Normal, Detectable, Bright, Dark}
 use Rattle.cli_maps.specs.Lines.{field_of}
 
 -- ---- places
@@ -36,24 +41,43 @@ pos_text spot = codes "POS=(" ++ (decimal spot.0 ++ (codes "," ++ (decimal spot.
 
 -- ---- attributes
 
--- the protection of an attribute, as ATTRB says it
-abbrev pub protection_words : ℕ → List ℕ
-protection_words kind =
-    if kind == 3 then codes "ASKIP" else (if kind == 2 then codes "PROT" else (if kind == 1 then codes "UNPROT,NUM" else codes "UNPROT"))
+-- what an operator may do in a field
+abbrev pub protection_of : ℕ → Protection
+protection_of attribute =
+    if is_auto_skip attribute then Skipped
+    else (if is_protected attribute then Protected else (if is_numeric attribute then Numeric else Unprotected))
 
--- how it looks, behind that
-abbrev pub look_words : ℕ → List ℕ
-look_words look = if look == 3 then codes ",DRK" else (if look == 2 then codes ",BRT" else (if look == 1 then codes ",DET" else []))
+-- how a field looks
+abbrev pub look_of : ℕ → Look
+look_of attribute =
+    if is_hidden attribute then Dark
+    else (if is_intensified attribute then Bright else (if is_detectable attribute then Detectable else Normal))
+
+-- the protection, as ATTRB says it
+abbrev pub protection_words : Protection → List ℕ
+protection_words Skipped = codes "ASKIP"
+protection_words Protected = codes "PROT"
+protection_words Numeric = codes "UNPROT,NUM"
+protection_words Unprotected = codes "UNPROT"
+
+-- how it looks, after that
+abbrev pub look_words : Look → List ℕ
+look_words Dark = codes ",DRK"
+look_words Bright = codes ",BRT"
+look_words Detectable = codes ",DET"
+look_words Normal = []
 
 -- it is said by one word
-abbrev pub is_word : ℕ → ℕ → Bool
-is_word kind look = (look == 0) && not (kind == 1)
+abbrev pub is_word : Protection → Look → Bool
+is_word Numeric look = false
+is_word protection Normal = true
+is_word protection look = false
 
 -- ATTRB of this protection, of these looks, without FSET
-abbrev pub attrb_text : ℕ → ℕ → List ℕ
-attrb_text kind look =
-    if is_word kind look then codes "ATTRB=" ++ protection_words kind
-    else codes "ATTRB=(" ++ (protection_words kind ++ (look_words look ++ codes ")"))
+abbrev pub attrb_text : Protection → Look → List ℕ
+attrb_text protection look =
+    if is_word protection look then codes "ATTRB=" ++ protection_words protection
+    else codes "ATTRB=(" ++ (protection_words protection ++ (look_words look ++ codes ")"))
 
 -- ---- what to do
 
@@ -71,10 +95,10 @@ abbrev pub label_help : Shown → List ℕ
 label_help field = if field.length == 0 then [] else codes "give it a label, or "
 
 abbrev pub undeclared_help : Shown → List ℕ
-undeclared_help field = label_help field ++ (codes "protect it by " ++ attrb_text 3 (field.attribute / 4 % 4))
+undeclared_help field = label_help field ++ (codes "protect it by " ++ attrb_text Skipped (look_of field.attribute))
 
 abbrev pub unset_of : ℕ → List ℕ
-unset_of attribute = codes "take FSET away by " ++ attrb_text (attribute / 16 % 4) (attribute / 4 % 4)
+unset_of attribute = codes "take FSET away by " ++ attrb_text (protection_of attribute) (look_of attribute)
 
 abbrev pub unset_help : Shown → List ℕ
 unset_help field = unset_of field.attribute

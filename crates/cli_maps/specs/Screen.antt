@@ -11,7 +11,8 @@ use Rattle.ds_codec.specs.Reading.{read_of}
 use Rattle.ds_codec.specs.Record.{Message}
 use Rattle.ds_screen.specs.declared.lock.Lock.TheVariants.{Free}
 use Rattle.ds_screen.specs.Picture.{Picture, blank, ruled}
-use Rattle.ds_screen.specs.Records.{RecordShows, restores}
+use Rattle.ds_codec.specs.WriteControl.{restores_keyboard}
+use Rattle.ds_screen.specs.Records.{RecordShows}
 use Rattle.ds_screen.specs.Ring.{ring_on}
 use Rattle.bms_map.specs.declared.record.Control.{Control}
 use Rattle.bms_map.specs.Fit.{Each, cells_on}
@@ -71,7 +72,7 @@ cursor_place n (Some cell) = ring_on n cell 1
 
 -- the keyboard is freed
 abbrev pub frees : Control → Sheet → Bool
-frees control it = restores (six_bit_code (control_bits it.control control))
+frees control it = restores_keyboard (six_bit_code (control_bits it.control control))
 
 -- a terminal whose default screen has 24 lines of 80, and whose alternate one is the map's
 abbrev pub sizes_of : Sheet → Sizes

@@ -4,11 +4,12 @@ ghost use Rattle.std.specs.Prelude.{◌≡◌, ◌++◌, option_map, slice_get, 
 ghost use Rattle.std.specs.List.{find};
 ghost use Rattle.std.specs.String.{string_bytes};
 ghost use Rattle.bms_map.specs.Maps.{its_ground};
-ghost use Rattle.cli_maps.specs.Mend.{after_field, attrb_text, behind, end_help, field_help, finding_help, help_of, is_in, is_stopper_at, is_word, label_help, look_words, moved_behind, moved_help, overlap_help, overlaps_help, past_help, pos_text, protection_words, spot_if, spot_in, stopper_at, stopper_help, too_long_help, undeclared_fixed_help, undeclared_help, unset_help, unset_of, moved_of};
+ghost use Rattle.cli_maps.specs.Mend.{after_field, attrb_text, behind, end_help, field_help, finding_help, help_of, is_in, is_stopper_at, is_word, label_help, look_of, look_words, moved_behind, moved_help, overlap_help, overlaps_help, past_help, pos_text, protection_of, protection_words, spot_if, spot_in, stopper_at, stopper_help, too_long_help, undeclared_fixed_help, undeclared_help, unset_help, unset_of, moved_of};
 
 use crate::judged::MapFinding;
 use crate::lines::field_of;
 use bms_map::{Area, Field, Map, Overlap, push_label};
+use ds_codec::Attr;
 use scr_check::Finding;
 use scr_layout::Entry;
 use std::alloc::{AllocError, Global};
@@ -57,47 +58,97 @@ fn push_pos(out: &mut String, spot: Spot) -> Result<(), AllocError>
     write!(out, "POS=({row},{column})")
 }
 
-/// The protection of an attribute, as ATTRB says it.
-fn protection_words(kind: u8) -> &'static str
-    ensures { result.now ≡ protection_words kind }
+/// What an operator may do in a field.
+#[derive(Clone, Copy, Debug, PartialEq, Eq)]
+enum Protection {
+    Unprotected,
+    Numeric,
+    Protected,
+    Skipped,
+}
+
+/// How a field looks.
+#[derive(Clone, Copy, Debug, PartialEq, Eq)]
+enum Look {
+    Normal,
+    Detectable,
+    Bright,
+    Dark,
+}
+
+fn protection_of(attribute: Attr) -> Protection
+    ensures { result ≡ protection_of attribute }
 {
-    match kind {
-        3 => "ASKIP",
-        2 => "PROT",
-        1 => "UNPROT,NUM",
-        _ => "UNPROT",
+    if attribute.auto_skip() {
+        Protection::Skipped
+    } else if attribute.protected() {
+        Protection::Protected
+    } else if attribute.numeric() {
+        Protection::Numeric
+    } else {
+        Protection::Unprotected
     }
 }
 
-/// How it looks, behind that.
-fn look_words(look: u8) -> &'static str
+fn look_of(attribute: Attr) -> Look
+    ensures { result ≡ look_of attribute }
+{
+    if attribute.hidden() {
+        Look::Dark
+    } else if attribute.intensified() {
+        Look::Bright
+    } else if attribute.detectable() {
+        Look::Detectable
+    } else {
+        Look::Normal
+    }
+}
+
+/// The protection, as ATTRB says it.
+fn protection_words(protection: Protection) -> &'static str
+    ensures { result.now ≡ protection_words protection }
+{
+    match protection {
+        Protection::Skipped => "ASKIP",
+        Protection::Protected => "PROT",
+        Protection::Numeric => "UNPROT,NUM",
+        Protection::Unprotected => "UNPROT",
+    }
+}
+
+/// How it looks, after that.
+fn look_words(look: Look) -> &'static str
     ensures { result.now ≡ look_words look }
 {
     match look {
-        3 => ",DRK",
-        2 => ",BRT",
-        1 => ",DET",
-        _ => "",
+        Look::Dark => ",DRK",
+        Look::Bright => ",BRT",
+        Look::Detectable => ",DET",
+        Look::Normal => "",
     }
 }
 
-fn is_word(kind: u8, look: u8) -> bool
-    ensures { result ≡ is_word kind look }
+fn is_word(protection: Protection, look: Look) -> bool
+    ensures { result ≡ is_word protection look }
 {
-    look == 0 && !(kind == 1)
+    match (protection, look) {
+        (Protection::Numeric, _) => false,
+        (_, Look::Normal) => true,
+        _ => false,
+    }
 }
 
 /// Adds ATTRB of this protection and of these looks, without FSET.
-fn push_attrb(out: &mut String, kind: u8, look: u8) -> Result<(), AllocError>
+fn push_attrb(out: &mut String, protection: Protection, look: Look) -> Result<(), AllocError>
     ensures { OnOk result
-        (string_bytes out.new ≡ string_bytes out.old ++ attrb_text kind look) }
+        (string_bytes out.new ≡ string_bytes out.old ++ attrb_text protection look) }
 {
-    let protection = protection_words(kind);
+    let words = protection_words(protection);
     let look_words = look_words(look);
-    if is_word(kind, look) {
-        write!(out, "ATTRB={protection}")
+    if is_word(protection, look) {
+        write!(out, "ATTRB={words}")
     } else {
-        write!(out, "ATTRB=({protection}{look_words})")
+        write!(out, "ATTRB=({words}{look_words})")
     }
 }
 
@@ -116,15 +167,15 @@ fn undeclared_help(alloc: Global, field: &Field) -> Result<String, AllocError>
 {
     let mut text = String::from_str(alloc, label_help(field))?;
     text.push_str("protect it by ")?;
-    push_attrb(&mut text, 3, field.attribute / 4 % 4)?;
+    push_attrb(&mut text, Protection::Skipped, look_of(field.attribute))?;
     Ok(text)
 }
 
-fn push_unset_of(out: &mut String, attribute: u8) -> Result<(), AllocError>
+fn push_unset_of(out: &mut String, attribute: Attr) -> Result<(), AllocError>
     ensures { OnOk result (string_bytes out.new ≡ string_bytes out.old ++ unset_of attribute) }
 {
     out.push_str("take FSET away by ")?;
-    push_attrb(out, attribute / 16 % 4, attribute / 4 % 4)
+    push_attrb(out, protection_of(attribute), look_of(attribute))
 }
 
 fn push_unset(out: &mut String, field: &Field) -> Result<(), AllocError>

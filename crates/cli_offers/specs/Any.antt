@@ -11,7 +11,7 @@ use Rattle.cli_commands.specs.declared.input.sizes.SizeLine.TheVariants.{Allowed
 use Rattle.cli_commands.specs.Held.{answer_seen}
 use Rattle.cli_commands.specs.LayoutText.{layout_in}
 use Rattle.cli_commands.specs.Records.{Records, records_in}
-use Rattle.cli_commands.specs.Talk.{is_geometry}
+use Rattle.ds_codec.specs.Same.{same_sizes}
 use Rattle.cli_sessions.specs.Prepare.{has_model}
 use Rattle.tn_dialogue.specs.declared.screen.Reading.TheVariants.{Any}
 use Rattle.cli_dialogues.specs.declared.application.Telling.TheVariants.{Bytes}
@@ -46,7 +46,7 @@ layout_text sizes = sizes_text sizes ++ screen_text sizes
 
 -- some model has the sizes that were told
 abbrev pub is_fit : Sizes → Declaration → Bool
-is_fit sizes layout = is_geometry layout.geometry sizes && has_model layout.geometry
+is_fit sizes layout = same_sizes layout.geometry sizes && has_model layout.geometry
 
 -- the records of the text, and a layout of their sizes
 pub record IsAny (text : List ℕ) (told : Records) (declared : Declaration) : Type 0 where

@@ -3,7 +3,7 @@ use Rattle.std.specs.Prelude.{ℕ, ◌+◌, Bool, true, false, List, [], ◌∷�
 use Rattle.ds_codec.specs.Geometry.{Sizes}
 use Rattle.cli_commands.specs.declared.status.Status.TheVariants.{BadInput, Findings}
 use Rattle.cli_commands.specs.Printed.{Printed, printed}
-use Rattle.cli_commands.specs.Talk.{is_geometry}
+use Rattle.ds_codec.specs.Same.{same_sizes}
 use Rattle.cli_sessions.specs.Prepare.{has_model}
 use Rattle.cli_applications.specs.declared.fault.ManifestKey.TheVariants as keys
 use Rattle.cli_applications.specs.declared.fault.Why.TheVariants.{OtherSizes}
@@ -18,7 +18,7 @@ use Rattle.cli_offers.specs.Ways.{Shown, erases, ways}
 -- the first screen from the n-th on that is of other sizes
 abbrev pub other_from : Sizes → ℕ → List Scene → Option ℕ
 other_from sizes n [] = None
-other_from sizes n (scene ∷ scenes) = if is_geometry scene.layout.geometry sizes then other_from sizes (n + 1) scenes else Some n
+other_from sizes n (scene ∷ scenes) = if same_sizes scene.layout.geometry sizes then other_from sizes (n + 1) scenes else Some n
 
 abbrev pub unless_other : Option ℕ → Result (Unit {0}) Printed
 unless_other None = Ok tt

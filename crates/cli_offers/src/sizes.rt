@@ -2,7 +2,7 @@
 
 ghost use Rattle.std.specs.Prelude.{◌≡◌, IfOk, slice_get};
 ghost use Rattle.cli_commands.specs.Held.{answer_seen};
-ghost use Rattle.cli_commands.specs.Talk.{is_geometry, modes_equal, sizes_equal};
+ghost use Rattle.ds_codec.specs.Same.{same_sizes};
 ghost use Rattle.cli_sessions.specs.Prepare.{has_model};
 ghost use Rattle.cli_offers.specs.Held.{Reads, scene_seen, scenes_held};
 ghost use Rattle.cli_offers.specs.Prepare.{no_model, other_from, sized_as, unless_other, with_model};
@@ -10,35 +10,18 @@ ghost use Rattle.cli_offers.specs.Prepare.{no_model, other_from, sized_as, unles
 use crate::sources::{Stop, refusal};
 use cli_applications::{ManifestFault, ManifestKey, Why};
 use cli_commands::{Answer, Status};
-use ds_codec::{Geometry, Mode, Size};
+use ds_codec::Geometry;
 use scr_layout::Layout;
 use std::alloc::{AllocError, Global};
 use tn_cores::HostCore;
 use tn_dialogue::Screen;
 
-fn sizes_equal(a: Size, b: Size) -> bool
-    ensures { result ≡ sizes_equal a b }
-{
-    a.rows == b.rows && a.cols == b.cols
-}
-
-fn modes_equal(a: Mode, b: Mode) -> bool
-    ensures { result ≡ modes_equal a b }
-{
-    match (a, b) {
-        (Mode::Bits14, Mode::Bits14) | (Mode::Bits16, Mode::Bits16) => true,
-        (Mode::Bits14, Mode::Bits16) | (Mode::Bits16, Mode::Bits14) => false,
-    }
-}
-
 /// Whether a layout is for a terminal of this geometry.
+#[tactic(auto, using(ds_codec::proofs::Same::modes_compared))]
 pub(crate) fn is_geometry(layout: &Layout, geometry: &Geometry) -> bool
-    ensures { result ≡ is_geometry layout.now.geometry geometry.now }
+    ensures { result ≡ same_sizes layout.now.geometry geometry.now }
 {
-    let other = layout.geometry();
-    sizes_equal(other.default_size(), geometry.default_size())
-        && sizes_equal(other.alternate_size(), geometry.alternate_size())
-        && modes_equal(other.mode(), geometry.mode())
+    layout.geometry() == *geometry
 }
 
 /// The first screen whose layout is for a terminal of another geometry.

@@ -3,7 +3,7 @@ use Rattle.std.proofs.Common.{◌≡◌, ℕ, suc, ◌+◌, ◌*◌, ◌<◌, �
 use Rattle.std.specs.Prelude.{◌==◌, codes, if◌then◌else◌}
 use Rattle.std.specs.Fmt.{decimal}
 use Rattle.cli_pictures.specs.Laws.{texts_in}
-use Rattle.cli_pictures.specs.Seen.{is_intensified}
+use Rattle.ds_codec.specs.Attribute.{is_intensified}
 use Rattle.cli_pictures.specs.Svg.{left_of, top_of, escaped, class_of, text_element, line_element, root_line, style_lines, box_element, cursor_element}
 use Rattle.cli_pictures.proofs.TagLaws.{are_bare, skips, decimal_bare}
 

@@ -6,7 +6,7 @@ use Rattle.ds_screen.specs.Fields.{ruling_bits, is_character, is_open, fields_of
 use Rattle.ds_screen.specs.Shown.{printed_cell}
 use Rattle.cli_commands.specs.Screen.{header_line, field_line}
 use Rattle.cli_pictures.specs.declared.look.Look.{Look}
-use Rattle.cli_pictures.specs.Seen.{is_intensified}
+use Rattle.ds_codec.specs.Attribute.{is_intensified}
 
 -- ---- looks
 

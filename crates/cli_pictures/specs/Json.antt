@@ -2,7 +2,7 @@
 use Rattle.std.specs.Prelude.{ℕ, ◌*◌, List, [], ◌∷◌, ◌++◌, codes, length, map, if◌then◌else◌}
 use Rattle.std.specs.List.{flat_map, range_with_len}
 use Rattle.ds_codec.specs.declared.cell.Cell.{Cell}
-use Rattle.ds_codec.specs.Attribute.{is_protected, is_hidden, is_modified}
+use Rattle.ds_codec.specs.Attribute.{is_protected, is_numeric, is_hidden, is_intensified, is_modified}
 use Rattle.ds_screen.specs.declared.field.FieldAt.{FieldAt}
 use Rattle.ds_screen.specs.Picture.{Picture, cell_at}
 use Rattle.ds_screen.specs.Fields.{fields_of}
@@ -12,7 +12,6 @@ use Rattle.serde_json.specs.Data.{Data, boolean, number, unsigned, string, array
 use Rattle.serde_json.specs.View.{items_of}
 use Rattle.serde_json.specs.Written.{compact_text}
 use Rattle.cli_commands.specs.Screen.{lock_word}
-use Rattle.cli_pictures.specs.Seen.{is_intensified, is_numeric}
 use Rattle.cli_pictures.specs.Codes.{codes_on, characters_on, is_alternate}
 
 abbrev pub count : ℕ → Data

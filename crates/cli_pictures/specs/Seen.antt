@@ -1,5 +1,5 @@
 -- What an operator sees of a screen, as a terminal shows it.
-use Rattle.std.specs.Prelude.{ℕ, ◌+◌, ◌/◌, ◌%◌, not, ◌==◌, Bool, Option, Some, None, unwrap_or, List, if◌then◌else◌}
+use Rattle.std.specs.Prelude.{ℕ, ◌+◌, not, ◌==◌, Option, Some, None, unwrap_or, List, if◌then◌else◌}
 use Rattle.ds_codec.specs.declared.cell.Cell.{Cell}
 use Rattle.ds_codec.specs.declared.cell.Cell.TheVariants.{Field, Char}
 use Rattle.ds_codec.specs.Attribute.{is_hidden}
@@ -7,14 +7,6 @@ use Rattle.ds_screen.specs.Ring.{least}
 use Rattle.ds_screen.specs.Picture.{cell_at}
 use Rattle.ds_screen.specs.Fields.{ruling_bits, is_open}
 use Rattle.ds_screen.specs.Shown.{text_of}
-
--- of the display bits 0C the first alone: the field's characters are brighter
-abbrev pub is_intensified : ℕ → Bool
-is_intensified bits = bits / 4 % 4 == 2
-
--- bit 10: digits alone are to be typed
-abbrev pub is_numeric : ℕ → Bool
-is_numeric bits = bits / 16 % 2 == 1
 
 -- what is seen of a character: nothing of a space
 abbrev pub inked : ℕ → Option ℕ

@@ -8,7 +8,8 @@ use Rattle.ds_screen.specs.declared.lock.Lock.{Lock}
 use Rattle.ds_screen.specs.Picture.{Picture}
 use Rattle.ds_screen.specs.Fields.{ruling_bits, is_open}
 use Rattle.cli_commands.specs.Screen.{lock_word}
-use Rattle.cli_pictures.specs.Seen.{is_intensified, seen_at, open_length}
+use Rattle.ds_codec.specs.Attribute.{is_intensified}
+use Rattle.cli_pictures.specs.Seen.{seen_at, open_length}
 
 -- ---- where things stand
 

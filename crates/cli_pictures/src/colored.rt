@@ -7,7 +7,7 @@ ghost use Rattle.ds_screen.specs.Shown.{printed_under, printed_cell};
 ghost use Rattle.cli_pictures.specs.Colored.{look_at, begins_run, ends_run, before_cell, behind_cell, colored_cell, colored_column, colored_row, colored_line, colored_text};
 
 use crate::look::Look;
-use crate::seen::{is_intensified, ruling};
+use crate::seen::ruling;
 use cli_commands::{push_field_lines, push_screen_line};
 use ds_codec::{Attr, Cell};
 use ds_screen::{PlaneCells, Screen, text_of};
@@ -48,7 +48,7 @@ fn look_at(screen: &Screen<PlaneCells>, p: u32) -> Look
     ensures { result ≡ look_at screen.now p }
 {
     Look {
-        bold: is_character(&screen.cell(p)) && is_intensified(ruling(screen, p)),
+        bold: is_character(&screen.cell(p)) && ruling(screen, p).intensified(),
         underlined: screen.is_open(p),
         reversed: p == screen.cursor(),
     }

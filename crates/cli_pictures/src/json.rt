@@ -6,25 +6,16 @@ ghost use Rattle.order_lines.specs.Print.{hex_byte};
 ghost use Rattle.serde_json.specs.Data.{string};
 ghost use Rattle.serde_json.specs.View.{view};
 ghost use Rattle.cli_commands.specs.Screen.{lock_word};
-ghost use Rattle.cli_pictures.specs.Seen.{is_numeric};
 ghost use Rattle.cli_pictures.specs.Codes.{codes_on, characters_on};
 ghost use Rattle.cli_pictures.specs.Json.{field_data, fields_data, row_data, rows_data, code_row_data, code_rows_data, escape_at, escapes_data, screen_data, json_text, json_line};
 
 use crate::codes::{characters_text, codes_text, is_alternate};
-use crate::seen::is_intensified;
 use cli_commands::lock_word;
-use ds_codec::{Attr, Size};
+use ds_codec::Size;
 use ds_screen::{FieldAt, Lock, PlaneCells, Screen};
 use order_lines::push_hex;
 use serde_json::{Map, Value, put};
 use std::alloc::{AllocError, Global};
-
-/// Whether digits alone are to be typed.
-fn is_numeric(attr: Attr) -> bool
-    ensures { result ≡ is_numeric attr }
-{
-    attr.bits() / 0x10 % 2 == 1
-}
 
 /// Two hexadecimal digits.
 fn hex_value(alloc: Global, byte: u8) -> Result<Value, AllocError>
@@ -92,7 +83,7 @@ fn field_value(
         &mut members,
         alloc,
         "intensified",
-        Value::from(is_intensified(attr)),
+        Value::from(attr.intensified()),
     )?;
     put(&mut members, alloc, "length", Value::from(field.length))?;
     put(
@@ -101,12 +92,7 @@ fn field_value(
         "modified",
         Value::from(attr.modified()),
     )?;
-    put(
-        &mut members,
-        alloc,
-        "numeric",
-        Value::from(is_numeric(attr)),
-    )?;
+    put(&mut members, alloc, "numeric", Value::from(attr.numeric()))?;
     put(&mut members, alloc, "place", Value::from(field.place))?;
     put(
         &mut members,

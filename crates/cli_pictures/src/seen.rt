@@ -2,17 +2,10 @@
 
 ghost use Rattle.std.specs.Prelude.{◌≡◌, ◌<◌, ◌≤◌, ◌+◌, length, IfSome};
 ghost use Rattle.ds_screen.specs.Fields.{ruling_bits};
-ghost use Rattle.cli_pictures.specs.Seen.{is_intensified, inked, seen_under, seen_at, shown_at, open_length};
+ghost use Rattle.cli_pictures.specs.Seen.{inked, seen_under, seen_at, shown_at, open_length};
 
 use ds_codec::{Attr, Cell};
 use ds_screen::{PlaneCells, Screen, text_of};
-
-/// Whether a field's characters are brighter.
-pub(crate) fn is_intensified(attr: Attr) -> bool
-    ensures { result ≡ is_intensified attr }
-{
-    attr.bits() / 0x04 % 4 == 2
-}
 
 /// The attribute that rules a position; 00 where there is none.
 pub(crate) fn ruling(screen: &Screen<PlaneCells>, p: u32) -> Attr

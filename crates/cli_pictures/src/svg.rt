@@ -5,7 +5,7 @@ ghost use Rattle.std.specs.List.{flat_map};
 ghost use Rattle.cli_pictures.specs.Seen.{seen_at};
 ghost use Rattle.cli_pictures.specs.Svg.{left_of, top_of, places, escaped, class_of, text_element, seen_text, text_at, line_element, begins_line, line_at, size_words, cursor_words, cursor_place, keyboard_words, title, title_line, root_line, style_lines, sized_head, head_lines, box_element, cursor_element, svg_element};
 
-use crate::seen::{is_intensified, open_length, ruling, seen_at};
+use crate::seen::{open_length, ruling, seen_at};
 use cli_commands::lock_word;
 use ds_codec::Attr;
 use ds_screen::{Lock, PlaneCells, Screen};
@@ -76,7 +76,7 @@ pub(crate) fn push_escaped(out: &mut String, character: u8) -> Result<(), AllocE
 fn class_of(ruling: Attr) -> &'static str
     ensures { result.now ≡ class_of ruling }
 {
-    if is_intensified(ruling) {
+    if ruling.intensified() {
         " class=\"bright\""
     } else {
         ""

@@ -3,7 +3,8 @@
 ghost use Rattle.std.specs.Prelude.{◌≡◌, ◌<◌, ◌≤◌, ◌+◌, ◌-◌, ◌^◌, ◌++◌, min, length, nat_eq, List, [], ℕ, None, Some, Ok, IfErr, IfOk, IfSome, IsSome, OnOk, true, false};
 ghost use Rattle.std.specs.Option.{option_map};
 ghost use Rattle.std.specs.String.{string_bytes};
-ghost use Rattle.cli_commands.specs.Fault.{Gives, IsNoFault};
+ghost use Rattle.cli_commands.specs.Fault.{Gives};
+ghost use Rattle.cli_commands.specs.declared.fault.CommandError.TheVariants.{OutOfMemory};
 ghost use Rattle.cli_commands.specs.Held.{answer_seen};
 ghost use Rattle.cli_commands.specs.LayoutText.{layout_in};
 ghost use Rattle.cli_commands.specs.Lines.{lines_in};
@@ -312,7 +313,7 @@ impl Ear {
         ensures ended { (past : List ℕ) → IsHeard past self.old → HasEnded past self.new }
         ensures said { (past : List ℕ) → IsHeard past self.old → IfOk result (λ said.
             Says self.old.walk.lines name.now past (option_map (λ text. string_bytes text) said)) }
-        ensures failed { IfErr result IsNoFault }
+        ensures failed { IfErr result (λ error. error ≡ OutOfMemory) }
     {
         self.finish();
         self.said(name)
@@ -322,7 +323,7 @@ impl Ear {
     fn said(&self, name: &str) -> Result<Option<String>, CommandError>
         ensures said { (past : List ℕ) → HasEnded past self.now → IfOk result (λ said.
             Says self.now.walk.lines name.now past (option_map (λ text. string_bytes text) said)) }
-        ensures failed { IfErr result IsNoFault }
+        ensures failed { IfErr result (λ error. error ≡ OutOfMemory) }
     {
         if self.walk.lines == Lines::Layout {
             return self.layout_said(name);
@@ -340,7 +341,7 @@ impl Ear {
         ensures said { (past : List ℕ) → HasEnded past self.now → IfOk result (λ said.
             SaysLayout name.now past (option_map (λ text. string_bytes text) said)
             (layout_in past)) }
-        ensures failed { IfErr result IsNoFault }
+        ensures failed { IfErr result (λ error. error ≡ OutOfMemory) }
     {
         if self.is_deaf {
             return Err(CommandError::OutOfMemory);
@@ -356,7 +357,7 @@ impl Ear {
         ensures said { (past : List ℕ) → HasEnded past self.now → IfOk result (λ said.
             option_map (λ text. string_bytes text) said
             ≡ lines_said self.now.walk.lines name.now past) }
-        ensures failed { IfErr result IsNoFault }
+        ensures failed { IfErr result (λ error. error ≡ OutOfMemory) }
     {
         if self.is_deaf {
             return Err(CommandError::OutOfMemory);
@@ -395,7 +396,7 @@ impl Ear {
         ensures said { (past : List ℕ) → HasEnded past self.now → IfOk result (λ said.
             option_map (λ text. string_bytes text) said
             ≡ refusal_said self.now.walk.lines name.now past) }
-        ensures failed { IfErr result IsNoFault }
+        ensures failed { IfErr result (λ error. error ≡ OutOfMemory) }
     {
         if self.is_deaf {
             return Err(CommandError::OutOfMemory);
@@ -410,7 +411,7 @@ impl Ear {
     fn record_said(&self, name: &str) -> Result<Option<String>, CommandError>
         ensures said { IfOk result (λ said. option_map (λ text. string_bytes text) said
             ≡ record_said self.now.walk.lines name.now self.now.text.items) }
-        ensures failed { IfErr result IsNoFault }
+        ensures failed { IfErr result (λ error. error ≡ OutOfMemory) }
     {
         let text = self.text.as_slice();
         if MOST_SAID < text.len() {
@@ -438,7 +439,7 @@ impl Ear {
         ensures said { (past : List ℕ) → HasEnded past self.now → IfOk result (λ said.
             option_map (λ text. string_bytes text) said
             ≡ all_said self.now.walk.lines name.now layouts.now past) }
-        ensures failed { IfErr result IsNoFault }
+        ensures failed { IfErr result (λ error. error ≡ OutOfMemory) }
     {
         if self.is_deaf {
             return Err(CommandError::OutOfMemory);

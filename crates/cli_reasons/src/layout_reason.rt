@@ -1,7 +1,7 @@
 //! Why a layout is refused, in a sentence.
 
 ghost use Rattle.std.specs.Prelude.{◌≡◌, ◌++◌, ◌≤◌, length, IfErr, IfOk, OnOk};
-ghost use Rattle.cli_commands.specs.Fault.{IsNoFault};
+ghost use Rattle.cli_commands.specs.declared.fault.CommandError.TheVariants.{OutOfMemory};
 ghost use Rattle.std.specs.Option.{option_map};
 ghost use Rattle.std.specs.String.{string_bytes};
 ghost use Rattle.cli_reasons.specs.Head.{column_head};
@@ -99,7 +99,7 @@ pub fn layout_sentence(
 ) -> Result<Option<String>, CommandError>
     ensures says { IfOk result (λ said. SaysLayout name.now text.now
         (option_map (λ words. string_bytes words) said) (layout_in text.now)) }
-    ensures failed { IfErr result IsNoFault }
+    ensures failed { IfErr result (λ error. error ≡ OutOfMemory) }
 {
     if MOST_BYTES < text.len() {
         let flaw = Flaw::at(1, Why::TooLong(Limit::Bytes));

@@ -1,22 +1,13 @@
 //! Where a record stands in an input of lines, and a byte or an order of it.
 
 ghost use Rattle.std.specs.Prelude.{◌≡◌, ◌≤◌, option_map, length, false};
-ghost use Rattle.cli_commands.specs.Lines.{is_ignored, lines_in};
+ghost use Rattle.cli_commands.specs.Lines.{lines_in};
 ghost use Rattle.cli_reasons.specs.Refusal.{byte_column, column_from, holds_records, is_order, is_record, order_from, record_from};
 
 use crate::digits::{digit_count, is_digit};
 use crate::judged::is_spaced;
 use bstr::ByteSlice;
-
-/// Whether a line is empty or a comment.
-fn is_ignored(line: &[u8]) -> bool
-    ensures { result ≡ is_ignored line.now }
-{
-    match line {
-        [] => true,
-        [first, ..] => *first == b'#',
-    }
-}
+use cli_commands::is_ignored;
 
 /// Whether a line is a record.
 fn is_record(line: &[u8]) -> bool

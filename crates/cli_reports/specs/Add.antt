@@ -1,8 +1,8 @@
 -- What to add for a finding: the entry of a field that has none, and the orders that write an attribute as it should be.
-use Rattle.std.specs.Prelude.{ℕ, ◌+◌, ◌%◌, ◌&&◌, ◌==◌, nat_le, nat_lt, false, Option, Some, None, option_and_then, List, [], ◌++◌, codes, length, if◌then◌else◌}
+use Rattle.std.specs.Prelude.{ℕ, ◌+◌, not, ◌&&◌, ◌==◌, nat_le, nat_lt, false, Option, Some, None, option_and_then, List, [], ◌++◌, codes, length, if◌then◌else◌}
 use Rattle.std.specs.Fmt.{decimal}
 use Rattle.ds_codec.specs.Address.{six_bit_code}
-use Rattle.ds_codec.specs.Attribute.{with_modified}
+use Rattle.ds_codec.specs.Attribute.{is_protected, with_protected, with_modified}
 use Rattle.ds_codec.specs.Geometry.{cells_of}
 use Rattle.ds_screen.specs.Picture.{Picture, cell_at}
 use Rattle.ds_screen.specs.Fields.{attribute_of, fields_of}
@@ -52,7 +52,7 @@ entry_for layout v (Some found) = entry_lines layout found.0 found.1 (length_in 
 abbrev pub amended : Finding → ℕ → Option ℕ
 amended (UndeclaredFixed place demo) bits = Some (with_modified bits false)
 amended (EmptyModified place) bits = Some (with_modified bits false)
-amended (OtherKind index) bits = Some ((bits + 32) % 64)
+amended (OtherKind index) bits = Some (with_protected bits (not (is_protected bits)))
 amended finding bits = None
 
 -- Set Buffer Address and Start Field

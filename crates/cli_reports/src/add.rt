@@ -93,7 +93,7 @@ fn amended(finding: &Finding, attribute: Attr) -> Option<Attr>
         Finding::UndeclaredFixed(_, _) | Finding::EmptyModified(_) => {
             Some(attribute.with_modified(false))
         }
-        Finding::OtherKind(_) => Some(Attr::new(attribute.bits() + 0x20)),
+        Finding::OtherKind(_) => Some(attribute.with_protected(!attribute.protected())),
         _ => None,
     }
 }

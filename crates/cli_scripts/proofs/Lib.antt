@@ -17,3 +17,6 @@ mod TextLaws
 mod FaultLaws
 mod LineEnds
 mod ResumeLaws
+mod LineLaws
+mod PerformLaws
+mod TakeLaws

@@ -1,5 +1,5 @@
 -- The answers of lines that are over.
-use Rattle.std.proofs.Common.{◌≡◌, ℕ, true, List, [], None, Ok, Err, sym, ap, ◌∙◌, subst}
+use Rattle.std.proofs.Common.{◌≡◌, ◌++◌, ◌∷◌, ℕ, true, List, [], None, Ok, Err, sym, ap, ◌∙◌, subst}
 use Rattle.std.specs.Prelude.{Option, Result, IfOk, OnOk, is_some}
 use Rattle.std.specs.declared.alloc.AllocError.{AllocError}
 use Rattle.script_screens.specs.declared.lines.Outcome.{Outcome}
@@ -10,7 +10,7 @@ use Rattle.cli_scripts.specs.declared.machine.Job.{Job}
 use Rattle.cli_scripts.specs.declared.worker.Worker.{Worker}
 use Rattle.cli_scripts.specs.Answers.{Telling}
 use Rattle.cli_scripts.specs.Desks.{Worked}
-use Rattle.cli_scripts.specs.Machines.{Scripted, TellsOf, TellsSo}
+use Rattle.cli_scripts.specs.Machines.{AnswersSo, Scripted, TellsOf, TellsSo}
 use Rattle.cli_scripts.specs.Says.{TellsNext}
 
 -- a machine by its parts
@@ -58,3 +58,12 @@ pub told_quit : (old view mid : Scripted) (closed : Worked) → view ≡ mid →
 told_quit old view mid closed same stays tells ends =
     let (told, none) = subst (λ (m : Scripted). TellsOf old.desk old.saying Done old m) (sym same) tells in
     (old.desk, old.saying, Done, (told, none), ends ∙ ap (λ (w : Worked). record w { host = None }) (ap (λ (m : Scripted). m.desk) same ∙ stays))
+
+pub answered_after : (r : Result Wants AllocError) (old mid new : Scripted) → mid.telling ≡ old.telling → IfOk r (λ wants. AnswersSo true mid wants new)
+    → IfOk r (λ wants. AnswersSo true old wants new)
+answered_after (Err why) old mid new before answers = tt
+answered_after (Ok Line) old mid new before ((outcome, is), idle) =
+    ((outcome, is ∙ ap (λ (t : Telling). t.outcomes ++ outcome ∷ []) before), idle)
+answered_after (Ok Nothing) old mid new before ((outcome, is), idle) =
+    ((outcome, is ∙ ap (λ (t : Telling). t.outcomes ++ outcome ∷ []) before), idle)
+answered_after (Ok (Need need)) old mid new before (same, busy) = (same ∙ ap (λ (t : Telling). t.outcomes) before, busy)

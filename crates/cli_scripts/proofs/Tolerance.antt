@@ -13,7 +13,8 @@ use Rattle.tn_cores.specs.declared.session.Agreed.{Agreed}
 use Rattle.tn_cores.specs.declared.session.Told.{Told as Meant}
 use Rattle.tn_cores.specs.declared.session.Told.TheVariants.{Nothing as means_nothing, Ready as means_ready, Record as means_record}
 use Rattle.tn_cores.specs.declared.tolerant.TolerantCore.{TolerantCore}
-use Rattle.tn_cores.specs.Devices.{alternate_of, is_size}
+use Rattle.ds_codec.specs.Same.{same_size}
+use Rattle.tn_cores.specs.Devices.{alternate_of}
 use Rattle.tn_cores.specs.Tolerant.{tolerant_step}
 use Rattle.tn_session.specs.declared.end_core.EndCore.{EndCore}
 use Rattle.tn_session.specs.declared.end_core.EndCore.TheVariants.{Strict, Tolerant}
@@ -115,7 +116,7 @@ record_so core state (Some agreed) bytes = tolerated_so agreed (record state { c
 -- ---- another event
 
 fits_so : (device : Device) (state : TerminalState) → is_tolerant state.core ≡ true → is_tolerant (fitted device state).core ≡ true
-fits_so device state is = by_size (is_size state.terminal.geometry.alternate (alternate_of device.model))
+fits_so device state is = by_size (same_size state.terminal.geometry.alternate (alternate_of device.model))
   where
     by_size : (t : Bool) → is_tolerant (cond t state (renewed device state)).core ≡ true
     by_size true = is

@@ -18,4 +18,5 @@ pub mod Settings
 pub mod Steps
 pub mod Waits
 pub mod Workers
+pub mod Performs
 pub mod Worlds

@@ -16,6 +16,7 @@ use crate::answer::Saying;
 use crate::came::Need;
 use crate::desk::Desk;
 use crate::doing::{Doing, Step};
+use ds_codec::Aid;
 use ds_keys::Key;
 use script_keys::{Keys, runs_of, typed_runs};
 use script_screens::Outcome;
@@ -34,7 +35,7 @@ fn is_clear(keys: &Keys) -> bool
     ensures { result ≡ is_clear keys.now }
 {
     match keys {
-        Keys::Plain(Key::Attention(aid)) => aid.byte() == 0x6D,
+        Keys::Plain(Key::Attention(aid)) => *aid == Aid::clear(),
         _ => false,
     }
 }

@@ -7,6 +7,7 @@ ghost use Rattle.tn_session.specs.TerminalTalk.{OfWaiting};
 ghost use Rattle.cli_scripts.specs.declared.came.Wants.TheVariants.{Line};
 ghost use Rattle.cli_scripts.specs.Machines.{HearsNext, AnswersSo, DrainsFirst, IsDrained, IsKept, StopsAt, TellsOf, TellsSo, file_wanted, goes_on, host_named, host_wanted, scripted};
 ghost use Rattle.cli_scripts.specs.declared.doing.Doing.TheVariants.{Arriving};
+ghost use Rattle.cli_scripts.specs.Performs.{BeginsLine, GoesOnWith, Performs, StopsWith, TakesBy, worker_of};
 
 use crate::answer::Answers;
 use crate::came::{Came, Need, Wants};
@@ -16,7 +17,6 @@ use crate::host::Host;
 use crate::sent_screen::SentScreen;
 use crate::worker::Worker;
 use ds_screen::{PlaneCells, Screen};
-use script_lines::{Found, next_action};
 use script_screens::{CodePage, Outcome};
 use std::alloc::{AllocError, Global};
 use std::marker::Model;
@@ -219,6 +219,8 @@ impl Machine {
         // At a terminal that is connected a line begins with what has arrived of the host.
         ensures drains { self.old.is_busy ≡ false → IfOk result (λ wants.
             DrainsFirst came.entry self.old.desk wants self.new.desk) }
+        ensures takes { IfOk result (λ wants.
+            TakesBy self.old.job came.entry self.old wants self.new) }
     {
         match self.job.take() {
             None => self.take_line(alloc, came),
@@ -231,7 +233,8 @@ impl Machine {
 
     /// Takes the next line of the script.
     fn take_line(&mut self, alloc: Global, came: Came<'_>) -> Result<Wants, AllocError>
-        requires { self.old.is_busy ≡ false }
+        requires idle { self.old.is_busy ≡ false }
+        requires job { self.old.job ≡ None }
         ensures desk { Keeps self.old.desk self.new.desk }
         ensures page { self.new.code_page ≡ self.old.code_page }
         ensures gone { self.new.telling.gone ≡ self.old.telling.gone }
@@ -241,6 +244,7 @@ impl Machine {
             TellsSo (goes_on false came.entry) self.old wants self.new) }
         ensures drains { IfOk result (λ wants.
             DrainsFirst came.entry self.old.desk wants self.new.desk) }
+        ensures takes { IfOk result (λ wants. TakesBy None came.entry self.old wants self.new) }
     {
         match came {
             Came::Line(line) => self.begin(alloc, line),
@@ -254,7 +258,8 @@ impl Machine {
 
     /// Begins a line: what has arrived of the host comes first.
     fn begin(&mut self, alloc: Global, line: &[u8]) -> Result<Wants, AllocError>
-        requires { self.old.is_busy ≡ false }
+        requires idle { self.old.is_busy ≡ false }
+        requires job { self.old.job ≡ None }
         ensures desk { Keeps self.old.desk self.new.desk }
         ensures page { self.new.code_page ≡ self.old.code_page }
         ensures gone { self.new.telling.gone ≡ self.old.telling.gone }
@@ -264,6 +269,8 @@ impl Machine {
             IsDrained self.old.desk wants self.new.desk) }
         ensures kept { is_some self.old.desk.host ≡ true → OnOk result
             (IsKept Arriving line.now self.new.job) }
+        ensures begins { IfOk result (λ wants.
+            BeginsLine (is_some self.old.desk.host) line.now self.old wants self.new) }
     {
         if self.worker.desk.is_connected() {
             let rest = line.to_vec(alloc)?;
@@ -289,6 +296,8 @@ impl Machine {
             (self.new.telling.outcomes ≡ self.old.telling.outcomes ++ outcome ∷ []) }
         ensures tells { OnOk result
             (TellsOf self.old.desk self.old.saying outcome self.old self.new) }
+        ensures worker { OnOk result
+            (worker_of self.new ≡ record (worker_of self.old) { saying = [] }) }
     {
         let Worker { desk, saying, .. } = &mut self.worker;
         self.answers.finish(alloc, saying, desk, outcome)?;
@@ -297,12 +306,15 @@ impl Machine {
 
     /// Goes on with a line after a step of its action.
     fn go_on(&mut self, alloc: Global, step: Step, rest: &[u8]) -> Result<Wants, AllocError>
-        requires { self.old.is_busy ≡ false }
+        requires idle { self.old.is_busy ≡ false }
+        requires job { self.old.job ≡ None }
         ensures desk { Keeps self.old.desk self.new.desk }
         ensures page { self.new.code_page ≡ self.old.code_page }
         ensures gone { self.new.telling.gone ≡ self.old.telling.gone }
         ensures answered { IfOk result (λ wants. AnswersSo true self.old wants self.new) }
         ensures tells { IfOk result (λ wants. TellsSo true self.old wants self.new) }
+        ensures goes { IfOk result (λ wants.
+            GoesOnWith step rest.now (worker_of self.old) self.old wants self.new) }
     {
         match step {
             Step::Ended(Outcome::Done) => self.perform(alloc, rest),
@@ -312,13 +324,16 @@ impl Machine {
 
     /// Stops in a line where an action failed, waits, or ends the script.
     fn stop_at(&mut self, alloc: Global, step: Step, rest: &[u8]) -> Result<Wants, AllocError>
-        requires { self.old.is_busy ≡ false }
+        requires idle { self.old.is_busy ≡ false }
+        requires job { self.old.job ≡ None }
         ensures desk { Keeps self.old.desk self.new.desk }
         ensures page { self.new.code_page ≡ self.old.code_page }
         ensures gone { self.new.telling.gone ≡ self.old.telling.gone }
         ensures answered { IfOk result (λ wants. AnswersSo true self.old wants self.new) }
         ensures tells { IfOk result (λ wants. TellsSo true self.old wants self.new) }
         ensures stops { IfOk result (λ wants. StopsAt step rest.now wants self.new.job) }
+        ensures becomes { IfOk result (λ wants.
+            StopsWith (worker_of self.old) step rest.now self.old wants self.new) }
     {
         match step {
             Step::Ended(outcome) => self.end_line(alloc, outcome),
@@ -337,30 +352,19 @@ impl Machine {
 
     /// Does the actions of a line in turn.
     fn perform(&mut self, alloc: Global, line: &[u8]) -> Result<Wants, AllocError>
-        requires { self.old.is_busy ≡ false }
+        requires idle { self.old.is_busy ≡ false }
+        requires job { self.old.job ≡ None }
         ensures desk { Keeps self.old.desk self.new.desk }
         ensures page { self.new.code_page ≡ self.old.code_page }
         ensures gone { self.new.telling.gone ≡ self.old.telling.gone }
         ensures answered { IfOk result (λ wants. AnswersSo true self.old wants self.new) }
         ensures tells { IfOk result (λ wants. TellsSo true self.old wants self.new) }
+        ensures performs { IfOk result (λ wants.
+            Performs line.now (worker_of self.old) self.old wants self.new) }
     {
-        let mut rest = line;
-        'actions: for _ in 0..line.len() {
-            match next_action(alloc, rest)? {
-                Found::Ends => break,
-                Found::Fault(fault) => {
-                    let outcome = self.worker.saying.fail_at(alloc, fault)?;
-                    return self.end_line(alloc, outcome);
-                }
-                Found::Action(action, after) => {
-                    rest = after;
-                    match self.worker.act(alloc, action.name, &action.arguments)? {
-                        Step::Ended(Outcome::Done) => {}
-                        other => return self.stop_at(alloc, other, rest),
-                    }
-                }
-            }
+        match self.worker.perform(alloc, line) {
+            Ok((step, rest)) => self.stop_at(alloc, step, rest),
+            Err(error) => Err(error),
         }
-        self.end_line(alloc, Outcome::Done)
     }
 }

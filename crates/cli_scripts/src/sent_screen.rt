@@ -6,6 +6,7 @@ ghost use Rattle.tn_session.specs.KeptView.{kept_view};
 ghost use Rattle.tn_session.specs.TerminalTalk.{OfWaiting};
 ghost use Rattle.cli_scripts.specs.SentOn.{is_free, is_sending, sends_at, sent_on, collected};
 
+use ds_codec::Aid;
 use ds_keys::Key;
 use ds_screen::{Lock, PlaneCells, Screen};
 use std::alloc::{AllocError, Global};
@@ -97,7 +98,7 @@ fn is_sending(key: &Key) -> bool
     ensures { result ≡ is_sending key.now }
 {
     match key {
-        Key::Attention(aid) => aid.byte() != 0x6D,
+        Key::Attention(aid) => *aid != Aid::clear(),
         _ => false,
     }
 }

@@ -5,6 +5,7 @@ ghost use Rattle.script_keys.specs.Actions.{read_action};
 ghost use Rattle.cli_scripts.specs.Acts.{Acts, PressesAs, PressesNone, PressesOnly};
 ghost use Rattle.cli_scripts.specs.Desks.{Keeps};
 ghost use Rattle.cli_scripts.specs.Machines.{HearsCame};
+ghost use Rattle.cli_scripts.specs.Performs.{Goes};
 ghost use Rattle.cli_scripts.specs.Workers.{ActsSet, ClosedOn, GoesOn, HeardAt, HearsOn, KeepsSet, SetsAs, ToldOn, new_worker};
 ghost use Rattle.cli_scripts.specs.Waits.{ActsWait, BeginsAsked, ClosesWait, HearsWait, TellsWait, WaitsAs, WaitsOn};
 ghost use Rattle.script_screens.specs.Lines.{failed};
@@ -29,6 +30,7 @@ use crate::settings::{FIRST, Settings, change};
 use crate::typing::type_text;
 use crate::waiting::{arrived, wait, wait_closed, wait_heard, wait_late};
 use script_keys::{Action, push_fault, read_action};
+use script_lines::{Found, next_action};
 use script_requests::read_wait;
 use script_screens::{CodePage, Outcome, Query, Reading, Typed, key_of};
 use std::alloc::{AllocError, Global};
@@ -97,6 +99,36 @@ impl Worker {
                 Ok(Step::Ended(self.saying.fail(alloc, &words)?))
             }
         }
+    }
+
+    /// Does the actions of a line in turn, up to one that doesn't end well: how far that one has come, and what is left after it.
+    pub(crate) fn perform<'a>(
+        &mut self,
+        alloc: Global,
+        line: &'a [u8],
+    ) -> Result<(Step, &'a [u8]), AllocError>
+        ensures keeps { Keeps self.old.desk self.new.desk }
+        ensures page { self.new.code_page ≡ self.old.code_page }
+        ensures goes { IfOk result (λ stop. Goes line.now self.old stop.0 stop.1.now self.new) }
+    {
+        let mut rest = line;
+        'actions: for _turn in 0..line.len() {
+            match next_action(alloc, rest)? {
+                Found::Ends => return Ok((Step::Ended(Outcome::Done), rest)),
+                Found::Fault(fault) => {
+                    let outcome = self.saying.fail_at(alloc, fault)?;
+                    return Ok((Step::Ended(outcome), rest));
+                }
+                Found::Action(action, after) => {
+                    rest = after;
+                    match self.act(alloc, action.name, &action.arguments)? {
+                        Step::Ended(Outcome::Done) => {}
+                        other => return Ok((other, rest)),
+                    }
+                }
+            }
+        }
+        Ok((Step::Ended(Outcome::Done), rest))
     }
 
     /// Does an action that may wait and presses no key of its name.

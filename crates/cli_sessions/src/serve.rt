@@ -1,6 +1,6 @@
 //! The command `serve`, once it listens: terminals one after the other.
 
-ghost use Rattle.std.specs.Prelude.{◌≡◌, map, IfOk};
+ghost use Rattle.std.specs.Prelude.{◌≡◌, map};
 ghost use Rattle.cli_commands.specs.Held.{records_held};
 ghost use Rattle.cli_sessions.specs.Serve.{serving, ServesNext, ServesEach, Serves, WritesSession};
 ghost use Rattle.cli_sessions.specs.Session.{is_failed, is_told, session_seen};
@@ -9,21 +9,10 @@ use crate::output::Output;
 use crate::screen::Screen;
 use crate::session::{host_session, session_text};
 use crate::terminals::{Terminals, Visits};
-use cli_commands::{Status, TakesBytes, failure};
+use cli_commands::{Status, TakesBytes, failure, lent};
 use scr_layout::Layout;
-use std::alloc::{AllocError, Global};
+use std::alloc::Global;
 use tn_session::{HostOutcome, RunFault, Wire};
-
-/// The records as slices.
-fn lent<'a>(alloc: Global, records: &'a [Vec<u8>]) -> Result<Vec<&'a [u8]>, AllocError>
-    ensures { IfOk result (λ v. map (λ bytes. bytes.now) v.items ≡ records_held records.now) }
-{
-    let mut slices = Vec::new(alloc);
-    for bytes in records {
-        slices.push(bytes.as_slice())?;
-    }
-    Ok(slices)
-}
 
 /// Writes the lines of the terminal of this number, and flushes. Else the status with which the command ends.
 fn write_session<W: TakesBytes>(

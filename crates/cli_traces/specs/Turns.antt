@@ -1,5 +1,6 @@
 -- The turns of a dialogue: an operator answers a screen by an attention key, and what the host sends next begins the next turn.
-use Rattle.std.specs.Prelude.{ℕ, ◌+◌, ◌==◌, nat_le, min, Bool, true, false, ◌||◌, not, if◌then◌else◌, List, [], ◌∷◌, codes}
+use Rattle.std.specs.Prelude.{ℕ, ◌+◌, ◌==◌, nat_le, min, Bool, true, false, ◌||◌, not, if◌then◌else◌, List, [], codes}
+use Rattle.tn_session.specs.Kept.{begins_with, is_read_code}
 use Rattle.tn_traces.specs.declared.line.Side.{Side}
 use Rattle.tn_traces.specs.declared.line.Side.TheVariants.{Host, Terminal}
 use Rattle.cli_traces.specs.declared.turn.Stage.{Stage}
@@ -12,22 +13,10 @@ use Rattle.cli_traces.specs.declared.turn.Turns.TheVariants.{Unmarked, Marked, U
 abbrev pub is_attention : ℕ → Bool
 is_attention aid = not (aid == 0x60 || (aid == 0xE8 || (aid == 0x61 || aid == 0x88)))
 
--- Read Buffer, Read Modified, Read Modified All, each in its two forms
-abbrev pub is_read_code : ℕ → Bool
-is_read_code code = code == 0x02 || (code == 0xF2 || (code == 0x06 || (code == 0xF6 || (code == 0x0E || code == 0x6E))))
-
-abbrev pub has_attention : List ℕ → Bool
-has_attention [] = false
-has_attention (aid ∷ rest) = is_attention aid
-
-abbrev pub has_read : List ℕ → Bool
-has_read [] = false
-has_read (code ∷ rest) = is_read_code code
-
 -- A record of the host shows a screen, or reads one; the terminal answers a read by itself, and a screen by a key.
 abbrev pub stage_after : Side → Stage → List ℕ → Stage
-stage_after Host stage body = if has_read body then Reads else Shown
-stage_after Terminal Shown body = if has_attention body then Answered else Shown
+stage_after Host stage body = if begins_with is_read_code body then Reads else Shown
+stage_after Terminal Shown body = if begins_with is_attention body then Answered else Shown
 stage_after Terminal Reads body = Shown
 stage_after Terminal Blank body = Blank
 stage_after Terminal Answered body = Answered

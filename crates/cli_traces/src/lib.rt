@@ -24,4 +24,4 @@ pub use law::{pieces_law, sizes_law, text_law};
 pub use live::Live;
 pub use run::run_records;
 pub use told::{Told, records_text};
-pub use turn::Turns;
+pub use turn::{Turns, has_attention};

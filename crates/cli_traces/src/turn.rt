@@ -2,8 +2,10 @@
 //! sends next begins the next turn.
 
 ghost use Rattle.std.specs.Prelude.{◌≡◌};
-ghost use Rattle.cli_traces.specs.Turns.{is_attention, is_read_code, has_attention, has_read, begins, stage_after, turn_after, is_within, is_marked};
+ghost use Rattle.tn_session.specs.Kept.{begins_with};
+ghost use Rattle.cli_traces.specs.Turns.{is_attention, begins, stage_after, turn_after, is_within, is_marked};
 
+use tn_session::reads;
 use tn_traces::Side;
 
 /// How turns are printed.
@@ -39,27 +41,12 @@ fn is_attention(aid: u8) -> bool
     !(aid == 0x60 || aid == 0xE8 || aid == 0x61 || aid == 0x88)
 }
 
-/// Whether a command is Read Buffer, Read Modified or Read Modified All.
-fn is_read_code(code: u8) -> bool
-    ensures { result ≡ is_read_code code }
-{
-    code == 0x02 || code == 0xF2 || code == 0x06 || code == 0xF6 || code == 0x0E || code == 0x6E
-}
-
-fn has_attention(body: &[u8]) -> bool
-    ensures { result ≡ has_attention body.now }
+/// Whether an answer tells of a key or a pen.
+pub fn has_attention(body: &[u8]) -> bool
+    ensures { result ≡ begins_with is_attention body.now }
 {
     match body {
         [aid, ..] => is_attention(*aid),
-        [] => false,
-    }
-}
-
-fn has_read(body: &[u8]) -> bool
-    ensures { result ≡ has_read body.now }
-{
-    match body {
-        [code, ..] => is_read_code(*code),
         [] => false,
     }
 }
@@ -79,7 +66,7 @@ pub(crate) fn stage_after(side: Side, stage: Stage, body: &[u8]) -> Stage
     ensures { result ≡ stage_after side stage body.now }
 {
     match (side, stage) {
-        (Side::Host, _) if has_read(body) => Stage::Reads,
+        (Side::Host, _) if reads(body) => Stage::Reads,
         (Side::Host, _) => Stage::Shown,
         (Side::Terminal, Stage::Shown) if has_attention(body) => Stage::Answered,
         (Side::Terminal, Stage::Reads) => Stage::Shown,

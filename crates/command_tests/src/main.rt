@@ -38,6 +38,7 @@ mod files;
 mod findings;
 mod forms;
 mod fronts;
+mod kept;
 mod lines;
 mod lists;
 mod memory;
@@ -131,6 +132,7 @@ fn push_answer(row: &mut Row, given: &Given, verb: &str, words: &str) {
     let file = given.file.as_slice();
     let is_verb = cores::push_answer(row, &given.core, verb, words)
         || runs::push_answer(row, verb, words)
+        || kept::push_answer(row, verb, words)
         || findings::push_answer(row, verb)
         || suites::push_answer(row, file, verb, words)
         || push_read(row, file, verb, words)

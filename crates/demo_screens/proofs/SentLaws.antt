@@ -18,14 +18,10 @@ use Rattle.ds_screen.specs.Fields.{is_attribute, span_of, field_at, attribute_fr
 use Rattle.ds_screen.proofs.SpanLaws.{next_ahead, next_nowhere}
 use Rattle.ds_screen.proofs.OutlineFieldLaws.{attributes_none, attributes_first}
 use Rattle.ds_inbound.specs.Answer.{Sent, is_null, is_modified_at, characters_at, field_sent, fields_sent, lead_sent, written_characters, written_field, written_fields, bytes_sent}
-use Rattle.ds_inbound.specs.Sending.{sent_in, places_on, IsFieldOf}
+use Rattle.ds_inbound.specs.Sending.{places_on, IsFieldOf}
 use Rattle.ds_inbound.proofs.Sent.{field_bytes}
 use Rattle.ds_inbound.proofs.Again.{long_bytes}
-use Rattle.demo_screens.specs.Modified.{modified_places, IsAttributeAt, sent_of}
-
-pub sent_is : (cell : Cell) → sent_of cell ≡ sent_in cell
-sent_is (Field bits) = refl
-sent_is (Char character) = elim (is_null character) as (λ b. cond (not b) (character ∷ []) [] ≡ cond b [] (character ∷ [])) [ true ↦ refl | false ↦ refl ]
+use Rattle.demo_screens.specs.Modified.{modified_places, IsAttributeAt}
 
 -- a search from 0 on finds an attribute where there is one
 pub formatted : (cells : List Cell) (found : Option ℕ) → 0 < length cells → found ≡ attribute_from cells 0 → is_some found ≡ ltb 0 (length (attributes_from cells 0))

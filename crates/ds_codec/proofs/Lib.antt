@@ -1,4 +1,6 @@
 pub mod Below
+pub mod Same
+pub mod Masks
 pub mod Codes
 pub mod Steps
 pub mod TextRuns

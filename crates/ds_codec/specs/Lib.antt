@@ -1,9 +1,11 @@
 pub mod Geometry
+pub mod Same
 pub mod Address
 pub mod Attribute
 pub mod Character
 pub mod Aid
 pub mod Refused
+pub mod WriteControl
 pub mod Command
 pub mod Order
 pub mod Record

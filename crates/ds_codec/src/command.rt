@@ -2,12 +2,14 @@
 
 ghost use Rattle.std.specs.Prelude.{◌≡◌};
 
+use crate::write_control::WriteControlCharacter;
+
 /// What a record tells the terminal to do. The three writes carry a write control character.
 #[derive(Clone, Copy, Debug, PartialEq, Eq)]
 pub enum Command {
-    Write(u8),
-    EraseWrite(u8),
-    EraseWriteAlternate(u8),
+    Write(WriteControlCharacter),
+    EraseWrite(WriteControlCharacter),
+    EraseWriteAlternate(WriteControlCharacter),
     EraseAllUnprotected,
     ReadBuffer,
     ReadModified,
@@ -33,8 +35,8 @@ impl Command {
     ghost use Rattle.ds_codec.specs.Command.{command_code_of, wcc_of};
 
     /// Which command it is.
-    pub fn code(self) -> CommandCode
-        ensures { result ≡ command_code_of self }
+    pub fn code(&self) -> CommandCode
+        ensures { result ≡ command_code_of self.now }
     {
         match self {
             Command::Write(_) => CommandCode::Write,
@@ -49,12 +51,12 @@ impl Command {
     }
 
     /// The write control character of the three writes (GA23-0059, "Write control character").
-    pub fn wcc(self) -> Option<u8>
-        ensures { result ≡ wcc_of self }
+    pub fn wcc(&self) -> Option<WriteControlCharacter>
+        ensures { result ≡ wcc_of self.now }
     {
         match self {
             Command::Write(wcc) | Command::EraseWrite(wcc) | Command::EraseWriteAlternate(wcc) =>
-                Some(wcc),
+                Some(*wcc),
             _ => None,
         }
     }

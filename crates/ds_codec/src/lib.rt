@@ -15,6 +15,7 @@ mod record;
 mod refused;
 mod size;
 mod write;
+mod write_control;
 
 pub use address::{decode_address, encode_address, to_six_bit_code};
 pub use aid::Aid;
@@ -30,3 +31,4 @@ pub use record::{Orders, Record, one_reading};
 pub use refused::{Refused, Why};
 pub use size::{Mode, Size};
 pub use write::{Unwritable, push_character, push_order, write_record};
+pub use write_control::WriteControlCharacter;

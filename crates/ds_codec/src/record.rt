@@ -5,6 +5,7 @@ use crate::front::front_order;
 use crate::order::Placed;
 use crate::refused::{Refused, Why};
 use crate::size::Mode;
+use crate::write_control::WriteControlCharacter;
 use std::marker::Model;
 
 /// A record that was read: a command, and orders that are lent from its bytes. They were all looked
@@ -187,8 +188,8 @@ fn read_body<'a>(mode: Mode, code: CommandCode, rest: &'a [u8]) -> Result<Record
 {
     match code {
         CommandCode::Write => {
-            let (wcc, orders) = write_parts(mode, rest)?;
-            let command = Command::Write(wcc);
+            let (byte, orders) = write_parts(mode, rest)?;
+            let command = Command::Write(WriteControlCharacter::from_byte(byte));
             Ok(Record {
                 mode,
                 command,
@@ -196,8 +197,8 @@ fn read_body<'a>(mode: Mode, code: CommandCode, rest: &'a [u8]) -> Result<Record
             })
         }
         CommandCode::EraseWrite => {
-            let (wcc, orders) = write_parts(mode, rest)?;
-            let command = Command::EraseWrite(wcc);
+            let (byte, orders) = write_parts(mode, rest)?;
+            let command = Command::EraseWrite(WriteControlCharacter::from_byte(byte));
             Ok(Record {
                 mode,
                 command,
@@ -205,8 +206,8 @@ fn read_body<'a>(mode: Mode, code: CommandCode, rest: &'a [u8]) -> Result<Record
             })
         }
         CommandCode::EraseWriteAlternate => {
-            let (wcc, orders) = write_parts(mode, rest)?;
-            let command = Command::EraseWriteAlternate(wcc);
+            let (byte, orders) = write_parts(mode, rest)?;
+            let command = Command::EraseWriteAlternate(WriteControlCharacter::from_byte(byte));
             Ok(Record {
                 mode,
                 command,

@@ -95,7 +95,7 @@ fn write_all(
             }
         }
         Some(wcc) => {
-            bytes.push(wcc)?;
+            bytes.push(wcc.byte())?;
             push_orders(&mut bytes, orders, mode, cells)?;
         }
     }

@@ -17,4 +17,4 @@ pub use fields::Fields;
 pub use inbound::Inbound;
 pub use laws::{answers_say_themselves, one_answer};
 pub use refused::{Refused, Why};
-pub use write::{write_buffer, write_inbound};
+pub use write::{push_address, push_run, write_buffer, write_inbound};

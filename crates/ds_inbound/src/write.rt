@@ -1,6 +1,7 @@
 //! Answers written (GA23-0059, "Read operations").
 
-ghost use Rattle.std.specs.Prelude.{◌≡◌, ◌++◌, ◌∷◌, ◌<◌, ◌≤◌, not, ◌&&◌, length, Some, Ok, IfOk, OnOk};
+ghost use Rattle.std.specs.Prelude.{◌≡◌, ◌++◌, ◌∷◌, ◌<◌, ◌≤◌, not, ◌&&◌, length, map, Some, Ok, IfOk, OnOk};
+ghost use Rattle.std.specs.List.{range_with_len};
 ghost use Rattle.ds_codec.specs.Address.{six_bit_code, written_address};
 ghost use Rattle.ds_codec.specs.Attribute.{is_modified};
 ghost use Rattle.ds_codec.specs.Writing.{written_character};
@@ -11,7 +12,7 @@ ghost use Rattle.ds_inbound.specs.Answer.{is_null, characters_at, field_sent, fi
 ghost use Rattle.ds_codec.specs.Aid.{is_short_aid};
 ghost use Rattle.ds_inbound.specs.Inbound.{SaysOnly};
 ghost use Rattle.ds_inbound.specs.Reading.{read_of};
-ghost use Rattle.ds_inbound.specs.Sending.{sent_in, places_on, has_places, IsFieldOf};
+ghost use Rattle.ds_inbound.specs.Sending.{sent_in, has_places, IsFieldOf};
 
 use ds_codec::{Aid, Cell, Char, OrderCode, encode_address, push_character, to_six_bit_code};
 use ds_screen::ring::next;
@@ -79,8 +80,12 @@ fn push_sent(out: &mut Vec<u8>, cell: Cell) -> Result<(), AllocError>
     }
 }
 
-/// What is sent of so many cells, from one on round the buffer.
-fn push_run<C: Cells>(
+/// Adds what is sent of so many cells, from one on round the buffer: their characters but nulls.
+///
+/// # Errors
+///
+/// Where a request for memory was refused.
+pub fn push_run<C: Cells>(
     out: &mut Vec<u8>,
     screen: &Screen<C>,
     place: u32,
@@ -89,7 +94,8 @@ fn push_run<C: Cells>(
     requires inside { place < length screen.now.cells }
     requires few { count ≤ length screen.now.cells }
     ensures { OnOk result (out.new.items ≡ out.old.items
-        ++ written_characters (characters_at screen.now.cells (places_on (length screen.now.cells) place count))) }
+        ++ written_characters (characters_at screen.now.cells
+        (map (ring_on (length screen.now.cells) place) (range_with_len 0 count)))) }
 {
     let n = screen.size().cells();
     let mut p = place;
@@ -100,8 +106,12 @@ fn push_run<C: Cells>(
     Ok(())
 }
 
-/// An address.
-fn push_address<C: Cells>(
+/// Adds an address, as it is written for the number of cells of the size in use.
+///
+/// # Errors
+///
+/// Where a request for memory was refused.
+pub fn push_address<C: Cells>(
     out: &mut Vec<u8>,
     screen: &Screen<C>,
     address: u32,

@@ -11,7 +11,8 @@ use Rattle.ds_codec.specs.Order.{Item, text, start_field, start_field_extended, 
 use Rattle.ds_screen.specs.Picture.{blank, cell_at, is_real, ruled}
 use Rattle.ds_screen.specs.Fields.{is_attribute, bits_of, is_open}
 use Rattle.ds_screen.specs.Orders.{Writing, byte_cell, text_cell, single_cell, is_reached, repeated_cell, erased_cell, nulled_cell, first_from, tabbed, effect_of}
-use Rattle.ds_screen.specs.Records.{resets, unmodified, unprotected_unmodified, begun, cleared_cell}
+use Rattle.ds_codec.specs.WriteControl.{resets_modified_tags}
+use Rattle.ds_screen.specs.Records.{unmodified, unprotected_unmodified, begun, cleared_cell}
 use Rattle.ds_screen.specs.State.{HasCharacters}
 use Rattle.ds_screen.proofs.RuledLaws.{length-ruled, cell_at-ruled}
 
@@ -123,7 +124,7 @@ effect_real (graphic_escape code) w real each = stored_real w (Char (glyph code 
 -- ---- what a record begins with, and what Erase All Unprotected leaves
 pub begun_real : (wcc : ℕ) (cells : List Cell) (cursor : ℕ) → AreReal cells → AreReal (begun wcc cells cursor).cells
 begun_real wcc cells cursor each =
-    cond_both (resets wcc) (ruled (length cells) (λ p. unmodified (cell_at cells p))) cells AreReal
+    cond_both (resets_modified_tags wcc) (ruled (length cells) (λ p. unmodified (cell_at cells p))) cells AreReal
     (λ does. ruled_real (length cells) (λ p. unmodified (cell_at cells p)) (λ p. unmodified_real (cell_at cells p) (each p)))
     (λ none. each)
 

@@ -12,7 +12,8 @@ use Rattle.ds_screen.specs.declared.records.Base.{Base}
 use Rattle.ds_screen.specs.declared.state.State.{State}
 use Rattle.ds_screen.specs.Picture.{Picture, ruled}
 use Rattle.ds_screen.specs.Fields.{first_open}
-use Rattle.ds_screen.specs.Records.{acts, begun, finished, restores, all_cleared, cleared_cell, RecordShows, IsRefusedBy}
+use Rattle.ds_codec.specs.WriteControl.{restores_keyboard}
+use Rattle.ds_screen.specs.Records.{acts, begun, finished, all_cleared, cleared_cell, RecordShows, IsRefusedBy}
 use Rattle.ds_screen.specs.State.{writing, HaveCharacters}
 use Rattle.ds_screen.specs.Kept.{Start, start_of}
 use Rattle.ds_screen.specs.Prepared.{start_from}
@@ -32,7 +33,7 @@ pub outlines_write : (o : Outlined) (v : Picture) (message : Message) (command :
     → IsOutlineOf o v → command ≡ message.command → HaveCharacters message.orders
     → start_of o.geometry o.size v.cells o.cursor command ≡ Some (start_from base later)
     → acts message.orders (begun base.wcc later base.cursor) ≡ Ok (writing final end) → IsMarked marks final
-    → lock ≡ cond (restores base.wcc) Free o.lock
+    → lock ≡ cond (restores_keyboard base.wcc) Free o.lock
     → (w : Picture) × RecordShows v message w × IsOutlineOf (outlined o.geometry base.size marks end.cursor lock) w
 outlines_write o v message command base later final end marks lock is told real begins done marked locks =
     let start : Start = start_from base later in
@@ -47,7 +48,7 @@ outlines_write o v message command base later final end marks lock is told real 
         size = refl;
         marks = marked;
         cursor = refl;
-        lock = locks ∙ ap (cond (restores base.wcc) Free) is.lock;
+        lock = locks ∙ ap (cond (restores_keyboard base.wcc) Free) is.lock;
         sound = shown_sound v w message.command message.orders real is.sound shows;
       },
     )

@@ -13,7 +13,8 @@ use Rattle.ds_screen.specs.declared.refused.Why.TheVariants.{NotAWrite}
 use Rattle.ds_screen.specs.declared.refused.Refused.{Refused}
 use Rattle.ds_screen.specs.Picture.{Picture, blank}
 use Rattle.ds_screen.specs.Orders.{Writing}
-use Rattle.ds_screen.specs.Records.{acts, begun, finished, finishes, restores, all_cleared, shown_of, RecordShows, IsRefusedBy}
+use Rattle.ds_codec.specs.WriteControl.{restores_keyboard}
+use Rattle.ds_screen.specs.Records.{acts, begun, finished, finishes, all_cleared, shown_of, RecordShows, IsRefusedBy}
 use Rattle.ds_screen.specs.Kept.{picture, Start, start_of}
 
 -- Erase All Unprotected
@@ -91,7 +92,7 @@ write_shows geometry size cells cursor lock aid v message command start w after 
     ∙ starts (picture geometry size cells cursor lock aid) command message.orders start started
     ∙ ap (finishes start.wcc (based (picture geometry size cells cursor lock aid) start)) done ∙ ap (λ u. Ok u) (sym ends))
 
-pub write_ends : (wcc : ℕ) (v : Picture) (w : Writing) (lock : Lock) (aid : ℕ) → lock ≡ cond (restores wcc) Free v.lock → aid ≡ cond (restores wcc) 0x60 v.aid
+pub write_ends : (wcc : ℕ) (v : Picture) (w : Writing) (lock : Lock) (aid : ℕ) → lock ≡ cond (restores_keyboard wcc) Free v.lock → aid ≡ cond (restores_keyboard wcc) 0x60 v.aid
     → picture v.geometry v.size w.cells w.cursor lock aid ≡ finished wcc v w
 write_ends wcc v w lock aid locks aids =
-    ap (λ l. picture v.geometry v.size w.cells w.cursor l aid) locks ∙ ap (λ a. picture v.geometry v.size w.cells w.cursor (cond (restores wcc) Free v.lock) a) aids
+    ap (λ l. picture v.geometry v.size w.cells w.cursor l aid) locks ∙ ap (λ a. picture v.geometry v.size w.cells w.cursor (cond (restores_keyboard wcc) Free v.lock) a) aids

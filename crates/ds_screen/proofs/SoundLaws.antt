@@ -20,7 +20,8 @@ use Rattle.ds_screen.specs.Ring.{ring_on}
 use Rattle.ds_screen.specs.Picture.{Picture, IsSound, blank}
 use Rattle.ds_screen.specs.Fields.{is_attribute, is_open, first_open}
 use Rattle.ds_screen.specs.Orders.{Writing, first_from, is_unprotected_attribute, tab_stop, tabbed, effect_of, fault_of}
-use Rattle.ds_screen.specs.Records.{resets, restores, erased, begun, finished, unless, acts, finishes, cleared_cell, all_cleared, shown_of}
+use Rattle.ds_codec.specs.WriteControl.{resets_modified_tags, restores_keyboard}
+use Rattle.ds_screen.specs.Records.{erased, begun, finished, unless, acts, finishes, cleared_cell, all_cleared, shown_of}
 use Rattle.ds_screen.specs.State.{HasCharacters, HaveCharacters}
 use Rattle.ds_screen.specs.Laws.{RecordsStaySound}
 use Rattle.ds_screen.proofs.RingLaws.{on_lt, least_found, least_none, search_cases}
@@ -117,7 +118,7 @@ acts_work n (site ∷ sites) w end real good is =
     acts_work n sites (effect_of site.order w) end real.1 (effect_works n site.order w real.0 parts.0 good) parts.1
 
 begun_whole : (wcc : ℕ) (cells : List Cell) (cursor : ℕ) → length (begun wcc cells cursor).cells ≡ length cells
-begun_whole wcc cells cursor = cond_both (resets wcc) _ cells (λ (made : List Cell). length made ≡ length cells) (λ does. length-ruled (length cells) _) (λ none. refl)
+begun_whole wcc cells cursor = cond_both (resets_modified_tags wcc) _ cells (λ (made : List Cell). length made ≡ length cells) (λ does. length-ruled (length cells) _) (λ none. refl)
 
 pub begun_works : (wcc : ℕ) (v : Picture) → IsSound v → IsWorkable (cells_of v.size) (begun wcc v.cells v.cursor)
 begun_works wcc v sound =
@@ -142,7 +143,7 @@ finished_sound wcc v w sound good =
       whole = good.whole;
       cursor_inside = good.cursor;
       characters = all_real w.cells good.real;
-      attention = cond_both (restores wcc) 0x60 v.aid (λ aid. is_aid aid ≡ true) (λ does. no_key) (λ none. sound.attention);
+      attention = cond_both (restores_keyboard wcc) 0x60 v.aid (λ aid. is_aid aid ≡ true) (λ does. no_key) (λ none. sound.attention);
     }
 
 finishes_sound : (wcc : ℕ) (v w : Picture) (r : Result Writing Refused) → IsSound v → ((end : Writing) → r ≡ Ok end → IsWorkable (cells_of v.size) end)

@@ -6,6 +6,7 @@ use Rattle.ds_codec.specs.declared.size.Size.{Size}
 use Rattle.ds_codec.specs.declared.command.Command.{Command}
 use Rattle.ds_codec.specs.declared.command.Command.TheVariants.{Write, EraseWrite, EraseWriteAlternate, EraseAllUnprotected}
 use Rattle.ds_codec.specs.Attribute.{is_protected, with_modified}
+use Rattle.ds_codec.specs.WriteControl.{resets_modified_tags, restores_keyboard, sounds_alarm}
 use Rattle.ds_codec.specs.Geometry.{Sizes, cells_of}
 use Rattle.ds_codec.specs.Order.{Site}
 use Rattle.ds_codec.specs.Record.{Message}
@@ -17,17 +18,6 @@ use Rattle.ds_screen.specs.declared.refused.Refused.{Refused}
 use Rattle.ds_screen.specs.Picture.{Picture, blank, cell_at, ruled}
 use Rattle.ds_screen.specs.Fields.{is_open, first_open}
 use Rattle.ds_screen.specs.Orders.{Writing, effect_of, fault_of}
-
--- the write control character resets every modified data tag, restores the keyboard, sounds the alarm; that its other
--- bits have no effect is our own rule
-abbrev pub resets : ℕ → Bool
-resets wcc = wcc % 2 == 1
-
-abbrev pub restores : ℕ → Bool
-restores wcc = wcc / 2 % 2 == 1
-
-abbrev pub sounds : ℕ → Bool
-sounds wcc = wcc / 4 % 2 == 1
 
 abbrev pub unmodified : Cell → Cell
 unmodified (Field bits) = Field (with_modified bits false)
@@ -57,7 +47,7 @@ erased size v = record v { size = size; cells = replicate (cells_of size) blank;
 abbrev pub begun : ℕ → List Cell → ℕ → Writing
 begun wcc cells cursor =
     record {
-      cells = if resets wcc then ruled (length cells) (λ p. unmodified (cell_at cells p)) else cells;
+      cells = if resets_modified_tags wcc then ruled (length cells) (λ p. unmodified (cell_at cells p)) else cells;
       cursor = cursor;
       address = cursor;
       nulling = false;
@@ -69,8 +59,8 @@ finished wcc v w =
     record v {
       cells = w.cells;
       cursor = w.cursor;
-      lock = if restores wcc then Free else v.lock;
-      aid = if restores wcc then 0x60 else v.aid;
+      lock = if restores_keyboard wcc then Free else v.lock;
+      aid = if restores_keyboard wcc then 0x60 else v.aid;
     }
 
 -- the rest of the orders, unless the first is at fault
@@ -120,8 +110,8 @@ IsRefusedBy before message refused = shown_of before message.command message.ord
 
 -- what is told of a command that was done
 abbrev pub told_of : Command → Effect
-told_of (Write wcc) = record { alarm = sounds wcc; restored = restores wcc }
-told_of (EraseWrite wcc) = record { alarm = sounds wcc; restored = restores wcc }
-told_of (EraseWriteAlternate wcc) = record { alarm = sounds wcc; restored = restores wcc }
+told_of (Write wcc) = record { alarm = sounds_alarm wcc; restored = restores_keyboard wcc }
+told_of (EraseWrite wcc) = record { alarm = sounds_alarm wcc; restored = restores_keyboard wcc }
+told_of (EraseWriteAlternate wcc) = record { alarm = sounds_alarm wcc; restored = restores_keyboard wcc }
 told_of EraseAllUnprotected = record { alarm = false; restored = true }
 told_of command = record { alarm = false; restored = false }

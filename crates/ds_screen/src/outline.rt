@@ -13,7 +13,7 @@ use crate::refused::{Refused, Why};
 use crate::screen::most_cells;
 use crate::surface::Surface;
 use crate::wcc::{lock_after, told};
-use ds_codec::{Command, Geometry, Record, Size};
+use ds_codec::{Command, Geometry, Record, Size, WriteControlCharacter};
 use std::alloc::{AllocError, Global};
 use std::marker::Model;
 use std::mem::swap;
@@ -157,7 +157,7 @@ impl Outline {
             return Ok(self.erase_all_unprotected());
         }
         let now = Base {
-            wcc: 0,
+            wcc: WriteControlCharacter::from_byte(0),
             size: self.size,
             cursor: self.cursor,
         };

@@ -4,7 +4,8 @@ ghost use Rattle.std.specs.Prelude.{◌≡◌, ◌<◌, ◌≤◌, ℕ, length, 
 ghost use Rattle.ds_codec.specs.declared.cell.Cell.{Cell};
 ghost use Rattle.ds_screen.specs.Picture.{blank, cell_at, ruled};
 ghost use Rattle.ds_screen.specs.State.{writing, HaveCharacters, IsInside};
-ghost use Rattle.ds_screen.specs.Records.{acts, begun, cleared_cell, told_of, sounds, restores};
+ghost use Rattle.ds_codec.specs.WriteControl.{restores_keyboard, sounds_alarm};
+ghost use Rattle.ds_screen.specs.Records.{acts, begun, cleared_cell, told_of};
 ghost use Rattle.ds_screen.specs.Fields.{first_open};
 ghost use Rattle.ds_screen.specs.Kept.{HasRoom, start_of};
 ghost use Rattle.ds_screen.specs.Prepared.{Prepares};
@@ -17,8 +18,7 @@ use crate::orders::act;
 use crate::refused::Refused;
 use crate::state::State;
 use crate::surface::Surface;
-use crate::wcc::resets_modified;
-use ds_codec::{Attr, Cell, Command, Geometry, Record, Size};
+use ds_codec::{Attr, Cell, Command, Geometry, Record, Size, WriteControlCharacter};
 
 /// Does the orders in turn, up to the first that is at fault.
 #[inline(always)]
@@ -40,7 +40,12 @@ fn run_orders<S: Surface>(
     let mut state = start;
     'orders: for placed in outbound.orders() {
         match act(surface, state, &placed.order) {
-            Ok(after) => state = after,
+            // Part by part: as a whole it would be read in other widths than it was written, which takes as long as the rest.
+            Ok(after) => {
+                state.cursor = after.cursor;
+                state.address = after.address;
+                state.nulling = after.nulling;
+            }
             Err(why) => return Err(Refused { at: placed.at, why }),
         }
     }
@@ -111,13 +116,13 @@ pub(crate) fn clear_unprotected<C: Cells>(cells: &mut C) -> u32
 #[derive(Clone, Copy)]
 pub(crate) struct Base {
     /// The write control character.
-    pub wcc: u8,
+    pub wcc: WriteControlCharacter,
     pub size: Size,
     pub cursor: u32,
 }
 
 /// Makes the spare one nulls of a size: what a write that erases begins with.
-fn erased<S: Surface>(spare: &mut S, size: Size, wcc: u8) -> Base
+fn erased<S: Surface>(spare: &mut S, size: Size, wcc: WriteControlCharacter) -> Base
     requires { cells_of size ≤ S.room spare.old }
     ensures nulls { S.shows spare.new (replicate (cells_of size) blank) }
     ensures whole { S.size spare.new ≡ cells_of size }
@@ -151,7 +156,7 @@ pub(crate) fn prepare_on<S: Surface>(
     ensures fits { IfSome result (λ base. (room : ℕ) → cells_of now.size ≤ room
         → HasRoom geometry.now room → cells_of base.size ≤ room) }
     ensures told { IfSome result (λ base. told_of command
-        ≡ record { alarm = sounds base.wcc; restored = restores base.wcc }) }
+        ≡ record { alarm = sounds_alarm base.wcc; restored = restores_keyboard base.wcc }) }
     ensures inside { IfSome result (λ base. base.cursor < cells_of base.size) }
     ensures room { S.room spare.new ≡ S.room spare.old }
 {
@@ -200,7 +205,7 @@ pub(crate) fn prepare<C: Cells>(
 /// Resets modified data tags where the write control character asks for it, and does the orders.
 pub(crate) fn write_on<S: Surface>(
     surface: &mut S,
-    wcc: u8,
+    wcc: WriteControlCharacter,
     cursor: u32,
     outbound: &Record<'_>,
 ) -> Result<State, Refused>
@@ -215,7 +220,7 @@ pub(crate) fn write_on<S: Surface>(
     ensures whole { OnOk result (S.size surface.new ≡ S.size surface.old) }
     ensures room { S.room surface.new ≡ S.room surface.old }
 {
-    if resets_modified(wcc) {
+    if wcc.resets_modified_tags() {
         surface.reset_modified(Reset::Every);
     }
     let start = State {
@@ -229,7 +234,7 @@ pub(crate) fn write_on<S: Surface>(
 /// The same on the cells of a buffer.
 pub(crate) fn write_orders<C: Cells>(
     cells: &mut C,
-    wcc: u8,
+    wcc: WriteControlCharacter,
     cursor: u32,
     outbound: &Record<'_>,
 ) -> Result<State, Refused>

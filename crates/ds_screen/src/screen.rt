@@ -12,7 +12,7 @@ use crate::refused::{Refused, Why};
 use crate::ruling::is_open_at;
 use crate::shown::row_text;
 use crate::wcc::{aid_after, lock_after, told};
-use ds_codec::{Aid, Attr, Cell, Char, Command, Geometry, Record, Size};
+use ds_codec::{Aid, Attr, Cell, Char, Command, Geometry, Record, Size, WriteControlCharacter};
 use std::alloc::{AllocError, Global};
 use std::marker::Model;
 use std::mem::swap;
@@ -332,7 +332,7 @@ impl<C: Cells> Screen<C> {
             return Ok(self.erase_all_unprotected());
         }
         let now = Base {
-            wcc: 0,
+            wcc: WriteControlCharacter::from_byte(0),
             size: self.size,
             cursor: self.cursor,
         };

@@ -1,43 +1,28 @@
-//! The write control character (GA23-0059, "Write control character"). Its other bits have no effect, which
-//! is our own choice.
+//! What a write's write control character does besides the reset before the orders (GA23-0059, "Write control character").
 
 ghost use Rattle.std.specs.Prelude.{◌≡◌, if◌then◌else◌};
 ghost use Rattle.ds_screen.specs.declared.lock.Lock.TheVariants.{Free};
-ghost use Rattle.ds_screen.specs.Records.{resets, restores, sounds};
+ghost use Rattle.ds_codec.specs.WriteControl.{restores_keyboard, sounds_alarm};
 
 use crate::effect::Effect;
 use crate::lock::Lock;
-use ds_codec::Aid;
+use ds_codec::{Aid, WriteControlCharacter};
 
-/// Bit 01: every modified data tag is reset before the orders.
-pub(crate) fn resets_modified(wcc: u8) -> bool
-    ensures { result ≡ resets wcc }
-{
-    wcc % 2 == 1
-}
-
-/// Bit 02: the keyboard is restored after the orders.
-fn restores_keyboard(wcc: u8) -> bool
-    ensures { result ≡ restores wcc }
-{
-    wcc / 2 % 2 == 1
-}
-
-/// What is told of a write: the alarm is bit 04.
-pub(crate) fn told(wcc: u8) -> Effect
-    ensures { result ≡ record { alarm = sounds wcc; restored = restores wcc } }
+/// What is told of a write.
+pub(crate) fn told(wcc: WriteControlCharacter) -> Effect
+    ensures { result ≡ record { alarm = sounds_alarm wcc; restored = restores_keyboard wcc } }
 {
     Effect {
-        alarm: wcc / 4 % 2 == 1,
-        restored: restores_keyboard(wcc),
+        alarm: wcc.alarm(),
+        restored: wcc.restores_keyboard(),
     }
 }
 
 /// The lock after a write.
-pub(crate) fn lock_after(wcc: u8, lock: Lock) -> Lock
-    ensures { result ≡ (if restores wcc then Free else lock) }
+pub(crate) fn lock_after(wcc: WriteControlCharacter, lock: Lock) -> Lock
+    ensures { result ≡ (if restores_keyboard wcc then Free else lock) }
 {
-    if restores_keyboard(wcc) {
+    if wcc.restores_keyboard() {
         Lock::Free
     } else {
         lock
@@ -45,10 +30,10 @@ pub(crate) fn lock_after(wcc: u8, lock: Lock) -> Lock
 }
 
 /// The attention identifier after a write.
-pub(crate) fn aid_after(wcc: u8, aid: Aid) -> Aid
-    ensures { result ≡ (if restores wcc then 0x60 else aid) }
+pub(crate) fn aid_after(wcc: WriteControlCharacter, aid: Aid) -> Aid
+    ensures { result ≡ (if restores_keyboard wcc then 0x60 else aid) }
 {
-    if restores_keyboard(wcc) {
+    if wcc.restores_keyboard() {
         Aid::none()
     } else {
         aid

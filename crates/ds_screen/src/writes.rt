@@ -12,8 +12,7 @@ use crate::records::Reset;
 use crate::ring::distance;
 use crate::state::State;
 use crate::surface::Surface;
-use crate::wcc::resets_modified;
-use ds_codec::{Order, Placed, Record};
+use ds_codec::{Order, Placed, Record, WriteControlCharacter};
 use std::alloc::AllocError;
 
 /// Positions into which an order of a record stores characters or an attribute: `count` of them from `place` on, never
@@ -131,7 +130,7 @@ fn add_order_writes<S: Surface>(
 /// Adds what a write with this write control character writes, on what it begins with.
 pub(crate) fn add_writes<S: Surface>(
     surface: &mut S,
-    wcc: u8,
+    wcc: WriteControlCharacter,
     cursor: u32,
     outbound: &Record<'_>,
     writes: &mut Vec<Write>,
@@ -142,7 +141,7 @@ pub(crate) fn add_writes<S: Surface>(
     ensures characters { HaveCharacters outbound.now.orders }
     ensures room { S.room surface.new ≡ S.room surface.old }
 {
-    if resets_modified(wcc) {
+    if wcc.resets_modified_tags() {
         surface.reset_modified(Reset::Every);
     }
     let start = State {

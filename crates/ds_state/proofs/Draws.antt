@@ -20,7 +20,9 @@ use Rattle.ds_screen.specs.Orders.{Writing, effect_of, fault_of}
 use Rattle.ds_screen.specs.Records.{new_picture, erased, begun, finished, finishes, acts, shown_of}
 use Rattle.ds_state.proofs.Filled.{ActsTo, acts_to, all_act}
 use Rattle.ds_state.proofs.Items.{WellFrom, items_after, items_bytes, items_well, no_flaw, are_valid}
-use Rattle.ds_state.specs.State.{IsWhole, same_size, cells_bytes, cursor_bytes, record_of, drawn}
+use Rattle.ds_codec.specs.Same.{same_size}
+use Rattle.ds_codec.proofs.Same.{size_is, size_self}
+use Rattle.ds_state.specs.State.{IsWhole, cells_bytes, cursor_bytes, record_of, drawn}
 
 -- ---- it is read as its orders
 
@@ -97,21 +99,11 @@ abbrev size_for : Bool → Sizes → Size
 size_for true sizes = sizes.default
 size_for false sizes = sizes.alternate
 
-same_is : (one other : Size) → same_size one other ≡ true → other ≡ one
-same_is one other is =
-    let both = and_parts _ _ is in
-    let rows : one.rows ≡ other.rows = eqb-true _ _ both.0 in
-    let cols : one.cols ≡ other.cols = eqb-true _ _ both.1 in
-    sym (ap (λ (z : ℕ). let s : Size = record { rows = z; cols = one.cols } in s) rows ∙ ap (λ (z : ℕ). let s : Size = record { rows = other.rows; cols = z } in s) cols)
-
-same_self : (one : Size) → same_size one one ≡ true
-same_self one = rw (eq-eqb one.rows one.rows refl, eq-eqb one.cols one.cols refl) refl
-
 sets : (usual : Bool) (v : Picture) → same_size v.size v.geometry.default ≡ usual → (v.size ≡ v.geometry.default) ⊎ (v.size ≡ v.geometry.alternate)
     → size_for usual v.geometry ≡ v.size
-sets true v is which = same_is v.size v.geometry.default is
+sets true v is which = sym (size_is v.size v.geometry.default is)
 sets false v is (inr alternate) = sym alternate
-sets false v is (inl default) = absurd (false≢true (sym is ∙ ap (λ z. same_size v.size z) (sym default) ∙ same_self v.size))
+sets false v is (inl default) = absurd (false≢true (sym is ∙ ap (λ z. same_size v.size z) (sym default) ∙ size_self v.size))
 
 command_shows : (usual : Bool) (before : Picture) (orders : List Site) (end : Writing)
     → acts orders (begun 0xC2 (replicate (cells_of (size_for usual before.geometry)) blank) 0) ≡ Ok end

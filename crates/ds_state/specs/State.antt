@@ -9,6 +9,7 @@ use Rattle.ds_codec.specs.declared.size.Size.{Size}
 use Rattle.ds_codec.specs.Address.{written_address}
 use Rattle.ds_codec.specs.Geometry.{Sizes, cells_of}
 use Rattle.ds_codec.specs.Order.{code_of}
+use Rattle.ds_codec.specs.Same.{same_size}
 use Rattle.ds_screen.specs.declared.lock.Lock.{Lock}
 use Rattle.ds_screen.specs.declared.lock.Lock.TheVariants.{Free, Waiting, Error}
 use Rattle.ds_screen.specs.Picture.{Picture, IsSound}
@@ -21,9 +22,6 @@ pub record IsWhole (v : Picture) : Type 0 where
   pub held : AreHeld v.cells
 
 -- ---- the record that draws a picture
-
-abbrev pub same_size : Size → Size → Bool
-same_size one other = (one.rows == other.rows) && (one.cols == other.cols)
 
 -- Erase/Write where the default size is in use, else Erase/Write Alternate
 abbrev pub erase_code : Picture → ℕ

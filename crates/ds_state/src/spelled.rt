@@ -2,11 +2,11 @@
 
 ghost use Rattle.std.specs.Prelude.{◌≡◌, ◌++◌, ◌∷◌, [], ◌<◌, ◌≤◌, ◌^◌, ℕ, length, IfOk, OnOk};
 ghost use Rattle.ds_codec.specs.Geometry.{cells_of};
-ghost use Rattle.buffer_lines.specs.Record.{cell_bytes};
-ghost use Rattle.buffer_lines.specs.Left.{AreHeld, IsHeld};
-ghost use Rattle.ds_state.specs.State.{cells_bytes, cursor_bytes, erase_code, same_size, lock_byte, mode_byte, most_bytes, header_of, record_of, state_of, IsWhole};
+ghost use Rattle.buffer_lines.specs.Left.{AreHeld};
+ghost use Rattle.ds_state.specs.State.{cells_bytes, cursor_bytes, erase_code, lock_byte, mode_byte, most_bytes, header_of, record_of, state_of, IsWhole};
 
-use ds_codec::{Cell, Geometry, Mode, OrderCode, Size, encode_address, to_six_bit_code};
+use buffer_lines::push_cell;
+use ds_codec::{Geometry, Mode, OrderCode, encode_address};
 use ds_screen::{Cells, Lock, Screen};
 use std::alloc::{AllocError, Global};
 
@@ -30,39 +30,14 @@ pub fn state_length(geometry: &Geometry) -> usize
     17 + 2 * most as usize
 }
 
-fn same_size(one: Size, other: Size) -> bool
-    ensures { result ≡ same_size one other }
-{
-    one.rows == other.rows && one.cols == other.cols
-}
-
 /// Erase/Write where the default size is in use, else Erase/Write Alternate.
 fn erase_code<C: Cells>(screen: &Screen<C>) -> u8
     ensures { result ≡ erase_code screen.now }
 {
-    if same_size(screen.size(), screen.geometry().default_size()) {
+    if screen.size() == screen.geometry().default_size() {
         0xF5
     } else {
         0x7E
-    }
-}
-
-fn push_cell(out: &mut Vec<u8>, cell: Cell) -> Result<(), AllocError>
-    ensures written { OnOk result (out.new.items ≡ out.old.items ++ cell_bytes cell) }
-    ensures held { OnOk result (IsHeld cell) }
-{
-    match cell {
-        Cell::Field(attribute) => out.extend_from_slice(&[
-            OrderCode::Sf.byte(),
-            to_six_bit_code(attribute.bits()),
-        ]),
-        Cell::Char(character) => {
-            if character.alt() {
-                out.push(OrderCode::Ge.byte())?;
-            }
-            out.push(character.code())?;
-            Ok(())
-        }
     }
 }
 

@@ -48,7 +48,7 @@ impl Draft {
         let mut bytes = Vec::new(alloc);
         bytes.push(command.code().byte())?;
         if let Some(wcc) = command.wcc() {
-            bytes.push(wcc)?;
+            bytes.push(wcc.byte())?;
         }
         Ok(Draft {
             command,

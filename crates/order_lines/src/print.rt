@@ -213,15 +213,15 @@ fn push_command_line(out: &mut String, command: Command) -> Result<(), AllocErro
 {
     match command {
         Command::Write(wcc) => {
-            let (high, low) = digits_of(wcc);
+            let (high, low) = digits_of(wcc.byte());
             push_digits(out, &[b'W', b' ', high, low, b'\n'])
         }
         Command::EraseWrite(wcc) => {
-            let (high, low) = digits_of(wcc);
+            let (high, low) = digits_of(wcc.byte());
             push_digits(out, &[b'E', b'W', b' ', high, low, b'\n'])
         }
         Command::EraseWriteAlternate(wcc) => {
-            let (high, low) = digits_of(wcc);
+            let (high, low) = digits_of(wcc.byte());
             push_digits(out, &[b'E', b'W', b'A', b' ', high, low, b'\n'])
         }
         Command::EraseAllUnprotected => out.push_str("EAU\n"),

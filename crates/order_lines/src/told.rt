@@ -9,7 +9,7 @@ ghost use Rattle.order_lines.specs.Told.{write_told, alone_told, command_told, a
 
 use crate::owned_order::OwnedOrder;
 use crate::words::{byte, cut, number, pair, pairs};
-use ds_codec::{Attr, Char, Command, bytes_of_digits};
+use ds_codec::{Attr, Char, Command, WriteControlCharacter, bytes_of_digits};
 use std::alloc::{AllocError, Global};
 
 /// What one line says.
@@ -19,18 +19,25 @@ pub enum Told {
     Order(OwnedOrder),
 }
 
+/// A write control character.
+fn write_control(word: &[u8]) -> Option<WriteControlCharacter>
+    ensures { result ≡ byte_told word.now }
+{
+    Some(WriteControlCharacter::from_byte(byte(word)?))
+}
+
 /// A write, with its write control character.
 fn write_line(line: &[u8]) -> Option<Command>
     ensures { result ≡ write_told line.now }
 {
     if let Some(rest) = line.strip_prefix(b"W ".as_slice()) {
-        return Some(Command::Write(byte(rest)?));
+        return Some(Command::Write(write_control(rest)?));
     }
     if let Some(rest) = line.strip_prefix(b"EW ".as_slice()) {
-        return Some(Command::EraseWrite(byte(rest)?));
+        return Some(Command::EraseWrite(write_control(rest)?));
     }
     if let Some(rest) = line.strip_prefix(b"EWA ".as_slice()) {
-        return Some(Command::EraseWriteAlternate(byte(rest)?));
+        return Some(Command::EraseWriteAlternate(write_control(rest)?));
     }
     None
 }

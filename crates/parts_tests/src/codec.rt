@@ -6,8 +6,8 @@ ghost use Rattle.ds_codec.specs.Geometry.{limit_of};
 use crate::words::push_name;
 use crate::{parted, read_size};
 use ds_codec::{
-    Char, Command, CommandCode, Geometry, Mode, Order, Placed, Record, Unwritable, decode_address,
-    encode_address, write_record,
+    Char, Command, CommandCode, Geometry, Mode, Order, Placed, Record, Unwritable,
+    WriteControlCharacter, decode_address, encode_address, write_record,
 };
 use order_lines::{OwnedOrder, Told, read_line};
 use test_words::Row;
@@ -36,9 +36,9 @@ fn name_of(code: CommandCode) -> &'static str {
     }
 }
 
-fn push_wcc(row: &mut Row, words: &str, wcc: Option<u8>) {
+fn push_wcc(row: &mut Row, words: &str, wcc: Option<WriteControlCharacter>) {
     if let Some(wcc) = wcc {
-        row.word_hex(words, wcc);
+        row.word_hex(words, wcc.byte());
     }
 }
 

@@ -1,9 +1,10 @@
 //! Codes as values, and their bytes.
 
 use crate::words::push_name;
+use buffer_lines::push_cell;
 use ds_codec::{
-    Aid, Attr, Char, CommandCode, OrderCode, byte_of_digits, bytes_of_digits, is_graphic_code,
-    last_attr, push_character, to_six_bit_code,
+    Aid, Attr, Cell, Char, CommandCode, OrderCode, WriteControlCharacter, byte_of_digits,
+    bytes_of_digits, is_graphic_code, last_attr, push_character, to_six_bit_code,
 };
 use std::fmt::Debug;
 use test_words::Row;
@@ -114,18 +115,32 @@ fn push_spelled(row: &mut Row, digits: &str) {
 /// What an attribute's bits say.
 fn push_meaning(row: &mut Row, attribute: Attr) {
     row.word_if(attribute.protected(), " protected");
+    row.word_if(attribute.numeric(), " numeric");
     row.word_if(attribute.auto_skip(), " skip");
     row.word_if(attribute.hidden(), " hidden");
+    row.word_if(attribute.intensified(), " intensified");
+    row.word_if(attribute.detectable(), " detectable");
     row.word_if(attribute.modified(), " modified");
 }
 
-/// An attribute's bits, what they say, and the bits with the tag set and reset.
+/// An attribute's bits, what they say, the bits with the tag set and reset, and the bits protected and not.
 fn push_attribute(row: &mut Row, word: &str) {
     let attribute = Attr::new(row.read_byte(word));
     row.hex(attribute.bits());
     push_meaning(row, attribute);
     row.word_hex(", ", attribute.with_modified(true).bits());
     row.word_hex(" ", attribute.with_modified(false).bits());
+    row.word_hex(", ", attribute.with_protected(true).bits());
+    row.word_hex(" ", attribute.with_protected(false).bits());
+}
+
+/// A write control character's byte, and what its bits say.
+fn push_control(row: &mut Row, word: &str) {
+    let control = WriteControlCharacter::from_byte(row.read_byte(word));
+    row.hex(control.byte());
+    row.word_if(control.alarm(), " alarm");
+    row.word_if(control.restores_keyboard(), " keyboard");
+    row.word_if(control.resets_modified_tags(), " tags");
 }
 
 /// Whether a code is a character, and whether it is one of the alternate set.
@@ -155,6 +170,28 @@ fn push_pushed(row: &mut Row, word: &str) {
     }
 }
 
+/// The bytes of a cell.
+fn push_cell_bytes(row: &mut Row, cell: Cell) {
+    let mut bytes = Vec::new(row.alloc());
+    row.note(push_cell(&mut bytes, cell));
+    row.bytes(bytes.as_slice());
+}
+
+/// The bytes of a cell with an attribute.
+fn push_field_cell(row: &mut Row, word: &str) {
+    let attribute = Attr::new(row.read_byte(word));
+    push_cell_bytes(row, Cell::Field(attribute));
+}
+
+/// The bytes of a cell with a character of the alternate set, or else with a plain one.
+fn push_char_cell(row: &mut Row, word: &str) {
+    let code = row.read_byte(word);
+    match Char::new(code, true).or(Char::new(code, false)) {
+        Some(character) => push_cell_bytes(row, Cell::Char(character)),
+        None => row.spoil(),
+    }
+}
+
 /// A character's code, and whether it is one of the alternate set.
 pub(crate) fn push_char(row: &mut Row, character: Char) {
     row.hex(character.code());
@@ -179,8 +216,11 @@ fn push_byte_answer(row: &mut Row, verb: &str, word: &str) -> bool {
         "aid" => push_aid_of(row, word),
         "six" => push_six_bits(row, word),
         "attribute" => push_attribute(row, word),
+        "control" => push_control(row, word),
         "character" => push_kinds(row, word),
         "pushed" => push_pushed(row, word),
+        "field-cell" => push_field_cell(row, word),
+        "char-cell" => push_char_cell(row, word),
         _ => return false,
     }
     true

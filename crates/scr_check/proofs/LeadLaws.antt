@@ -1,6 +1,6 @@
 -- The records that open a screen lead to it from every picture of its geometry.
 use Rattle.std.proofs.Common.{◌≡◌, ℕ, ◌+◌, ◌⊎◌, Bool, true, false, cond, not, ◌==◌, List, [], ◌∷◌, Option, Some, None, Result, Ok, Err, refl, sym, ◌∙◌, ap, subst, inl, inr}
-use Rattle.std.proofs.lemmas.Bool.{cases_Bool, and_parts, eqb-true}
+use Rattle.std.proofs.lemmas.Bool.{cases_Bool}
 use Rattle.ds_codec.specs.declared.size.Size.{Size}
 use Rattle.ds_codec.specs.declared.refused.Refused as read
 use Rattle.ds_codec.specs.declared.command.Command.{Command}
@@ -16,11 +16,14 @@ use Rattle.ds_screen.specs.declared.refused.Refused as shown
 use Rattle.ds_screen.specs.Picture.{Picture}
 use Rattle.ds_screen.specs.Fields.{fields_of}
 use Rattle.ds_screen.specs.Orders.{Writing}
-use Rattle.ds_screen.specs.Records.{restores, new_picture, erased, begun, finished, acts, finishes, written, all_cleared, shown_of}
+use Rattle.ds_codec.specs.WriteControl.{restores_keyboard}
+use Rattle.ds_screen.specs.Records.{new_picture, erased, begun, finished, acts, finishes, written, all_cleared, shown_of}
 use Rattle.scr_layout.specs.Layout.{Declaration}
+use Rattle.ds_codec.specs.Same.{same_size}
+use Rattle.ds_codec.proofs.Same.{size_is}
 use Rattle.scr_check.specs.declared.finding.Finding.{Finding}
 use Rattle.scr_check.specs.declared.finding.Finding.TheVariants.{FirstNotErase, NotAWrite, KeyboardLocked, OtherSize, Unformatted}
-use Rattle.scr_check.specs.Opening.{erases, writes, command_fault, applied, unless_found, taken, taken_from, is_free, is_size, is_none_of, ready, opening_of}
+use Rattle.scr_check.specs.Opening.{erases, writes, command_fault, applied, unless_found, taken, taken_from, is_free, is_none_of, ready, opening_of}
 use Rattle.scr_check.specs.Leads.{RecordsLead, LeadsFromEvery}
 
 -- ---- results
@@ -100,17 +103,6 @@ free_lock Free is = refl
 free_lock Waiting is = absurd cc
 free_lock Error is = absurd cc
 
-size_of : (a b : Size) → a.rows ≡ b.rows → a.cols ≡ b.cols → a ≡ b
-size_of a b rows cols =
-    ap (λ (r : ℕ). let s : Size = record { rows = r; cols = a.cols } in s) rows ∙ ap (λ (c : ℕ). let s : Size = record { rows = b.rows; cols = c } in s) cols
-
-size_is : (a b : Size) → is_size a b ≡ true → a ≡ b
-size_is a b is =
-    let parts = and_parts (a.rows == b.rows) (a.cols == b.cols) is in
-    let rows : a.rows ≡ b.rows = eqb-true a.rows b.rows parts.0 in
-    let cols : a.cols ≡ b.cols = eqb-true a.cols b.cols parts.1 in
-    size_of a b rows cols
-
 some_fields : (fields : List FieldAt) → is_none_of fields ≡ false → fields ≡ [] → ⊥
 some_fields [] is none = absurd cc
 some_fields (field ∷ fields) is none = cc
@@ -132,12 +124,12 @@ pub record IsOpened (size : Size) (v : Picture) : Type 0 where
 pub ready_ok : (size : Size) (v w : Picture) → ready size v ≡ Ok w → (v ≡ w) × IsOpened size v
 ready_ok size v w is =
     let first = refusal_not (not (is_free v.lock)) KeyboardLocked _ w is in
-    let second = refusal_not (not (is_size v.size size)) (OtherSize v.size size) _ w first.1 in
+    let second = refusal_not (not (same_size v.size size)) (OtherSize v.size size) _ w first.1 in
     let third = refusal_not (is_none_of (fields_of v.cells)) Unformatted (Ok v) w second.1 in (
       ok_is v w (Ok v) refl third.1,
       record {
         free = free_lock v.lock (not_false (is_free v.lock) first.0);
-        whole = size_is v.size size (not_false (is_size v.size size) second.0);
+        whole = size_is v.size size (not_false (same_size v.size size) second.0);
         formatted = some_fields (fields_of v.cells) third.0;
       },
     )
@@ -200,10 +192,10 @@ Follows r next = (other : Picture) × (r ≡ Ok other) × Agree next other
 finished_agrees : (wcc : ℕ) (a : Picture) (lock : Lock) (aid : ℕ) (w : Writing) → a.lock ≡ Waiting → Agree (finished wcc a w) (finished wcc (with_keyboard a lock aid) w)
 finished_agrees wcc a lock aid w waits =
     record {
-      lock = cond (restores wcc) Free lock;
-      aid = cond (restores wcc) 0x60 aid;
+      lock = cond (restores_keyboard wcc) Free lock;
+      aid = cond (restores_keyboard wcc) 0x60 aid;
       same = refl;
-      until = elim (cases_Bool (restores wcc)) [
+      until = elim (cases_Bool (restores_keyboard wcc)) [
         | inl does ↦ inl (rw does refl)
         | inr keeps ↦ inr (rw keeps waits)
       ];

@@ -4,7 +4,7 @@ use Rattle.std.specs.List.{range_with_len, list_all}
 use Rattle.std.proofs.lemmas.Bool.{cond-true, cond-false, cases_Bool, false≢true, and_parts, or_parts, eqb-true, eq-eqb}
 use Rattle.ds_codec.specs.declared.cell.Cell.{Cell}
 use Rattle.ds_codec.specs.declared.cell.Cell.TheVariants.{Field, Char}
-use Rattle.ds_codec.specs.Attribute.{is_protected, is_modified, with_modified}
+use Rattle.ds_codec.specs.Attribute.{is_protected, is_detectable, is_modified, with_modified}
 use Rattle.ds_codec.specs.Character.{glyph, is_text}
 use Rattle.ds_screen.specs.Ring.{ring_on}
 use Rattle.ds_screen.specs.Picture.{Picture, cell_at, is_real, ruled}
@@ -21,7 +21,7 @@ use Rattle.scr_check.specs.declared.finding.Finding.{Finding}
 use Rattle.scr_check.specs.declared.finding.Finding.TheVariants.{Selectable}
 use Rattle.scr_check.specs.Promise.{IsProtectedSame, is_among}
 use Rattle.scr_check.specs.Any.{IsLeftOf}
-use Rattle.scr_check.specs.Pen.{is_detectable, is_designator, code_of, code_after, can_select, toggled, selected_cell, selected, is_selectable, selectable_finding, selectable_of, SelectingLeaves}
+use Rattle.scr_check.specs.Pen.{is_designator, code_of, code_after, can_select, toggled, selected_cell, selected, is_selectable, selectable_finding, selectable_of, SelectingLeaves}
 use Rattle.scr_check.proofs.Among.{among_filter, among_range, none_found}
 use Rattle.scr_check.proofs.KeptLaws.{attribute_inside, attribute_shut, kept_protected, same_span}
 use Rattle.scr_check.proofs.AnyLaws.{protected_kept_so}

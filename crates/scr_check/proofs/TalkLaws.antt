@@ -19,6 +19,8 @@ use Rattle.ds_keys.specs.KeyStep.{Step, is_sending, ignored, sent, attention_ste
 use Rattle.ds_keys.specs.KeyRuns as keyed
 use Rattle.ds_keys.specs.Laws.{Keeps, is_clear}
 use Rattle.ds_keys.proofs.CellLaws.{protected_kept, marked_so, protection_kept}
+use Rattle.ds_codec.specs.Same.{same_size}
+use Rattle.ds_codec.proofs.Same.{size_self}
 use Rattle.scr_check.proofs.KeptLaws.{attribute_shut}
 use Rattle.scr_check.proofs.UnderCells.{CellUnder, under_kind, under_protection, under_modified, AreUnder, same_span, same_attributes}
 use Rattle.scr_check.proofs.UnderOrders.{IsBelow, shown_below}
@@ -31,7 +33,7 @@ use Rattle.scr_check.specs.Any.{IsLeftOf, AnyTurnKeeps}
 use Rattle.ds_inbound.specs.Answer.{is_modified_at}
 use Rattle.scr_check.proofs.UserLaw.{leads_sound}
 use Rattle.scr_check.specs.declared.finding.Finding.TheVariants.{NotAWrite, CursorDependent}
-use Rattle.scr_check.specs.Opening.{writes, applied, is_free, is_size, is_none_of, ready}
+use Rattle.scr_check.specs.Opening.{writes, applied, is_free, is_none_of, ready}
 use Rattle.scr_check.specs.Findings.{findings_of}
 use Rattle.scr_check.specs.Leads.{RecordsLead}
 use Rattle.scr_check.specs.Walk.{Round, depends_on_cursor, later_fault, taken_later, later_from, opened_later, later_opening}
@@ -269,12 +271,9 @@ records_below index (bytes ∷ others) a b w below is =
 pub ready_so : (size : Size) (v : Picture) → v.lock ≡ Free → v.size ≡ size → (fields_of v.cells ≡ [] → ⊥) → ready size v ≡ Ok v
 ready_so size v free same some =
     cond-false (not (is_free v.lock)) _ _ (ap (λ l. not (is_free l)) free)
-    ∙ cond-false (not (is_size v.size size)) _ _ (ap not (ap (λ s. is_size v.size s) (sym same) ∙ self_size v.size))
+    ∙ cond-false (not (same_size v.size size)) _ _ (ap not (ap (λ s. same_size v.size s) (sym same) ∙ size_self v.size))
     ∙ cond-false (is_none_of (fields_of v.cells)) _ _ (not_none (fields_of v.cells) some)
   where
-    self_size : (s : Size) → is_size s s ≡ true
-    self_size s = ap (λ t. t && (s.cols == s.cols)) (eq-eqb s.rows s.rows refl) ∙ eq-eqb s.cols s.cols refl
-
     not_none : (fields : List FieldAt) → (fields ≡ [] → ⊥) → is_none_of fields ≡ false
     not_none [] some = absurd (some refl)
     not_none (field ∷ fields) some = refl

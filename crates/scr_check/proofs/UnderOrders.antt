@@ -17,7 +17,8 @@ use Rattle.ds_screen.specs.Ring.{ring_on, greatest}
 use Rattle.ds_screen.specs.Picture.{Picture, blank, cell_at, ruled}
 use Rattle.ds_screen.specs.Fields.{is_attribute, bits_of, is_open}
 use Rattle.ds_screen.specs.Orders.{Writing, byte_cell, text_cell, single_cell, is_reached, repeated_cell, erased_cell, nulled_cell, first_from, is_unprotected_attribute, behind, tab_stop, tabbed, after_storing, effect_of, outside_of, fault_of}
-use Rattle.ds_screen.specs.Records.{resets, restores, unmodified, erased, begun, finished, unless, acts, finishes, written, cleared_cell, all_cleared, shown_of}
+use Rattle.ds_codec.specs.WriteControl.{resets_modified_tags, restores_keyboard}
+use Rattle.ds_screen.specs.Records.{unmodified, erased, begun, finished, unless, acts, finishes, written, cleared_cell, all_cleared, shown_of}
 use Rattle.scr_check.specs.Walk.{start_at_cursor, depends_on_cursor}
 use Rattle.scr_check.proofs.LeadLaws.{ok_is}
 use Rattle.scr_check.proofs.UnderCells.{CellUnder, cell_same, under_kind, under_bits, under_unmodified, under_cleared, under_cond, AreUnder, all_same, rules_under, same_first_attribute, same_first_free, same_open}
@@ -222,7 +223,7 @@ pub record IsBelow (a b : Picture) : Type 0 where
 
 begun_under : (wcc : ℕ) (a b : List Cell) (c d : ℕ) → AreUnder a b → AreUnder (begun wcc a c).cells (begun wcc b d).cells
 begun_under wcc a b c d u =
-    both (resets wcc) (ruled (length a) (λ p. unmodified (cell_at a p))) (ruled (length b) (λ p. unmodified (cell_at b p))) a b
+    both (resets_modified_tags wcc) (ruled (length a) (λ p. unmodified (cell_at a p))) (ruled (length b) (λ p. unmodified (cell_at b p))) a b
     (rules_under (length a) (length b) (λ p. unmodified (cell_at a p)) (λ p. unmodified (cell_at b p)) u.whole (λ p. under_unmodified (cell_at a p) (cell_at b p) (u.each p))) u
   where
     both : (t : Bool) (x y z w : List Cell) → AreUnder x y → AreUnder z w → AreUnder (cond t x z) (cond t y w)
@@ -235,7 +236,7 @@ LeadsBelow r w = (x : Picture) × (r ≡ Ok x) × IsBelow x w
 
 finished_below : (wcc : ℕ) (a b : Picture) (x y : Writing) → IsBelow a b → AreUnder x.cells y.cells → IsBelow (finished wcc a x) (finished wcc b y)
 finished_below wcc a b x y below u =
-    record { geometry = below.geometry; size = below.size; lock = ap (cond (restores wcc) Free) below.lock; cells = u }
+    record { geometry = below.geometry; size = below.size; lock = ap (cond (restores_keyboard wcc) Free) below.lock; cells = u }
 
 abbrev LeadsUnder : Result Writing Refused → Result Writing Refused → Type 0
 LeadsUnder r s = (end : Writing) → s ≡ Ok end → (w : Writing) × (r ≡ Ok w) × AreUnder w.cells end.cells

@@ -4,6 +4,7 @@ use Rattle.ds_codec.specs.declared.size.Size.{Size}
 use Rattle.ds_codec.specs.declared.refused.Refused as read
 use Rattle.ds_codec.specs.declared.command.Command.{Command}
 use Rattle.ds_codec.specs.declared.command.Command.TheVariants.{EraseWrite, EraseWriteAlternate, ReadBuffer, ReadModified, ReadModifiedAll, NoOperation}
+use Rattle.ds_codec.specs.Same.{same_size}
 use Rattle.ds_codec.specs.Record.{Message}
 use Rattle.ds_codec.specs.Reading.{◌>>=◌, read_of}
 use Rattle.ds_screen.specs.declared.lock.Lock.{Lock}
@@ -62,9 +63,6 @@ abbrev pub is_free : Lock → Bool
 is_free Free = true
 is_free lock = false
 
-abbrev pub is_size : Size → Size → Bool
-is_size size other = (size.rows == other.rows) && (size.cols == other.cols)
-
 abbrev pub is_none_of : List FieldAt → Bool
 is_none_of [] = true
 is_none_of (field ∷ fields) = false
@@ -73,7 +71,7 @@ is_none_of (field ∷ fields) = false
 abbrev pub ready : Size → Picture → Result Picture Finding
 ready size v =
     if not (is_free v.lock) then Err KeyboardLocked
-    else (if not (is_size v.size size) then Err (OtherSize v.size size)
+    else (if not (same_size v.size size) then Err (OtherSize v.size size)
     else (if is_none_of (fields_of v.cells) then Err Unformatted else Ok v))
 
 -- the picture that all records leave on a new terminal of the layout's geometry, or the one finding that comes first

@@ -5,7 +5,7 @@ use Rattle.std.specs.List.{flat_map, list_any}
 use Rattle.ds_codec.specs.declared.cell.Cell.{Cell}
 use Rattle.ds_codec.specs.declared.cell.Cell.TheVariants.{Field, Char}
 use Rattle.ds_codec.specs.Aid.{is_long_aid}
-use Rattle.ds_codec.specs.Attribute.{is_protected, with_modified}
+use Rattle.ds_codec.specs.Attribute.{is_protected, is_detectable, with_modified}
 use Rattle.ds_codec.specs.Character.{glyph}
 use Rattle.ds_screen.specs.declared.field.FieldAt.{FieldAt}
 use Rattle.ds_screen.specs.Ring.{ring_on}
@@ -21,10 +21,6 @@ use Rattle.scr_check.specs.Taking.{all_taken_by}
 use Rattle.scr_check.specs.Any.{IsLeftOf, SendsModified}
 
 -- ---- what can be selected
-
--- display bits 04 or 08, not both and not none
-abbrev pub is_detectable : ℕ → Bool
-is_detectable bits = (bits / 4 % 4 == 1) || (bits / 4 % 4 == 2)
 
 -- `?`, `>`, `&`, space and null
 abbrev pub is_designator : ℕ → Bool

@@ -46,7 +46,7 @@ impl TurnRule for LaterTurn {
     ghost fault_of = { later_fault };
 
     fn fault(index: usize, outbound: &Record<'_>) -> Option<Finding> {
-        if !writes(outbound.command()) {
+        if !writes(&outbound.command()) {
             Some(Finding::NotAWrite(index))
         } else if depends_on_cursor(outbound) {
             Some(Finding::CursorDependent(index))

@@ -1,7 +1,7 @@
 //! The rule of the first turn, and where its records lead.
 
 ghost use Rattle.std.specs.Prelude.{◌≡◌};
-ghost use Rattle.scr_check.specs.Opening.{erases, writes, command_fault, is_size};
+ghost use Rattle.scr_check.specs.Opening.{erases, writes, command_fault};
 ghost use Rattle.scr_check.specs.Seen.{IsReadyFor, IsReadyOn};
 
 use crate::finding::Finding;
@@ -16,8 +16,8 @@ pub(crate) enum Opening {
     Stands(Finding),
 }
 
-fn erases(command: Command) -> bool
-    ensures { result ≡ erases command }
+fn erases(command: &Command) -> bool
+    ensures { result ≡ erases command.now }
 {
     matches!(
         command,
@@ -25,8 +25,8 @@ fn erases(command: Command) -> bool
     )
 }
 
-pub(crate) fn writes(command: Command) -> bool
-    ensures { result ≡ writes command }
+pub(crate) fn writes(command: &Command) -> bool
+    ensures { result ≡ writes command.now }
 {
     match command {
         Command::ReadBuffer
@@ -38,8 +38,8 @@ pub(crate) fn writes(command: Command) -> bool
 }
 
 /// What the command of the record of this number is at fault for.
-fn command_fault(index: usize, command: Command) -> Option<Finding>
-    ensures { result ≡ command_fault index command }
+fn command_fault(index: usize, command: &Command) -> Option<Finding>
+    ensures { result ≡ command_fault index command.now }
 {
     if index == 0 && !erases(command) {
         Some(Finding::FirstNotErase)
@@ -59,14 +59,8 @@ impl TurnRule for FirstTurn {
     ghost fault_of = { λ index command orders. command_fault index command };
 
     fn fault(index: usize, outbound: &Record<'_>) -> Option<Finding> {
-        command_fault(index, outbound.command())
+        command_fault(index, &outbound.command())
     }
-}
-
-fn is_size(size: Size, other: Size) -> bool
-    ensures { result ≡ is_size size other }
-{
-    size.rows == other.rows && size.cols == other.cols
 }
 
 /// What keeps the operator from a screen with this lock, of this size, where one with fields is declared.
@@ -80,7 +74,7 @@ pub fn ready_for(lock: Lock, shown: Size, declared: Size, has_fields: bool) -> R
     if lock != Lock::Free {
         return Err(Finding::KeyboardLocked);
     }
-    if !is_size(shown, declared) {
+    if shown != declared {
         return Err(Finding::OtherSize(shown, declared));
     }
     if has_fields {

@@ -6,7 +6,7 @@ ghost use Rattle.scr_check.specs.Seen.{findings_in, TellsSome};
 ghost use Rattle.scr_check.specs.Leads.{IsPromised};
 ghost use Rattle.scr_check.specs.Any.{IsPromisedForAny};
 ghost use Rattle.scr_check.specs.Demos.{AreShown};
-ghost use Rattle.scr_check.specs.Pen.{is_detectable, is_designator, code_of, is_selectable, selectable_of, answer_with_pen, ConformsWithPen, IsPromisedWithPen, ShowsOpened, ShowsTaken};
+ghost use Rattle.scr_check.specs.Pen.{is_designator, code_of, is_selectable, selectable_of, answer_with_pen, ConformsWithPen, IsPromisedWithPen, ShowsOpened, ShowsTaken};
 
 use crate::checker::open;
 use crate::fields::findings_of;
@@ -14,18 +14,10 @@ use crate::finding::Finding;
 use crate::opening::{FirstTurn, Opening};
 use crate::taking::take_by;
 use crate::verdict::{Verdict, verdict_of};
-use ds_codec::{Attr, Cell};
+use ds_codec::Cell;
 use ds_screen::{Cells, FieldAt, PlaneCells, Screen};
 use scr_layout::Layout;
 use std::alloc::{AllocError, Global};
-
-/// Whether the display bits let a field be selected: 04 or 08.
-fn is_detectable(attr: Attr) -> bool
-    ensures { result ≡ is_detectable attr }
-{
-    let display = attr.bits() / 4 % 4;
-    display == 1 || display == 2
-}
 
 /// Whether a code is `?`, `>`, `&`, a space or a null.
 fn is_designator(code: u8) -> bool
@@ -52,7 +44,7 @@ fn code_at<C: Cells>(screen: &Screen<C>, place: u32) -> u8
 fn is_selectable<C: Cells>(screen: &Screen<C>, field: &FieldAt) -> bool
     ensures { result ≡ is_selectable screen.now.cells field.now }
 {
-    if !is_detectable(field.attr) {
+    if !field.attr.detectable() {
         return false;
     }
     if field.length == 0 {

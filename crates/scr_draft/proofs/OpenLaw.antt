@@ -8,13 +8,15 @@ use Rattle.std.proofs.lemmas.Bool.{eq-eqb, and_from}
 use Rattle.ds_codec.specs.declared.size.Size.{Size}
 use Rattle.ds_codec.specs.Geometry.{Sizes}
 use Rattle.ds_codec.specs.Reading.{◌>>=◌}
+use Rattle.ds_codec.specs.Same.{same_size}
+use Rattle.ds_codec.proofs.Same.{size_self}
 use Rattle.ds_screen.specs.Picture.{Picture, IsSound}
 use Rattle.ds_screen.specs.Fields.{fields_of}
 use Rattle.ds_screen.specs.Records.{new_picture}
 use Rattle.scr_layout.specs.Layout.{Declaration}
 use Rattle.scr_check.specs.declared.finding.Finding.{Finding}
 use Rattle.scr_check.specs.declared.finding.Finding.TheVariants.{KeyboardLocked, OtherSize, Unformatted}
-use Rattle.scr_check.specs.Opening.{is_free, is_size, is_none_of, taken_from, ready, opening_of}
+use Rattle.scr_check.specs.Opening.{is_free, is_none_of, taken_from, ready, opening_of}
 use Rattle.scr_check.specs.Findings.{findings_of, told, Conforms}
 use Rattle.scr_check.proofs.LeadLaws.{opened_geometry}
 use Rattle.scr_draft.specs.declared.opening.Opened.{Opened}
@@ -49,14 +51,11 @@ ready_is true false none w p size is = absurd cc
 ready_is true true true w p size is = absurd cc
 ready_is true true false w p size is = ok_same w p is
 
-own_size : (size : Size) → is_size size size ≡ true
-own_size size = and_from (size.rows == size.rows) (size.cols == size.cols) (eq-eqb size.rows size.rows refl) (eq-eqb size.cols size.cols refl)
-
 -- ---- the records
 opens_on : (size : Size) (p : Picture) (r : Result Picture Finding) → (r >>= ready size) ≡ Ok p → (r >>= λ v. ready v.size v) ≡ Ok p
 opens_on size p (Err finding) is = absurd cc
 opens_on size p (Ok w) is =
-    own_ready (is_free w.lock) (is_size w.size size) (is_size w.size w.size) (is_none_of (fields_of w.cells)) w p size (own_size w.size) is
+    own_ready (is_free w.lock) (same_size w.size size) (same_size w.size w.size) (is_none_of (fields_of w.cells)) w p size (size_self w.size) is
 
 -- what a layout's records open is opened
 opens : (layout : Declaration) (records : List (List ℕ)) (p : Picture) → opening_of layout records ≡ Ok p → opened layout.geometry records ≡ Ok p
@@ -66,7 +65,7 @@ opens layout (bytes ∷ others) p is = opens_on layout.size p (taken_from 0 (new
 opened_on : (p : Picture) (r : Result Picture Finding) → (r >>= λ v. ready v.size v) ≡ Ok p → (r >>= ready p.size) ≡ Ok p
 opened_on p (Err finding) is = absurd cc
 opened_on p (Ok w) is =
-    let same : w ≡ p = ready_is (is_free w.lock) (is_size w.size w.size) (is_none_of (fields_of w.cells)) w p w.size is in
+    let same : w ≡ p = ready_is (is_free w.lock) (same_size w.size w.size) (is_none_of (fields_of w.cells)) w p w.size is in
     ap (λ (q : Picture). ready q.size w) (sym same) ∙ is
 
 -- what is opened is so for a layout of this geometry and its size

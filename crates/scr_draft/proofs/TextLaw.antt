@@ -19,6 +19,8 @@ use Rattle.ds_codec.specs.declared.cell.Cell.TheVariants.{Field, Char}
 use Rattle.ds_codec.specs.declared.size.Mode.{Mode}
 use Rattle.ds_codec.specs.declared.size.Mode.TheVariants.{Bits14, Bits16}
 use Rattle.ds_codec.specs.declared.size.Size.{Size}
+use Rattle.ds_codec.specs.Same.{same_size}
+use Rattle.ds_codec.proofs.Same.{size_is, size_self}
 use Rattle.ds_codec.specs.Attribute.{is_hidden}
 use Rattle.ds_codec.specs.Character.{Glyph}
 use Rattle.ds_codec.specs.Geometry.{Sizes, cells_of, limit_of, IsGood}
@@ -38,7 +40,7 @@ use Rattle.scr_layout.proofs.ReadLaw.{layout_of-read}
 use Rattle.scr_check.proofs.ListLaws.{Each}
 use Rattle.scr_draft.specs.Label.{seen_code, seen_in, seen_at, label_of}
 use Rattle.scr_draft.specs.Drafted.{Named, kind_of, label_before, drafted_fields, drafts_of, entry_of, declared_by}
-use Rattle.scr_draft.specs.Text.{mode_line, default_line, alternate_line, geometry_lines, same_size, top_lines, kind_word, is_numeric, label_words, comment_line, name_lines, other_lines, field_lines, draft_text}
+use Rattle.scr_draft.specs.Text.{mode_line, default_line, alternate_line, geometry_lines, top_lines, kind_word, takes_digits, label_words, comment_line, name_lines, other_lines, field_lines, draft_text}
 use Rattle.scr_draft.proofs.NameLaws.{decimal_bytes}
 use Rattle.scr_draft.proofs.LineLaws.{skip_comment, text_line, number_line, text_is, number_is, header_is, AreLines, one_line, one_commented, read_lines}
 use Rattle.scr_draft.proofs.DraftLaws.{good_size, IsDeclared, are_declared, draft_is_layout}
@@ -108,9 +110,9 @@ skip_words words hidden numeric rest one two three =
 comment_skipped : (v : Picture) (f : FieldAt) (rest : List ℕ) → skip_blank (comment_line v f ++ rest) ≡ skip_blank rest
 comment_skipped v f rest =
     let label = label_of v.cells v.size.cols f.place in
-    skip_words (label_words (label_before v f)) (cond (is_hidden f.attr) (codes ", hidden") []) (cond (is_numeric f.attr) (codes ", numeric") []) rest
+    skip_words (label_words (label_before v f)) (cond (is_hidden f.attr) (codes ", hidden") []) (cond (takes_digits f.attr) (codes ", numeric") []) rest
     (words_printed (label_before v f) (all_printed v.cells (range_with_len label.start (label.stop - label.start))))
-    (choice_printed (is_hidden f.attr) (codes ", hidden") refl) (choice_printed (is_numeric f.attr) (codes ", numeric") refl)
+    (choice_printed (is_hidden f.attr) (codes ", hidden") refl) (choice_printed (takes_digits f.attr) (codes ", numeric") refl)
 
 -- ---- the lines of a field
 abbrev key : List ℕ → Key
@@ -479,15 +481,6 @@ list_said Bits16 default alternate screen v [] each = inl (refl, refl)
 list_said Bits14 default alternate screen v (d ∷ ds) each = inr (tables v (d ∷ ds), refl, fields_said v (d ∷ ds) each)
 list_said Bits16 default alternate screen v (d ∷ ds) each = inr (tables v (d ∷ ds), refl, fields_said v (d ∷ ds) each)
 
-size_same : (a b : Size) → same_size a b ≡ true → a ≡ b
-size_same a b is =
-    let parts = and_parts (a.rows == b.rows) (a.cols == b.cols) is in
-    ap (λ (r : ℕ). let s : Size = record { rows = r; cols = a.cols } in s) (eqb-true a.rows b.rows parts.0)
-    ∙ ap (λ (c : ℕ). let s : Size = record { rows = b.rows; cols = c } in s) (eqb-true a.cols b.cols parts.1)
-
-size_alike : (a b : Size) → a ≡ b → same_size a b ≡ true
-size_alike a b is = ap (same_size a) (sym is) ∙ ap (λ x. x && (a.cols == a.cols)) (eq-eqb a.rows a.rows refl) ∙ eq-eqb a.cols a.cols refl
-
 -- the keys at the top of the table
 record IsTop (top : Members) (mode : Mode) (default alternate : List ℕ) : Type 0 where
   keys : IsTrue (has_only top_keys top)
@@ -516,7 +509,7 @@ screen_said top geometry size false has one other = inr (has, other refl)
 alternate_shown : (v : Picture) → IsSound v → same_size v.size v.geometry.default ≡ false → v.size ≡ v.geometry.alternate
 alternate_shown v sound other =
     elim sound.one_of_two [
-      | inl is ↦ absurd (let e : true ≡ false = sym (size_alike v.size v.geometry.default is) ∙ other in cc)
+      | inl is ↦ absurd (let e : true ≡ false = sym (ap (same_size v.size) (sym is) ∙ size_self v.size) ∙ other in cc)
       | inr is ↦ is
     ]
 
@@ -540,7 +533,7 @@ text_says v sound few =
         mode = keys.addresses;
         default = inr keys.default_size;
         alternate = inr keys.alternate_size;
-        screen = screen_said top v.geometry v.size b (word_at mode default alternate (screen_word b) v ds) (size_same v.size v.geometry.default) (alternate_shown v sound);
+        screen = screen_said top v.geometry v.size b (word_at mode default alternate (screen_word b) v ds) (size_is v.size v.geometry.default) (alternate_shown v sound);
         fields = list_said mode default alternate (screen_word b) v ds each;
         is_one = draft_is_layout v sound few;
       },

@@ -6,7 +6,8 @@ use Rattle.ds_codec.specs.declared.size.Mode.{Mode}
 use Rattle.ds_codec.specs.declared.size.Mode.TheVariants.{Bits14, Bits16}
 use Rattle.ds_codec.specs.declared.size.Size.{Size}
 use Rattle.ds_codec.specs.Geometry.{Sizes}
-use Rattle.ds_codec.specs.Attribute.{is_protected, is_hidden}
+use Rattle.ds_codec.specs.Attribute.{is_protected, is_numeric, is_hidden}
+use Rattle.ds_codec.specs.Same.{same_size}
 use Rattle.ds_screen.specs.declared.field.FieldAt.{FieldAt}
 use Rattle.ds_screen.specs.Picture.{Picture}
 use Rattle.scr_layout.specs.declared.entry.Kind.{Kind}
@@ -28,9 +29,6 @@ alternate_line size = codes "alternate = \"" ++ (decimal size.rows ++ (codes "x"
 unfoldable pub geometry_lines : Sizes → List ℕ
 geometry_lines geometry = mode_line geometry.mode ++ (default_line geometry.default ++ alternate_line geometry.alternate)
 
-abbrev pub same_size : Size → Size → Bool
-same_size a b = (a.rows == b.rows) && (a.cols == b.cols)
-
 -- the screen that is shown; where both are of one size, the default one
 abbrev pub screen_line : Picture → List ℕ
 screen_line v = if same_size v.size v.geometry.default then codes "screen = \"default\"\n" else codes "screen = \"alternate\"\n"
@@ -45,8 +43,8 @@ kind_word Input = codes "input"
 kind_word Fixed = codes "fixed"
 
 -- an operator can type there, digits alone on a terminal that locks letters out
-abbrev pub is_numeric : ℕ → Bool
-is_numeric bits = not (is_protected bits) && (bits / 16 % 2 == 1)
+abbrev pub takes_digits : ℕ → Bool
+takes_digits bits = not (is_protected bits) && is_numeric bits
 
 abbrev pub label_words : List ℕ → List ℕ
 label_words [] = codes "no label"
@@ -56,7 +54,7 @@ label_words (c ∷ cs) = c ∷ cs
 abbrev pub comment_line : Picture → FieldAt → List ℕ
 comment_line v field =
     codes "# " ++ (label_words (label_before v field) ++ ((if is_hidden field.attr then codes ", hidden" else [])
-    ++ ((if is_numeric field.attr then codes ", numeric" else []) ++ codes "\n")))
+    ++ ((if takes_digits field.attr then codes ", numeric" else []) ++ codes "\n")))
 
 -- the row and the column of its first cell, counted from 1
 abbrev pub place_lines : ℕ → ℕ → List ℕ

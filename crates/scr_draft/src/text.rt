@@ -4,7 +4,7 @@ ghost use Rattle.std.specs.Prelude.{◌≡◌, ◌++◌, ◌<◌, OnOk, IfOk};
 ghost use Rattle.std.specs.String.{string_bytes};
 ghost use Rattle.std.specs.List.{flat_map};
 ghost use Rattle.scr_draft.specs.Drafted.{kind_of};
-ghost use Rattle.scr_draft.specs.Text.{mode_line, default_line, alternate_line, geometry_lines, same_size, screen_line, top_lines, kind_word, is_numeric, label_words, comment_line, place_lines, name_lines, length_lines, other_lines, field_lines, draft_text};
+ghost use Rattle.scr_draft.specs.Text.{mode_line, default_line, alternate_line, geometry_lines, screen_line, top_lines, kind_word, takes_digits, label_words, comment_line, place_lines, name_lines, length_lines, other_lines, field_lines, draft_text};
 
 use crate::drafted::Drafted;
 use crate::entries::label_before;
@@ -50,16 +50,10 @@ fn push_geometry(out: &mut String, geometry: &Geometry) -> Result<(), AllocError
     push_alternate(out, geometry.alternate_size())
 }
 
-pub(crate) fn same_size(a: Size, b: Size) -> bool
-    ensures { result ≡ same_size a b }
-{
-    a.rows == b.rows && a.cols == b.cols
-}
-
 fn screen_line(screen: &Screen<PlaneCells>) -> &'static str
     ensures { result.now ≡ screen_line screen.now }
 {
-    if same_size(screen.size(), screen.geometry().default_size()) {
+    if screen.size() == screen.geometry().default_size() {
         "screen = \"default\"\n"
     } else {
         "screen = \"alternate\"\n"
@@ -96,10 +90,10 @@ fn kind_word(kind: Kind) -> &'static str
 }
 
 /// Whether an operator can type there, digits alone on a terminal that locks letters out.
-fn is_numeric(attr: Attr) -> bool
-    ensures { result ≡ is_numeric attr }
+fn takes_digits(attr: Attr) -> bool
+    ensures { result ≡ takes_digits attr }
 {
-    !attr.protected() && attr.bits() / 0x10 % 2 == 1
+    !attr.protected() && attr.numeric()
 }
 
 fn label_words(label: &str) -> &str
@@ -120,7 +114,7 @@ fn push_comment(
 {
     let label = label_before(alloc, screen, field)?;
     let hidden = if field.attr.hidden() { ", hidden" } else { "" };
-    let numeric = if is_numeric(field.attr) {
+    let numeric = if takes_digits(field.attr) {
         ", numeric"
     } else {
         ""

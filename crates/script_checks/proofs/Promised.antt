@@ -29,7 +29,7 @@ use Rattle.scr_check.proofs.TalkKeeps.{GoesOn, first_goes}
 use Rattle.cli_commands.specs.declared.fault.Fault.{Fault}
 use Rattle.cli_commands.specs.LayoutText as layouts
 use Rattle.cli_commands.specs.Lines.{within_limit}
-use Rattle.cli_commands.specs.Talk.{is_geometry}
+use Rattle.ds_codec.specs.Same.{same_sizes}
 use Rattle.script_screens.specs.declared.lines.Outcome.TheVariants.{Done}
 use Rattle.tn_session.specs.Kept.{Kept}
 use Rattle.script_checks.specs.declared.read.LayoutRefusal.TheVariants.{OtherSizes}
@@ -156,7 +156,7 @@ no_stop : (entries : List Declared) (several : Bool) (stop : Option Stop) → (v
 no_stop entries several None is = refl
 no_stop entries several (Some stop) is = absurd cc
 
-kept_yes : (turns : Option (List Kept)) (geometry : Sizes) (text : List ℕ) (layout : Declaration) → layouts.layout_in text ≡ Ok layout → is_geometry layout.geometry geometry ≡ true
+kept_yes : (turns : Option (List Kept)) (geometry : Sizes) (text : List ℕ) (layout : Declaration) → layouts.layout_in text ≡ Ok layout → same_sizes layout.geometry geometry ≡ true
     → (layout_said turns (Ok layout)).outcome ≡ Done → (kept : List Kept) × (turns ≡ Some kept) × Promised kept geometry text
 kept_yes None geometry text layout reads fits is = absurd cc
 kept_yes (Some kept) geometry text layout reads fits is = (
@@ -170,14 +170,14 @@ kept_yes (Some kept) geometry text layout reads fits is = (
   },
 )
 
-fits_yes : (test : Bool) (turns : Option (List Kept)) (geometry : Sizes) (text : List ℕ) (layout : Declaration) → layouts.layout_in text ≡ Ok layout → is_geometry layout.geometry geometry ≡ test
+fits_yes : (test : Bool) (turns : Option (List Kept)) (geometry : Sizes) (text : List ℕ) (layout : Declaration) → layouts.layout_in text ≡ Ok layout → same_sizes layout.geometry geometry ≡ test
     → (layout_said turns (cond test (Ok layout) (Err OtherSizes))).outcome ≡ Done → (kept : List Kept) × (turns ≡ Some kept) × Promised kept geometry text
 fits_yes true turns geometry text layout reads fits is = kept_yes turns geometry text layout reads fits is
 fits_yes false turns geometry text layout reads fits is = absurd cc
 
 reads_yes : (r : Result Declaration Fault) (turns : Option (List Kept)) (geometry : Sizes) (text : List ℕ) → layouts.layout_in text ≡ r
     → (layout_said turns (fitting_said geometry r)).outcome ≡ Done → (kept : List Kept) × (turns ≡ Some kept) × Promised kept geometry text
-reads_yes (Ok layout) turns geometry text reads is = fits_yes (is_geometry layout.geometry geometry) turns geometry text layout reads refl is
+reads_yes (Ok layout) turns geometry text reads is = fits_yes (same_sizes layout.geometry geometry) turns geometry text layout reads refl is
 reads_yes (Err fault) turns geometry text reads is = absurd cc
 
 pub yes_is_promised : YesIsPromised

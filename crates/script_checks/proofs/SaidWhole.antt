@@ -10,7 +10,7 @@ use Rattle.scr_check.specs.FindingText.{finding_text}
 use Rattle.scr_check.specs.Walk.{Stop}
 use Rattle.cli_commands.specs.declared.fault.Fault.{Fault}
 use Rattle.cli_commands.specs.LayoutText.{layout_in}
-use Rattle.cli_commands.specs.Talk.{is_geometry}
+use Rattle.ds_codec.specs.Same.{same_sizes}
 use Rattle.script_screens.specs.Laws.{are_whole}
 use Rattle.tn_session.specs.Kept.{Kept}
 use Rattle.script_checks.specs.declared.read.LayoutRefusal.{LayoutRefusal}
@@ -59,7 +59,7 @@ fits_whole false turns layout law = refused_whole turns OtherSizes
 
 text_whole : (r : Result Declaration Fault) (turns : Option (List Kept)) (geometry : Sizes) (text : List ℕ) → layout_in text ≡ r
     → are_whole (layout_said turns (fitting_said geometry r)).texts ≡ true
-text_whole (Ok layout) turns geometry text is = fits_whole (is_geometry layout.geometry geometry) turns layout (read_is_layout text layout is)
+text_whole (Ok layout) turns geometry text is = fits_whole (same_sizes layout.geometry geometry) turns layout (read_is_layout text layout is)
 text_whole (Err fault) turns geometry text is = refused_whole turns (Refused fault)
 
 pub checks_are_lines : ChecksAreLines

@@ -10,7 +10,8 @@ use Rattle.scr_check.specs.Walk.{Stop}
 use Rattle.cli_commands.specs.declared.output.demo.Demos.TheVariants.{Omitted}
 use Rattle.cli_commands.specs.Check.{printed_answer}
 use Rattle.cli_commands.specs.LayoutText.{layout_in}
-use Rattle.cli_commands.specs.Talk.{is_geometry, stop_text}
+use Rattle.ds_codec.specs.Same.{same_sizes}
+use Rattle.cli_commands.specs.Talk.{stop_text}
 use Rattle.script_screens.specs.declared.lines.Outcome.TheVariants.{Done}
 use Rattle.script_screens.specs.Laws.{are_whole}
 use Rattle.tn_session.specs.Kept.{Kept}
@@ -34,7 +35,7 @@ pub record IsChecked (kept : List Kept) (layout : Declaration) : Type 0 where
 pub record Promised (kept : List Kept) (geometry : Sizes) (text : List ℕ) : Type 0 where
   pub layout : Declaration
   pub reads : layout_in text ≡ Ok layout
-  pub fits : is_geometry layout.geometry geometry ≡ true
+  pub fits : same_sizes layout.geometry geometry ≡ true
   pub checked : IsChecked kept layout
 
 abbrev pub YesIsPromised : Type 0

@@ -7,7 +7,7 @@ use Rattle.ds_screen.specs.Picture.{Picture, cell_at}
 use Rattle.ds_screen.specs.Fields.{is_attribute}
 use Rattle.scr_layout.specs.Entry.{Declared}
 use Rattle.scr_layout.specs.Layout.{Declaration}
-use Rattle.cli_commands.specs.Talk.{sizes_equal}
+use Rattle.ds_codec.specs.Same.{same_size}
 use Rattle.script_checks.specs.declared.read.LayoutRefusal.{LayoutRefusal}
 
 -- a layout, and the bytes of its file's name
@@ -40,7 +40,7 @@ begins_field cells entry = is_attribute (cell_at cells (place_before (length cel
 
 -- the screen has the layout's size, and a field begins at each entry
 abbrev pub matches : Picture → Declaration → Bool
-matches v layout = sizes_equal v.size layout.size && list_all (begins_field v.cells) layout.entries
+matches v layout = same_size v.size layout.size && list_all (begins_field v.cells) layout.entries
 
 -- ---- of several
 

@@ -5,7 +5,7 @@ use Rattle.scr_layout.specs.Layout.{Declaration}
 use Rattle.cli_commands.specs.declared.fault.Fault.{Fault}
 use Rattle.cli_commands.specs.Fault.{fault_text}
 use Rattle.cli_commands.specs.LayoutText.{layout_in}
-use Rattle.cli_commands.specs.Talk.{is_geometry}
+use Rattle.ds_codec.specs.Same.{same_sizes}
 use Rattle.script_checks.specs.declared.read.LayoutRefusal.{LayoutRefusal}
 use Rattle.script_checks.specs.declared.read.LayoutRefusal.TheVariants.{Refused, OtherSizes}
 
@@ -15,7 +15,7 @@ refusal_text OtherSizes = codes "no device of these sizes"
 
 -- a layout whose sizes are the device's
 abbrev pub fitting : Sizes → Declaration → Result Declaration LayoutRefusal
-fitting geometry layout = if is_geometry layout.geometry geometry then Ok layout else Err OtherSizes
+fitting geometry layout = if same_sizes layout.geometry geometry then Ok layout else Err OtherSizes
 
 abbrev pub fitting_said : Sizes → Result Declaration Fault → Result Declaration LayoutRefusal
 fitting_said geometry (Ok layout) = fitting geometry layout

@@ -4,20 +4,13 @@ ghost use Rattle.std.specs.Prelude.{◌≡◌, map};
 ghost use Rattle.std.specs.List.{list_all};
 ghost use Rattle.ds_screen.specs.Fields.{is_attribute};
 ghost use Rattle.ds_screen.specs.Picture.{cell_at};
-ghost use Rattle.cli_commands.specs.Talk.{sizes_equal};
 ghost use Rattle.script_checks.specs.Named.{place_before, begins_field, matches, comes_first, precedes, better, chosen};
 ghost use Rattle.script_checks.specs.NamedView.{named_view, one_seen};
 
 use crate::layouts::Named;
-use ds_codec::{Cell, Size};
+use ds_codec::Cell;
 use ds_screen::{PlaneCells, Screen};
 use scr_layout::{Entry, Layout};
-
-fn sizes_equal(a: Size, b: Size) -> bool
-    ensures { result ≡ sizes_equal a b }
-{
-    a.rows == b.rows && a.cols == b.cols
-}
 
 fn place_before(count: u32, place: u32) -> u32
     ensures { result ≡ place_before count place }
@@ -60,7 +53,7 @@ fn begins_fields(screen: &Screen<PlaneCells>, entries: &[Entry]) -> bool
 fn matches_layout(screen: &Screen<PlaneCells>, layout: &Layout) -> bool
     ensures { result ≡ matches screen.now layout.now }
 {
-    sizes_equal(screen.size(), layout.size()) && begins_fields(screen, layout.entries())
+    screen.size() == layout.size() && begins_fields(screen, layout.entries())
 }
 
 /// Whether a name is the other, or stands before it in the order of their bytes.

@@ -1,11 +1,11 @@
 //! The layouts that a script names.
 
 ghost use Rattle.std.specs.Prelude.{◌≡◌, IfOk, Some};
-ghost use Rattle.cli_commands.specs.Talk.{is_geometry, modes_equal, sizes_equal};
+ghost use Rattle.ds_codec.specs.Same.{same_sizes};
 ghost use Rattle.script_checks.specs.Read.{fitting, layout_for, refusal_text};
 
 use cli_commands::{CommandError, Fault, layout_in};
-use ds_codec::{Geometry, Mode, Size};
+use ds_codec::Geometry;
 use scr_layout::Layout;
 use std::alloc::{AllocError, Global};
 use std::fmt;
@@ -37,28 +37,12 @@ impl fmt::Display for LayoutRefusal {
     }
 }
 
-fn sizes_equal(a: Size, b: Size) -> bool
-    ensures { result ≡ sizes_equal a b }
-{
-    a.rows == b.rows && a.cols == b.cols
-}
-
-fn modes_equal(a: Mode, b: Mode) -> bool
-    ensures { result ≡ modes_equal a b }
-{
-    match (a, b) {
-        (Mode::Bits14, Mode::Bits14) | (Mode::Bits16, Mode::Bits16) => true,
-        (Mode::Bits14, Mode::Bits16) | (Mode::Bits16, Mode::Bits14) => false,
-    }
-}
-
 /// Whether the sizes and the addresses of two terminals are the same.
+#[tactic(auto, using(ds_codec::proofs::Same::modes_compared))]
 fn is_geometry(a: Geometry, b: Geometry) -> bool
-    ensures { result ≡ is_geometry a b }
+    ensures { result ≡ same_sizes a b }
 {
-    sizes_equal(a.default_size(), b.default_size())
-        && sizes_equal(a.alternate_size(), b.alternate_size())
-        && modes_equal(a.mode(), b.mode())
+    a == b
 }
 
 /// A layout that a device of these sizes fits.

@@ -1,9 +1,9 @@
 -- What is known of a session's screen: the records that made it, and whether it waits for the operator.
-use Rattle.std.specs.Prelude.{ℕ, Bool, true, false, List, [], ◌∷◌, Option, Some, None, if◌then◌else◌}
+use Rattle.std.specs.Prelude.{ℕ, Bool, false, List, [], ◌∷◌, Option, Some, None, if◌then◌else◌}
 use Rattle.ds_codec.specs.Geometry.{Sizes}
 use Rattle.cli_commands.specs.Sizes.{usual_sizes}
 use Rattle.cli_traces.specs.Turns.{is_attention}
-use Rattle.tn_session.specs.Kept.{Kept, Keeping, nothing_kept, with_record, begins_with, is_erase_code, is_read_code, kept_attention}
+use Rattle.tn_session.specs.Kept.{Kept, Keeping, nothing_kept, begins_with, is_read_code, kept_bytes, kept_attention}
 use Rattle.tap_screens.specs.declared.made.Stage.{Stage}
 use Rattle.tap_screens.specs.declared.made.Stage.TheVariants.{Idle, Shown, Reads}
 use Rattle.tap_screens.specs.Lines.{Line, shows, answers, sizes, nothing}
@@ -17,12 +17,6 @@ pub record Made : Type 0 where
 -- before the first line
 abbrev pub nothing_made : Made
 nothing_made = record { geometry = usual_sizes; keeping = nothing_kept; stage = Idle }
-
--- a record that erases is kept alone, one that reads is not
-abbrev pub record_kept : Keeping → List ℕ → Keeping
-record_kept keeping bytes =
-    if begins_with is_read_code bytes then keeping
-    else (if begins_with is_erase_code bytes then with_record nothing_kept bytes else with_record keeping bytes)
 
 -- the terminal answers a read by itself, and a screen by a key
 abbrev pub stage_shown : List ℕ → Stage
@@ -49,7 +43,7 @@ with_answer made bytes =
     else record made { stage = stage_answered made.stage }
 
 abbrev pub made_after : Made → Line → Made
-made_after made (shows bytes) = record made { keeping = record_kept made.keeping bytes; stage = stage_shown bytes }
+made_after made (shows bytes) = record made { keeping = kept_bytes made.keeping bytes; stage = stage_shown bytes }
 made_after made (answers bytes) = with_answer made bytes
 made_after made (sizes geometry) = record made { geometry = geometry }
 made_after made nothing = made

@@ -5,7 +5,6 @@ mod album;
 mod bound;
 mod folder;
 mod judged;
-mod kept;
 mod leaf;
 mod line;
 mod made;

@@ -2,15 +2,13 @@
 
 ghost use Rattle.std.specs.Prelude.{◌≡◌};
 ghost use Rattle.cli_commands.specs.Sizes.{usual_sizes};
-ghost use Rattle.cli_traces.specs.Turns.{is_attention};
-ghost use Rattle.tn_session.specs.Kept.{begins_with};
 ghost use Rattle.tap_screens.specs.Made.{ends_turn, first_byte, stage_answered, stage_shown};
 
-use crate::kept::{KeptRecords, reads};
+use cli_traces::has_attention;
 use ds_codec::{Geometry, Mode, Size};
 use std::alloc::{AllocError, Global};
 use std::marker::Model;
-use tn_session::KeptRecord;
+use tn_session::{KeptRecord, KeptRecords, reads};
 
 /// Where a dialogue stands.
 #[derive(Clone, Copy, Debug, PartialEq, Eq)]
@@ -21,24 +19,6 @@ pub(crate) enum Stage {
     Shown,
     /// It reads: the terminal answers it by itself.
     Reads,
-}
-
-/// Whether an attention identifier tells of a key or a pen: no AID (60, E8), the answer to a partition's read (61) and structured
-/// fields (88) tell of none (GA23-0059, "Attention identification").
-fn is_attention(aid: u8) -> bool
-    ensures { result ≡ is_attention aid }
-{
-    !(aid == 0x60 || (aid == 0xe8 || (aid == 0x61 || aid == 0x88)))
-}
-
-/// Whether an answer tells of a key or a pen.
-fn has_attention(bytes: &[u8]) -> bool
-    ensures { result ≡ begins_with is_attention bytes.now }
-{
-    match bytes {
-        [aid, ..] => is_attention(*aid),
-        [] => false,
-    }
 }
 
 fn first_byte(bytes: &[u8]) -> Option<u8>
@@ -124,7 +104,7 @@ impl Making {
         ensures { option_map (λ records. map kept_view records.now) result
             ≡ turns_of self.now.keeping }
     {
-        self.keeping.turns()
+        self.keeping.records()
     }
 
     /// Whether an answer is one by which the operator ends a turn.
@@ -138,7 +118,7 @@ impl Making {
     pub(crate) fn take_record(&mut self, alloc: Global, bytes: &[u8]) -> Result<(), AllocError>
         ensures { OnOk result (self.new ≡ made_after self.old (shows bytes.now)) }
     {
-        self.keeping.take_record(alloc, bytes)?;
+        self.keeping.take_bytes(alloc, bytes)?;
         self.stage = stage_shown(bytes);
         Ok(())
     }

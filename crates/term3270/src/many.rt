@@ -1,35 +1,23 @@
 //! The command `serve` for many terminals at once, from its inputs to the net.
 
-ghost use Rattle.std.specs.Prelude.{◌≡◌, map, IfOk, IfSome};
-ghost use Rattle.cli_commands.specs.Held.{records_held};
+ghost use Rattle.std.specs.Prelude.{IfSome};
 ghost use Rattle.cli_sessions.specs.Prepare.{prepare};
 ghost use Rattle.term3270.specs.Sessions.{ServesManyPrepared};
 
 use crate::manners::tell_listening;
 use crate::tcp::Place;
-use cli_commands::{GivesBytes, Status, TakesBytes, finish};
+use cli_commands::{GivesBytes, Status, TakesBytes, finish, lent};
 use cli_hosts::ScreenHosts;
 use cli_sessions::{Output, Prepared, Screen, prepare_serve};
 use cli_words::Many;
 use host_server::{Asked, Outlet, Server, serve_all};
-use std::alloc::{AllocError, Global};
+use std::alloc::Global;
 
 /// Where lines of terminals are written.
 pub(crate) const STANDARD_OUTPUT: Outlet<'static> = Outlet {
     name: "standard output",
     descriptor: 1,
 };
-
-/// The records as slices.
-fn lent<'a>(alloc: Global, records: &'a [Vec<u8>]) -> Result<Vec<&'a [u8]>, AllocError>
-    ensures { IfOk result (λ v. map (λ bytes. bytes.now) v.items ≡ records_held records.now) }
-{
-    let mut slices = Vec::new(alloc);
-    for bytes in records {
-        slices.push(bytes.as_slice())?;
-    }
-    Ok(slices)
-}
 
 /// What the words of the command line ask of a server.
 pub(crate) fn asked_of(many: Many) -> Asked {

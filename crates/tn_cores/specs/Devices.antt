@@ -5,6 +5,7 @@ use Rattle.ds_codec.specs.declared.size.Size.{Size}
 use Rattle.ds_codec.specs.declared.size.Mode.{Mode}
 use Rattle.ds_codec.specs.declared.size.Mode.TheVariants.{Bits14, Bits16}
 use Rattle.ds_codec.specs.Geometry.{Sizes}
+use Rattle.ds_codec.specs.Same.{same_size}
 use Rattle.tn_cores.specs.declared.device.ScreenModel.{ScreenModel}
 use Rattle.tn_cores.specs.declared.device.ScreenModel.TheVariants.{Two, Three, Four, Five}
 use Rattle.tn_cores.specs.declared.device.Device.{Device}
@@ -65,9 +66,6 @@ alternate_of Five = size 27 132
 abbrev pub sizes_of : ScreenModel → Sizes
 sizes_of model = record { default = size 24 80; alternate = alternate_of model; mode = Bits14 }
 
-abbrev pub is_size : Size → Size → Bool
-is_size one other = (one.rows == other.rows) && (one.cols == other.cols)
-
 -- a device's addresses have 12 or 14 bits
 abbrev pub is_device_mode : Mode → Bool
 is_device_mode Bits14 = true
@@ -75,7 +73,7 @@ is_device_mode Bits16 = false
 
 -- the addresses are a device's, and both sizes those of the terminal that a layout is for
 unfoldable pub fits : Sizes → ScreenModel → Bool
-fits sizes model = is_device_mode sizes.mode && (is_size sizes.default (size 24 80) && is_size sizes.alternate (alternate_of model))
+fits sizes model = is_device_mode sizes.mode && (same_size sizes.default (size 24 80) && same_size sizes.alternate (alternate_of model))
 
 abbrev pub if_fits : Sizes → Option Device → Option Device
 if_fits sizes None = None

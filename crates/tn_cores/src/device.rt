@@ -2,7 +2,7 @@
 
 ghost use Rattle.std.specs.Prelude.{◌≡◌, ◌≤◌, ◌↔◌, IfSome, IsSome, Some, length};
 ghost use Rattle.tn_cores.specs.Devices.{name_of, name_in, model_digit, alternate_of, sizes_of, device_of, is_name, IsDeviceName};
-ghost use Rattle.tn_cores.specs.Devices.{fits, fitting, is_device_mode, is_size};
+ghost use Rattle.tn_cores.specs.Devices.{fits, fitting, is_device_mode};
 
 use arrayvec::ArrayVec;
 use ds_codec::{Geometry, Mode, Size};
@@ -170,14 +170,8 @@ pub(crate) fn fits(geometry: &Geometry, model: ScreenModel) -> bool
     ensures { result ≡ fits geometry.now model }
 {
     is_device_mode(geometry.mode())
-        && is_size(geometry.default_size(), Size { rows: 24, cols: 80 })
-        && is_size(geometry.alternate_size(), model.alternate())
-}
-
-fn is_size(size: Size, other: Size) -> bool
-    ensures { result ≡ is_size size other }
-{
-    size.rows == other.rows && size.cols == other.cols
+        && geometry.default_size() == (Size { rows: 24, cols: 80 })
+        && geometry.alternate_size() == model.alternate()
 }
 
 /// The device that these bytes name, where both its sizes are the geometry's.

@@ -4,14 +4,14 @@ ghost use Rattle.std.specs.Prelude.{◌≡◌, [], ◌∷◌, ◌++◌, None, If
 ghost use Rattle.tn_dialogue.specs.Dialogue.{fields_fault};
 
 use crate::screen::{Answered, Next, Reading, Screen};
-use crate::sent::{next_sequence, push_records};
+use crate::sent::push_records;
 use crate::turn::Turn;
 use ds_inbound::Inbound;
 use scr_check::{BindError, BindFault, bind};
 use std::alloc::{AllocError, Global};
 use std::marker::Model;
 use tn_cores::{Agreed, HostCore, Out, SessionFault, Told};
-use tn_session::RunFault;
+use tn_session::{RunFault, next_sequence};
 use tn_wire::{DataType, Event, Header};
 
 /// A copy of bytes.

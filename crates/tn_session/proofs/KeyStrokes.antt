@@ -25,7 +25,8 @@ use Rattle.tn_cores.specs.declared.session.SessionFault.{SessionFault}
 use Rattle.tn_cores.specs.declared.device.Device.{Device}
 use Rattle.tn_cores.specs.declared.session.Told.{Told as Meant}
 use Rattle.tn_cores.specs.declared.session.Told.TheVariants.{Nothing as means_nothing, Ready as means_ready, Record as means_record}
-use Rattle.tn_cores.specs.Devices.{alternate_of, is_size}
+use Rattle.ds_codec.specs.Same.{same_size}
+use Rattle.tn_cores.specs.Devices.{alternate_of}
 use Rattle.tn_session.specs.declared.end_core.EndCore.{EndCore}
 use Rattle.tn_session.specs.declared.end_core.EndCore.TheVariants.{Strict, Tolerant}
 use Rattle.tn_session.specs.EndCores.{core_step, core_agreed, is_tolerant}
@@ -314,7 +315,7 @@ anew_inserts false state anew same = same
 
 fitted_inserts : (device : Device) (state : TerminalState) → (fitted device state).inserts ≡ state.inserts
 fitted_inserts device state =
-    anew_inserts (is_size state.terminal.geometry.alternate (alternate_of device.model)) state (renewed device state) refl
+    anew_inserts (same_size state.terminal.geometry.alternate (alternate_of device.model)) state (renewed device state) refl
 
 heeding_inserts : (core : EndCore) (told : Meant) (state : TerminalState) → (heeding core told state).inserts ≡ state.inserts
 heeding_inserts (Strict core) told state = refl

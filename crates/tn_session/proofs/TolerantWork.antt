@@ -6,7 +6,8 @@ use Rattle.ds_codec.specs.Geometry.{Sizes}
 use Rattle.ds_screen.specs.Picture.{Picture}
 use Rattle.ds_screen.specs.Records.{new_picture}
 use Rattle.tn_cores.specs.declared.device.Device.{Device}
-use Rattle.tn_cores.specs.Devices.{sizes_of, alternate_of, is_size}
+use Rattle.ds_codec.specs.Same.{same_size}
+use Rattle.tn_cores.specs.Devices.{sizes_of, alternate_of}
 use Rattle.tn_session.specs.Kept.{Keeping}
 use Rattle.tn_cores.specs.declared.session.Told.{Told as Meant}
 use Rattle.tn_cores.specs.declared.tolerant.TolerantCore.{TolerantCore}
@@ -41,7 +42,7 @@ renewed_so device state picture geometry kept shown sized anew =
     ∙ ap (λ (k : Option Keeping). record state { terminal = new_picture (sizes_of device.model); kept = k }) anew
 
 pub fit_so : {E : Type 0} (device : Device) (state new : TerminalState) (r : Result (Unit {0}) E)
-    → is_size state.terminal.geometry.alternate (alternate_of device.model) ≡ false → OnOk r (new ≡ renewed device state) → OnOk r (new ≡ fitted device state)
+    → same_size state.terminal.geometry.alternate (alternate_of device.model) ≡ false → OnOk r (new ≡ renewed device state) → OnOk r (new ≡ fitted device state)
 fit_so device state new r other renews =
     subst (λ z. OnOk r (new ≡ (if z then state else renewed device state))) (sym other) renews
 

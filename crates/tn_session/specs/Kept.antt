@@ -58,6 +58,12 @@ kept_record keeping bytes (answered answer) = keeping
 kept_record keeping bytes nothing = keeping
 kept_record keeping bytes (refused why) = if begins_with is_read_code bytes then keeping else with_record keeping bytes
 
+-- the same of a record of which its bytes alone are known
+abbrev pub kept_bytes : Keeping → List ℕ → Keeping
+kept_bytes keeping bytes =
+    if begins_with is_read_code bytes then keeping
+    else (if begins_with is_erase_code bytes then with_record nothing_kept bytes else with_record keeping bytes)
+
 -- ---- keys
 
 -- A key that sends ends a turn. Clear leaves what an Erase/Write of nothing does.

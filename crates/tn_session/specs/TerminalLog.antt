@@ -22,7 +22,8 @@ use Rattle.tn_cores.specs.declared.session.Agreed.{Agreed}
 use Rattle.tn_cores.specs.declared.session.SessionFault.{SessionFault}
 use Rattle.tn_cores.specs.declared.session.Told.{Told as Meant}
 use Rattle.tn_cores.specs.declared.session.Told.TheVariants.{Nothing as means_nothing, Ready as means_ready, Record as means_record}
-use Rattle.tn_cores.specs.Devices.{sizes_of, alternate_of, is_size}
+use Rattle.ds_codec.specs.Same.{same_size}
+use Rattle.tn_cores.specs.Devices.{sizes_of, alternate_of}
 use Rattle.tn_cores.specs.Replies.{bytes_of}
 use Rattle.tn_cores.specs.Steps.{Stepped}
 use Rattle.tn_cores.specs.Terminal.{new_terminal}
@@ -361,7 +362,7 @@ renewed device state = record state { terminal = new_picture (sizes_of device.mo
 
 -- where it isn't that of the device's model
 abbrev pub fitted : Device → TerminalState → TerminalState
-fitted device state = if is_size state.terminal.geometry.alternate (alternate_of device.model) then state else renewed device state
+fitted device state = if same_size state.terminal.geometry.alternate (alternate_of device.model) then state else renewed device state
 
 -- once records begin to pass, what is open of one is to be dropped
 abbrev pub dropping : Meant → TerminalState → TerminalState

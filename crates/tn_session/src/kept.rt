@@ -1,12 +1,13 @@
 //! The records that made the screen which is shown.
 
 ghost use Rattle.std.specs.Prelude.{◌≡◌, true, map, None, Some, OnOk, OnErr, option_map, if◌then◌else◌};
-ghost use Rattle.tn_session.specs.Kept.{nothing_kept, has_room, one_kept, with_record, is_erase_code, is_read_code, begins_with, kept_record, kept_attention, kept_key};
+ghost use Rattle.tn_session.specs.Kept.{nothing_kept, has_room, one_kept, with_record, is_erase_code, is_read_code, begins_with, kept_bytes, kept_record, kept_attention, kept_key};
 ghost use Rattle.tn_session.specs.KeptView.{kept_view};
 ghost use Rattle.ds_terminal.specs.Seen.{reply_seen, key_reply_seen};
 ghost use Rattle.ds_terminal.specs.Terminal.{IsSent};
 
 use crate::outcome::owned;
+use ds_codec::{Aid, CommandCode};
 use ds_terminal::{KeyReply, RecordReply};
 use std::alloc::{AllocError, Global};
 use std::marker::Model;
@@ -28,7 +29,7 @@ pub struct KeptRecord {
 
 /// The records since the last erase.
 #[derive(Drop)]
-pub(crate) struct KeptRecords {
+pub struct KeptRecords {
     records: Vec<KeptRecord>,
     size: usize,
     sent_since: bool,
@@ -76,7 +77,7 @@ fn erases(bytes: &[u8]) -> bool
 }
 
 /// Whether a record begins with a command that reads.
-fn reads(bytes: &[u8]) -> bool
+pub fn reads(bytes: &[u8]) -> bool
     ensures { result ≡ begins_with is_read_code bytes.now }
 {
     match bytes {
@@ -87,7 +88,7 @@ fn reads(bytes: &[u8]) -> bool
 
 impl KeptRecords {
     /// No record yet.
-    pub(crate) fn new(alloc: Global) -> KeptRecords
+    pub fn new(alloc: Global) -> KeptRecords
         ensures { result ≡ nothing_kept }
     {
         KeptRecords {
@@ -99,7 +100,7 @@ impl KeptRecords {
     }
 
     /// The records, in turn; none where there were too many.
-    pub(crate) fn records(&self) -> Option<&[KeptRecord]>
+    pub fn records(&self) -> Option<&[KeptRecord]>
         ensures { option_map (λ records. map kept_view records.now) result
             ≡ (if self.now.is_past_limit then None else Some self.now.records) }
     {
@@ -152,6 +153,23 @@ impl KeptRecords {
         Ok(())
     }
 
+    /// Keeps a record of the host's of which its bytes alone are known: alone where it erases, and not where it reads.
+    ///
+    /// # Errors
+    ///
+    /// Where a request for memory was refused.
+    pub fn take_bytes(&mut self, alloc: Global, bytes: &[u8]) -> Result<(), AllocError>
+        ensures { OnOk result (self.new ≡ kept_bytes self.old bytes.now) }
+    {
+        if reads(bytes) {
+            return Ok(());
+        }
+        if erases(bytes) {
+            *self = KeptRecords::new(alloc);
+        }
+        self.add(alloc, bytes)
+    }
+
     /// Keeps what a record leaves, by what became of it.
     pub(crate) fn take_record(
         &mut self,
@@ -178,16 +196,20 @@ impl KeptRecords {
         }
     }
 
-    /// Keeps what a key that sent leaves.
-    fn take_attention(&mut self, alloc: Global, aid: Option<u8>) -> Result<(), AllocError>
+    /// Keeps what a key that sent leaves, by its attention identifier.
+    ///
+    /// # Errors
+    ///
+    /// Where a request for memory was refused.
+    pub fn take_attention(&mut self, alloc: Global, aid: Option<u8>) -> Result<(), AllocError>
         ensures { OnOk result (self.new ≡ kept_attention self.old aid) }
     {
         let Some(aid) = aid else {
             return Ok(());
         };
-        if aid == 0x6d {
+        if aid == Aid::clear().byte() {
             *self = KeptRecords::new(alloc);
-            return self.add(alloc, &[0xf5, 0x40]);
+            return self.add(alloc, &[CommandCode::EraseWrite.byte(), 0x40]);
         }
         self.sent_since = true;
         Ok(())

@@ -9,7 +9,7 @@ use tn_cores::Agreed;
 use tn_wire::{DataType, Header, push_frame};
 
 /// The sequence number after one: from 0 up to 32,767, and then on from 0.
-pub(crate) fn next_sequence(sequence: u16) -> u16
+pub fn next_sequence(sequence: u16) -> u16
     ensures { result ≡ next_sequence sequence }
 {
     if sequence < 32_767 { sequence + 1 } else { 0 }
@@ -24,7 +24,11 @@ pub(crate) fn push_headed(due: &mut Vec<u8>, header: Header, bytes: &[u8]) -> Re
 }
 
 /// Adds a record of 3270 data, with a header where the session is enhanced.
-pub(crate) fn push_data(
+///
+/// # Errors
+///
+/// Where a request for memory was refused.
+pub fn push_data(
     due: &mut Vec<u8>,
     agreed: Agreed,
     response: u8,

@@ -1,7 +1,8 @@
 //! What a terminal keeps during a session.
 
 ghost use Rattle.std.specs.Prelude.{◌≡◌, Some, IfOk, OnOk};
-ghost use Rattle.tn_cores.specs.Devices.{alternate_of, is_size};
+ghost use Rattle.ds_codec.specs.Same.{same_size};
+ghost use Rattle.tn_cores.specs.Devices.{alternate_of};
 ghost use Rattle.tn_session.specs.EndCores.{core_agreed};
 ghost use Rattle.tn_session.specs.Kept.{nothing_kept};
 ghost use Rattle.tn_session.specs.LuNames.{name_under};
@@ -13,7 +14,6 @@ use crate::end_core::EndCore;
 use crate::kept::KeptRecords;
 use crate::lu_name::LuName;
 use crate::noted::NotedText;
-use ds_codec::Size;
 use ds_screen::PlaneCells;
 use ds_terminal::Terminal;
 use std::alloc::{AllocError, Global};
@@ -167,13 +167,11 @@ impl TerminalState {
 
     /// Whether the screen is that of the device's model.
     fn fits(&self, device: Device) -> bool
-        ensures { result ≡ is_size self.now.terminal.geometry.alternate
+        ensures { result ≡ same_size self.now.terminal.geometry.alternate
             (alternate_of device.model) }
     {
-        is_size(
-            self.terminal.screen().geometry().alternate_size(),
-            device.geometry().alternate_size(),
-        )
+        let alternate = device.geometry().alternate_size();
+        self.terminal.screen().geometry().alternate_size() == alternate
     }
 
     /// Makes the screen anew, that of the device's model.
@@ -184,12 +182,6 @@ impl TerminalState {
         self.kept = kept_anew(alloc, &self.kept);
         Ok(())
     }
-}
-
-fn is_size(size: Size, other: Size) -> bool
-    ensures { result ≡ is_size size other }
-{
-    size.rows == other.rows && size.cols == other.cols
 }
 
 /// Nothing kept, where records are.

@@ -33,9 +33,9 @@ use order_lines::{Draft, OwnedOrder, Told, push_bytes};
 use std::alloc::{AllocError, Global};
 
 /// The size for which a record is written: an erase sets it, for this record and those after it.
-fn size_after(size: SizeInUse, command: Command) -> SizeInUse
+fn size_after(size: SizeInUse, command: &Command) -> SizeInUse
     ensures { (geometry : Sizes) → size_in_use geometry result
-        ≡ size_after geometry (size_in_use geometry size) command }
+        ≡ size_after geometry (size_in_use geometry size) command.now }
 {
     match command {
         Command::EraseWrite(_) => SizeInUse::Default,
@@ -86,7 +86,7 @@ fn end(told: &mut Backward) -> Result<(), CommandError>
     let Some(draft) = told.current.take() else {
         return Ok(());
     };
-    told.size = size_after(told.size, draft.command());
+    told.size = size_after(told.size, &draft.command());
     match told.flaw {
         Some(_) => Ok(()),
         None => push_written(told, draft),
@@ -98,7 +98,7 @@ fn new_draft(alloc: Global, told: &Backward, command: Command) -> Result<Draft, 
     ensures { IfOk result (λ draft. draft ≡ no_order told.now.geometry.mode
         (cells_of (size_after told.now.geometry (backward_seen told.now).size command)) command) }
 {
-    let size = size_in_use(&told.geometry, size_after(told.size, command));
+    let size = size_in_use(&told.geometry, size_after(told.size, &command));
     Draft::new(alloc, command, told.geometry.mode(), size.cells())
 }
 

@@ -10,7 +10,8 @@ ghost use Rattle.cli_commands.specs.Fault.{Gives, GivesOrFails};
 ghost use Rattle.cli_commands.specs.Held.{answer_seen};
 ghost use Rattle.cli_commands.specs.Printed.{printed};
 ghost use Rattle.cli_commands.specs.Streams.{Prints};
-ghost use Rattle.cli_commands.specs.Talk.{is_geometry, modes_equal, other_from, first_other, unless_other, layouts_from, rounds, turn_lines, stop_text, printed_stop, talk_told, talk_turns, talk, printed_talk, sizes_equal};
+ghost use Rattle.ds_codec.specs.Same.{same_sizes};
+ghost use Rattle.cli_commands.specs.Talk.{other_from, first_other, unless_other, layouts_from, rounds, turn_lines, stop_text, printed_stop, talk_told, talk_turns, talk, printed_talk};
 ghost use Rattle.cli_commands.specs.TurnsHeld.{turns_held, lent_held, all_remaining};
 ghost use Rattle.std.specs.Prelude.{[]};
 
@@ -22,34 +23,17 @@ use crate::output::answer::{Answer, finish};
 use crate::output::findings::push_findings;
 use crate::status::Status;
 use crate::streams::{GivesBytes, TakesBytes};
-use ds_codec::{Geometry, Mode, Size};
+use ds_codec::Geometry;
 use scr_check::{Finding, TalkVerdict, Turn, check_talk};
 use scr_layout::Layout;
 use std::alloc::{AllocError, Global};
 
-fn sizes_equal(a: Size, b: Size) -> bool
-    ensures { result ≡ sizes_equal a b }
-{
-    a.rows == b.rows && a.cols == b.cols
-}
-
-fn modes_equal(a: Mode, b: Mode) -> bool
-    ensures { result ≡ modes_equal a b }
-{
-    match (a, b) {
-        (Mode::Bits14, Mode::Bits14) | (Mode::Bits16, Mode::Bits16) => true,
-        (Mode::Bits14, Mode::Bits16) | (Mode::Bits16, Mode::Bits14) => false,
-    }
-}
-
 /// Whether a layout is for a terminal of this geometry.
+#[tactic(auto, using(ds_codec::proofs::Same::modes_compared))]
 fn is_geometry(layout: &Layout, geometry: &Geometry) -> bool
-    ensures { result ≡ is_geometry layout.now.geometry geometry.now }
+    ensures { result ≡ same_sizes layout.now.geometry geometry.now }
 {
-    let other = layout.geometry();
-    sizes_equal(other.default_size(), geometry.default_size())
-        && sizes_equal(other.alternate_size(), geometry.alternate_size())
-        && modes_equal(other.mode(), geometry.mode())
+    layout.geometry() == *geometry
 }
 
 /// The first of the layouts that is not for a terminal of this geometry; they count from 1.

@@ -4,8 +4,8 @@ ghost use Rattle.std.specs.Prelude.{◌≡◌, IfErr, IfOk, Err, Result, false};
 ghost use Rattle.std.specs.Bool.{OnTrue};
 ghost use Rattle.std.specs.Io.KnownBytes.{Appends};
 ghost use Rattle.std.specs.String.{string_bytes};
-ghost use Rattle.cli_commands.specs.Causes.{FinishesBy, PassesOn, SendsBy, WritesBy};
-ghost use Rattle.cli_commands.specs.Fault.{fault_line, GivesOrFails, IsNoFault};
+ghost use Rattle.cli_commands.specs.Causes.{FinishesBy, PassesOn, SendsBy, StaysError, WritesBy};
+ghost use Rattle.cli_commands.specs.Fault.{fault_line, GivesOrFails};
 ghost use Rattle.cli_commands.specs.Held.{answer_seen};
 ghost use Rattle.cli_commands.specs.Printed.{Printed, printed, printed_or_fault};
 ghost use Rattle.cli_commands.specs.declared.fault.Fault.{Fault as AFault};
@@ -86,7 +86,7 @@ fn fault_answer(alloc: Global, fault: Fault) -> Result<Answer, AllocError>
 pub fn printed(alloc: Global, answer: Result<Answer, CommandError>) -> Result<Answer, CommandError>
     ensures told { (due : Result Printed AFault) → GivesOrFails answer_seen answer due
         → IfOk result (λ told. answer_seen told ≡ printed_or_fault due) }
-    ensures failed { IfErr result IsNoFault }
+    ensures failed { IfErr result (StaysError answer) }
 {
     match answer {
         Ok(answer) => Ok(answer),

@@ -56,11 +56,10 @@ fn press_rights(
 }
 
 /// The key Enter.
-#[tactic(auto, unfolding(ds_codec::specs::Aid::is_aid))]
 fn enter() -> Key
     ensures { result ≡ Key.Attention 0x7D }
 {
-    Key::Attention(Aid::from_byte(0x7D).unwrap())
+    Key::Attention(Aid::enter())
 }
 
 /// Presses the keys of a demo.

@@ -3,7 +3,7 @@
 use crate::outline::Outline;
 use crate::records::{Base, prepare_on};
 use crate::writes::{Write, add_writes};
-use ds_codec::Record;
+use ds_codec::{Record, WriteControlCharacter};
 use std::alloc::AllocError;
 
 impl Outline {
@@ -36,7 +36,7 @@ impl Outline {
         ensures unchanged { self.new ≡ self.old }
     {
         let now = Base {
-            wcc: 0,
+            wcc: WriteControlCharacter::from_byte(0),
             size: self.size,
             cursor: self.cursor,
         };
