@@ -10,6 +10,7 @@ pub mod Fronts
 pub mod Again
 pub mod Faults
 pub mod Walk
+pub mod Needs
 pub mod Records
 pub mod Laid
 pub mod Written

@@ -1,6 +1,6 @@
 -- How many bytes of a load come before the first that is below 40.
-use Rattle.std.proofs.Common.{◌≡◌, ◌<◌, ◌≤◌, ◌+◌, ◌%◌, ◌^◌, ℕ, List, Bool, true, false, not, ltb, eqb, cond, length, get_or, map, replicate, refl, sym, ◌∙◌, arith, w8}
-use Rattle.std.proofs.lemmas.Bool.{le-leb, leb-true, ltb-false, eqb-true, eqb-false}
+use Rattle.std.proofs.Common.{◌≡◌, ◌<◌, ◌≤◌, ◌+◌, ◌%◌, ◌^◌, ℕ, List, Bool, true, not, ltb, cond, length, get_or, map, replicate, refl, sym, ◌∙◌, arith, w8}
+use Rattle.std.proofs.lemmas.Bool.{le-leb, ltb-false}
 use Rattle.std.proofs.lemmas.Simd.{length-chunk, bitmask_splat, leading_from_mask_l, trailing_mask_l, run_in_chunk_le, run_in_chunk_fails}
 use Rattle.std.specs.List.{prefix_len}
 use lib.Lanes.{chunk, mask_l, zip2, top}

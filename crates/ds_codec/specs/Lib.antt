@@ -10,5 +10,6 @@ pub mod Command
 pub mod Order
 pub mod Record
 pub mod Reading
+pub mod Surely
 pub mod Writing
 pub mod Digits

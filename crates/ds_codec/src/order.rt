@@ -32,6 +32,32 @@ pub enum Order<'a> {
     Ge(u8),
 }
 
+impl<'a> Order<'a> {
+    ghost use Rattle.ds_codec.specs.Order.{item_of};
+    ghost use Rattle.ds_codec.specs.Surely.{IsNeedOf};
+
+    /// How many positions a buffer must have for the order to be done whatever it holds: more than any has where its
+    /// number says nothing of that.
+    #[inline(always)]
+    pub(crate) fn need(&self) -> u64
+        ensures { IsNeedOf result (item_of self.now) }
+    {
+        match self {
+            Order::Sba(address) | Order::Ra(address, _) | Order::Eua(address) => {
+                u64::from(*address) + 1
+            }
+            Order::Mf(_) => u64::MAX,
+            Order::Text(_)
+            | Order::Sf(_)
+            | Order::Sfe(_)
+            | Order::Sa(_, _)
+            | Order::Ic
+            | Order::Pt
+            | Order::Ge(_) => 0,
+        }
+    }
+}
+
 /// An order, and where its first byte stands in the record, counted from 0.
 #[derive(Clone, Copy, Debug, PartialEq, Eq)]
 pub struct Placed<'a> {

@@ -15,18 +15,21 @@ pub struct Record<'a> {
     mode: Mode,
     command: Command,
     orders: &'a [u8],
+    need: u64,
 }
 
 impl<'a> Model for Record<'a> {
     ghost use Rattle.std.specs.Prelude.{IsOk};
     ghost use Rattle.ds_codec.specs.Record.{Message};
     ghost use Rattle.ds_codec.specs.Reading.{orders_from, sites_in};
+    ghost use Rattle.ds_codec.specs.Surely.{IsNeedOfAll};
 
     ghost Value = { Message };
 
     ghost view = { λ r. record { command = r.command; orders = sites_in (orders_from r.mode 0 2 r.orders.now) } };
 
-    ghost invariant = { λ r. IsOk (orders_from r.mode 0 2 r.orders.now) };
+    ghost invariant = { λ r. IsOk (orders_from r.mode 0 2 r.orders.now)
+        × IsNeedOfAll r.need (sites_in (orders_from r.mode 0 2 r.orders.now)) };
 }
 
 impl<'a> Record<'a> {
@@ -34,6 +37,7 @@ impl<'a> Record<'a> {
     ghost use Rattle.ds_codec.specs.declared.refused.Why.{Why};
     ghost use Rattle.ds_codec.specs.Record.{Message, SpellsRecord, IsRefusedAt, HaveSpelling, AreLaidOut};
     ghost use Rattle.ds_codec.specs.Reading.{read_of};
+    ghost use Rattle.ds_codec.specs.Surely.{are_surely_done};
 
     /// Reads a record: the one command and orders that its bytes spell, each text and each list of pairs
     /// where it stands among them, or the leftmost fault. Within an order a missing byte comes before a
@@ -56,6 +60,14 @@ impl<'a> Record<'a> {
         ensures { result ≡ self.now.command }
     {
         self.command
+    }
+
+    /// Whether each order is done whatever a buffer of so many positions holds: its addresses are all below the number, and
+    /// no order is a Modify Field. So a write that erases a buffer of that size can't be refused. Looks at no order again.
+    pub fn is_surely_done(&self, cells: u32) -> bool
+        ensures { result ≡ are_surely_done cells self.now.orders }
+    {
+        self.need <= u64::from(cells)
     }
 
     /// The orders with their places, from first to last. Takes no memory.
@@ -122,37 +134,51 @@ impl<'a> Iterator for Orders<'a> {
 ghost use Rattle.std.specs.Prelude.{◌≡◌, ℕ, IfOk, IsOk, Some};
 ghost use Rattle.ds_codec.specs.declared.command.Command.{Command};
 ghost use Rattle.ds_codec.specs.Record.{HasOneReading};
-ghost use Rattle.ds_codec.specs.Reading.{Gives, message_of, read_of, orders_from, refusal_in, write_body, alone_body, body_of};
+ghost use Rattle.ds_codec.specs.Reading.{Gives, message_of, read_of, orders_from, sites_in, refusal_in, write_body, alone_body, body_of};
+ghost use Rattle.ds_codec.specs.Surely.{IsNeedOfAll};
 
 /// No bytes spell two records.
 pub fn one_reading()
     ensures { HasOneReading }
 {}
 
-/// Looks at every order.
+/// Looks at every order, and gives how many positions a buffer must have for all of them to be done whatever it holds.
 #[inline(always)]
-fn check_orders(mode: Mode, bytes: &[u8]) -> Result<(), Refused>
-    ensures { refusal_in result ≡ refusal_in (orders_from mode 0 2 bytes.now) }
+fn check_orders(mode: Mode, bytes: &[u8]) -> Result<u64, Refused>
+    ensures refused { refusal_in result ≡ refusal_in (orders_from mode 0 2 bytes.now) }
+    ensures need { IfOk result (λ need. IsNeedOfAll need (sites_in (orders_from mode 0 2 bytes.now))) }
 {
     let mut at = 2;
     let mut rest = bytes;
+    let mut need = 0;
     while !rest.is_empty() {
         match front_order(mode, rest) {
-            Ok((_, length)) => {
+            Ok((order, length)) => {
                 at += length;
                 rest = &rest[length..];
+                need = need.max(order.need());
             }
             Err(why) => return Err(Refused { at, why }),
         }
     }
-    Ok(())
+    Ok(need)
+}
+
+/// What follows the code of a write: the byte of the write control character, and orders that were looked at.
+#[derive(Drop)]
+struct WriteBody<'a> {
+    wcc: u8,
+    orders: &'a [u8],
+    need: u64,
 }
 
 /// The write control character and the orders of a write.
-fn write_parts(mode: Mode, rest: &[u8]) -> Result<(u8, &[u8]), Refused>
-    ensures parts { (make : ℕ → Command) → Gives (λ x. message_of mode (make x.0) x.1.now) result
+fn write_parts(mode: Mode, rest: &[u8]) -> Result<WriteBody<'_>, Refused>
+    ensures parts { (make : ℕ → Command) → Gives (λ body. message_of mode (make body.wcc) body.orders.now) result
         (write_body mode make rest.now) }
-    ensures good { IfOk result (λ x. IsOk (orders_from mode 0 2 x.1.now)) }
+    ensures good { IfOk result (λ body. IsOk (orders_from mode 0 2 body.orders.now)) }
+    ensures need { IfOk result
+        (λ body. IsNeedOfAll body.need (sites_in (orders_from mode 0 2 body.orders.now))) }
 {
     let [wcc, orders @ ..] = rest else {
         return Err(Refused {
@@ -160,8 +186,12 @@ fn write_parts(mode: Mode, rest: &[u8]) -> Result<(u8, &[u8]), Refused>
             why: Why::NoWcc,
         });
     };
-    check_orders(mode, orders)?;
-    Ok((*wcc, orders))
+    let need = check_orders(mode, orders)?;
+    Ok(WriteBody {
+        wcc: *wcc,
+        orders,
+        need,
+    })
 }
 
 /// A command that nothing follows.
@@ -173,6 +203,7 @@ fn alone<'a>(mode: Mode, command: Command, rest: &'a [u8]) -> Result<Record<'a>,
             mode,
             command,
             orders: rest,
+            need: 0,
         })
     } else {
         Err(Refused {
@@ -188,30 +219,33 @@ fn read_body<'a>(mode: Mode, code: CommandCode, rest: &'a [u8]) -> Result<Record
 {
     match code {
         CommandCode::Write => {
-            let (byte, orders) = write_parts(mode, rest)?;
-            let command = Command::Write(WriteControlCharacter::from_byte(byte));
+            let body = write_parts(mode, rest)?;
+            let command = Command::Write(WriteControlCharacter::from_byte(body.wcc));
             Ok(Record {
                 mode,
                 command,
-                orders,
+                orders: body.orders,
+                need: body.need,
             })
         }
         CommandCode::EraseWrite => {
-            let (byte, orders) = write_parts(mode, rest)?;
-            let command = Command::EraseWrite(WriteControlCharacter::from_byte(byte));
+            let body = write_parts(mode, rest)?;
+            let command = Command::EraseWrite(WriteControlCharacter::from_byte(body.wcc));
             Ok(Record {
                 mode,
                 command,
-                orders,
+                orders: body.orders,
+                need: body.need,
             })
         }
         CommandCode::EraseWriteAlternate => {
-            let (byte, orders) = write_parts(mode, rest)?;
-            let command = Command::EraseWriteAlternate(WriteControlCharacter::from_byte(byte));
+            let body = write_parts(mode, rest)?;
+            let command = Command::EraseWriteAlternate(WriteControlCharacter::from_byte(body.wcc));
             Ok(Record {
                 mode,
                 command,
-                orders,
+                orders: body.orders,
+                need: body.need,
             })
         }
         CommandCode::EraseAllUnprotected => alone(mode, Command::EraseAllUnprotected, rest),

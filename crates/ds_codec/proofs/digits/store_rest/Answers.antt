@@ -1,4 +1,4 @@
-use Rattle.std.proofs.Common.{◌≡◌, ◌≤◌, ◌+◌, ◌-◌, ◌*◌, ◌++◌, take, drop, length, length-append, length-drop, length-take-le, ℕ, sym, ◌∙◌, ap, arith}
+use Rattle.std.proofs.Common.{◌≡◌, ◌-◌, ◌++◌, take, drop, length, length-append, length-drop, length-take-le, ℕ, sym, ◌∙◌, arith}
 use borrow.Rule.Slice.PartMut.{put_mid}
 use Rattle.ds_codec.specs.Digits.{AreSpelled}
 use Rattle.ds_codec.proofs.DigitPairs.{one_part, other_in}

@@ -5,4 +5,4 @@ use Rattle.ds_codec.proofs.record.Record.orders.Goals as goal
 
 pub returns-clause-spelled : goal.returns-clause-spelled
 returns-clause-spelled c =
-    subst HaveSpelling (ap (λ m. m.orders) c.self.view_is) (all_spelled c.self.inside.mode c.self.inside.orders.now c.self.invariant)
+    subst HaveSpelling (ap (λ m. m.orders) c.self.view_is) (all_spelled c.self.inside.mode c.self.inside.orders.now c.self.invariant.0)
