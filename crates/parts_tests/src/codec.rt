@@ -107,6 +107,17 @@ fn push_read(row: &mut Row, mode: Mode, words: &str) {
     }
 }
 
+/// Whether each order of a record is done whatever a buffer of so many positions holds.
+fn push_surely(row: &mut Row, mode: Mode, words: &str) {
+    let (cells, record) = row.cut(words, " ");
+    let cells = row.read_number(cells);
+    let bytes = row.read_bytes(record);
+    match Record::read(mode, bytes.as_slice()) {
+        Ok(record) => row.truth(record.is_surely_done(cells)),
+        Err(refused) => row.show(&refused),
+    }
+}
+
 /// A command: its written byte, its write control character, and whether the byte is read as it.
 fn push_code(row: &mut Row, command: Command) {
     push_command(row, command);
@@ -317,6 +328,7 @@ fn push_sizes(row: &mut Row, mode: Mode, words: &str) {
 pub(crate) fn push_answer(row: &mut Row, mode: Mode, verb: &str, words: &str) -> bool {
     match verb {
         "read" => push_read(row, mode, words),
+        "surely" => push_surely(row, mode, words),
         "command" => push_record_command(row, mode, words),
         "write" => push_write(row, mode, words),
         "again" => push_again(row, mode, words),

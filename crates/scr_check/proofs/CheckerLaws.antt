@@ -1,15 +1,12 @@
 -- One more record behind those that a checker took.
-use Rattle.std.proofs.Common.{◌≡◌, ℕ, ◌+◌, List, [], ◌∷◌, ◌++◌, length, Some, None, Result, Ok, Err, sym, ◌∙◌, ap, arith}
+use Rattle.std.proofs.Common.{◌≡◌, ℕ, ◌+◌, List, [], ◌∷◌, ◌++◌, length, Some, None, Result, Ok, Err, ◌∙◌, ap, arith}
 use Rattle.ds_codec.specs.Reading.{◌>>=◌, read_of}
 use Rattle.ds_screen.specs.Picture.{Picture}
-use Rattle.ds_screen.specs.Outline.{Outlined}
 use Rattle.ds_screen.specs.Records.{new_picture}
 use Rattle.scr_layout.specs.Layout.{Declaration}
 use Rattle.scr_check.specs.declared.finding.Finding.{Finding}
-use Rattle.scr_check.specs.Opening.{command_fault, taken, taken_from}
-use Rattle.scr_check.specs.Taking.{TakesOn}
-use Rattle.scr_check.specs.Checker.{LeadsTo}
-use Rattle.scr_check.proofs.TakingLaws.{first_one}
+use Rattle.scr_check.specs.Opening.{taken, taken_from}
+use Rattle.scr_check.specs.Checker.{Reach, TakesFrom, LeadsUnless}
 
 after_ok : (r : Result Picture Finding) (one other : Picture → Result Picture Finding) (w : Picture) (due : Result Picture Finding)
     → ((next : Picture) → one next ≡ Ok w → other next ≡ due) → (r >>= one) ≡ Ok w → (r >>= other) ≡ due
@@ -43,8 +40,8 @@ stands_on index v (bytes ∷ others) more finding is =
     after_err (taken index v (read_of v.geometry.mode bytes)) (λ next. taken_from (index + 1) next others) (λ next. taken_from (index + 1) next (others ++ more)) finding
     (λ next stands. stands_on (index + 1) next others more finding stands) is
 
-module _ (layout : Declaration) (records : List (List ℕ)) (old new : Outlined) (index : ℕ) (bytes : List ℕ) where
-  pub still_stands : (finding : Finding) → LeadsTo layout records old (Some finding) → LeadsTo layout (records ++ bytes ∷ []) new (Some finding)
+module _ (layout : Declaration) (records : List (List ℕ)) (before after : Reach) (index : ℕ) (bytes : List ℕ) where
+  pub still_stands : (finding : Finding) → LeadsUnless layout records before (Some finding) → LeadsUnless layout (records ++ bytes ∷ []) after (Some finding)
   still_stands finding stands = stands_on 0 (new_picture layout.geometry) records (bytes ∷ []) finding stands
 
   -- the record of this number, after them
@@ -54,13 +51,10 @@ module _ (layout : Declaration) (records : List (List ℕ)) (old new : Outlined)
       led_on 0 (new_picture layout.geometry) records (bytes ∷ []) w led
       ∙ ap (λ k. taken_from k w (bytes ∷ [])) (let e : 0 + length records ≡ index = omega (arith, counts) in e) ∙ ap (λ r. r >>= λ next. Ok next) takes
 
-  pub leads_on : index ≡ length records → LeadsTo layout records old None → TakesOn (λ i command orders. command_fault i command) old new index bytes (Ok tt)
-      → LeadsTo layout (records ++ bytes ∷ []) new None
-  leads_on counts led takes =
-      let next = takes led.0 led.2 in
-      (next.0, one_after led.0 (Ok next.0) counts led.1 (sym (first_one index led.0 (read_of led.0.geometry.mode bytes)) ∙ next.1), next.2)
+  pub leads_on : index ≡ length records → LeadsUnless layout records before None → TakesFrom index before bytes (Ok tt) after
+      → LeadsUnless layout (records ++ bytes ∷ []) after None
+  leads_on counts led takes = let next = takes led.0 led.2 in (next.0, one_after led.0 (Ok next.0) counts led.1 next.1, next.2)
 
-  pub stands_next : (finding : Finding) → index ≡ length records → LeadsTo layout records old None
-      → TakesOn (λ i command orders. command_fault i command) old new index bytes (Err finding) → LeadsTo layout (records ++ bytes ∷ []) new (Some finding)
-  stands_next finding counts led takes =
-      one_after led.0 (Err finding) counts led.1 (sym (first_one index led.0 (read_of led.0.geometry.mode bytes)) ∙ takes led.0 led.2)
+  pub stands_next : (finding : Finding) → index ≡ length records → LeadsUnless layout records before None → TakesFrom index before bytes (Err finding) after
+      → LeadsUnless layout (records ++ bytes ∷ []) after (Some finding)
+  stands_next finding counts led takes = one_after led.0 (Err finding) counts led.1 (takes led.0 led.2)

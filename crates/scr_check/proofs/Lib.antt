@@ -9,6 +9,7 @@ pub mod KeptLaws
 pub mod Among
 pub mod TouchedFields
 pub mod LeadLaws
+pub mod ReachLaws
 pub mod SentLaws
 pub mod PromiseLaws
 pub mod AnyLaws

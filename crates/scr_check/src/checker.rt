@@ -6,19 +6,18 @@ ghost use Rattle.scr_check.specs.Seen.{IsOpening};
 
 use crate::finding::Finding;
 use crate::history::History;
-use crate::opening::{FirstTurn, Opening, ready};
-use crate::taking::take;
-use ds_screen::Outline;
+use crate::opening::{Opening, ready};
+use crate::reached::Reached;
 use scr_layout::Layout;
 use std::alloc::{AllocError, Global};
 use std::marker::Model;
 
-/// A new terminal of a layout's geometry that takes records one at a time and keeps none: the outline to which they lead,
-/// and the first finding against one of them, after which no more are read. A record that it takes asks for no memory.
+/// A new terminal of a layout's geometry that takes records one at a time and keeps at most one: the outline to which they
+/// lead, and the first finding against one of them, after which no more are read. A record that it takes fails for no memory.
 #[derive(Drop)]
 pub struct Checker<'l> {
     layout: &'l Layout,
-    outline: Outline,
+    reached: Reached,
     count: usize,
     stands: Option<Finding>,
     taken: History,
@@ -26,29 +25,29 @@ pub struct Checker<'l> {
 
 impl<'l> Model for Checker<'l> {
     ghost use Rattle.std.specs.Prelude.{◌≡◌, length};
-    ghost use Rattle.scr_check.specs.Checker.{Checked, LeadsTo};
+    ghost use Rattle.scr_check.specs.Checker.{Checked, LeadsUnless};
 
     ghost Value = { Checked };
 
     ghost view = { λ s. record { layout = s.layout.now; records = s.taken.items } };
 
     ghost invariant = { λ s. (s.count ≡ length s.taken.items)
-        × LeadsTo s.layout.now s.taken.items s.outline s.stands };
+        × LeadsUnless s.layout.now s.taken.items s.reached s.stands };
 }
 
 /// Takes the record of this number, unless something stands against an earlier one. Gives what stands first.
 fn take_next(
-    outline: &mut Outline,
+    reached: &mut Reached,
     stands: Option<Finding>,
     index: usize,
     bytes: &[u8],
 ) -> Option<Finding>
-    ensures { LeadsOn outline.old stands index bytes.now outline.new result }
+    ensures { LeadsOn reached.old stands index bytes.now reached.new result }
 {
     if let Some(finding) = stands {
         return Some(finding);
     }
-    match take::<FirstTurn>(outline, index, bytes) {
+    match reached.take(index, bytes) {
         Ok(()) => None,
         Err(finding) => Some(finding),
     }
@@ -64,10 +63,10 @@ impl<'l> Checker<'l> {
         ensures { IfOk result (λ checker. checker
             ≡ record { layout = layout.now; records = [] }) }
     {
-        let outline = Outline::new(alloc, layout.geometry())?;
+        let reached = Reached::new(alloc, layout.geometry())?;
         Ok(Checker {
             layout,
-            outline,
+            reached,
             count: 0,
             stands: None,
             taken: History::new(),
@@ -89,7 +88,7 @@ impl<'l> Checker<'l> {
           records = self.old.records ++ bytes.now ∷ [];
         } }
     {
-        self.stands = take_next(&mut self.outline, self.stands, self.count, bytes);
+        self.stands = take_next(&mut self.reached, self.stands, self.count, bytes);
         self.count += 1;
         self.taken.add(bytes);
     }
@@ -103,13 +102,14 @@ impl<'l> Checker<'l> {
         }
         let Checker {
             layout,
-            outline,
+            reached,
             stands,
             ..
         } = self;
         if let Some(finding) = stands {
             return Opening::Stands(finding);
         }
+        let outline = reached.caught_up();
         match ready(&outline, layout.size()) {
             Ok(()) => Opening::Leads(outline),
             Err(finding) => Opening::Stands(finding),

@@ -14,6 +14,7 @@ mod laws;
 mod opening;
 mod origins;
 mod pen;
+mod reached;
 mod taking;
 mod talk;
 mod traced;
