@@ -179,12 +179,12 @@ module _ (index : ℕ) (before after : Reach) (bytes : List ℕ) (outline : Outl
           → TakesAnew index before bytes cells message result after → TakesFrom index before bytes result after
       anew_taken cells (Ok done) anew takes = λ v is.
           let there : cells_anew v.geometry message.command ≡ Some cells =
-            ap (λ (g : Sizes). cells_anew g message.command) (sym (ap (λ (o : Outlined). o.geometry) same ∙ reached_geometry before.outline before.waiting v is)) ∙ anew in
+          ap (λ (g : Sizes). cells_anew g message.command) (sym (ap (λ (o : Outlined). o.geometry) same ∙ reached_geometry before.outline before.waiting v is)) ∙ anew in
           let next = takes v is (record { reads = message_here v is; anew = there }) in
           (next.0, goes_on v is ∙ ap (applied index) next.1, next.2)
       anew_taken cells (Err finding) anew takes = λ v is.
           let there : cells_anew v.geometry message.command ≡ Some cells =
-            ap (λ (g : Sizes). cells_anew g message.command) (sym (ap (λ (o : Outlined). o.geometry) same ∙ reached_geometry before.outline before.waiting v is)) ∙ anew in
+          ap (λ (g : Sizes). cells_anew g message.command) (sym (ap (λ (o : Outlined). o.geometry) same ∙ reached_geometry before.outline before.waiting v is)) ∙ anew in
           goes_on v is ∙ takes v is (record { reads = message_here v is; anew = there })
 
       pub caught_taken : (caught : Outlined) (result : Result (Unit {0}) Finding) → CatchesUp before caught → AppliesOn index caught message result after.outline → after.waiting ≡ None

@@ -18,8 +18,8 @@ returns-in-Some c =
 pub returns-in-Some-cells_anew : goal.returns-in-Some-cells_anew
 returns-in-Some-cells_anew c =
     let anew : cells_anew c.self.inside.outline.geometry c.in-Ok.outbound.command ≡ Some c.in-Some-cells_anew.cells =
-      ap (λ (g : Sizes). cells_anew g c.in-Ok.outbound.command) (sym c.geometry.ensures) ∙ ap (λ (k : Command). cells_anew c.geometry.result k) (sym c.command.ensures)
-      ∙ sym c.in-Some-cells_anew.ensures in
+    ap (λ (g : Sizes). cells_anew g c.in-Ok.outbound.command) (sym c.geometry.ensures) ∙ ap (λ (k : Command). cells_anew c.geometry.result k) (sym c.command.ensures)
+    ∙ sym c.in-Some-cells_anew.ensures in
     anew_taken c.args.index c.args.self.now c.take_anew.new.self c.args.bytes.now c.self.inside.outline (ap (λ (s : Reach). s.outline) c.self.view_is)
     c.in-Ok.outbound (sym c.in-Ok.ensures) (sym c.in_default.ensures) c.in-Some-cells_anew.cells c.take_anew.result anew c.take_anew.ensures
 
