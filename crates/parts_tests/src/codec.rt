@@ -42,7 +42,7 @@ fn push_wcc(row: &mut Row, words: &str, wcc: Option<WriteControlCharacter>) {
     }
 }
 
-fn push_command(row: &mut Row, command: Command) {
+fn push_command(row: &mut Row, command: &Command) {
     row.word(name_of(command.code()));
     push_wcc(row, " ", command.wcc());
 }
@@ -92,7 +92,7 @@ fn push_placed(row: &mut Row, placed: &Placed<'_>) {
 }
 
 fn push_record(row: &mut Row, record: &Record<'_>) {
-    push_command(row, record.command());
+    push_command(row, &record.command());
     for placed in record.orders() {
         push_placed(row, &placed);
     }
@@ -119,7 +119,7 @@ fn push_surely(row: &mut Row, mode: Mode, words: &str) {
 }
 
 /// A command: its written byte, its write control character, and whether the byte is read as it.
-fn push_code(row: &mut Row, command: Command) {
+fn push_code(row: &mut Row, command: &Command) {
     push_command(row, command);
     let code = command.code();
     row.word_hex(" as ", code.byte());
@@ -132,15 +132,15 @@ fn push_code(row: &mut Row, command: Command) {
 fn push_record_command(row: &mut Row, mode: Mode, words: &str) {
     let bytes = row.read_bytes(words);
     match Record::read(mode, bytes.as_slice()) {
-        Ok(record) => push_code(row, record.command()),
+        Ok(record) => push_code(row, &record.command()),
         Err(_) => row.spoil(),
     }
 }
 
 /// The command of an order line.
 fn command_of(row: &mut Row, line: &str) -> Option<Command> {
-    match read_line(row.alloc(), line.as_bytes()) {
-        Ok(Some(Told::Command(command))) => Some(command),
+    match &read_line(row.alloc(), line.as_bytes()) {
+        Ok(Some(Told::Command(command))) => Some(*command),
         _ => None,
     }
 }
