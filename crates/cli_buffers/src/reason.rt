@@ -34,10 +34,10 @@ pub struct BufferFlaw {
 }
 
 /// Why a line is refused, if it is, after the rows before it.
-fn why_of(alloc: Global, open: &Open, line: &[u8]) -> Result<BufferWhy, AllocError>
-    ensures { IfOk result (λ why. why ≡ why_by (flaw_of (open_seen open.now) line.now)) }
+fn why_of(alloc: Global, begun: &Open, line: &[u8]) -> Result<BufferWhy, AllocError>
+    ensures { IfOk result (λ why. why ≡ why_by (flaw_of (open_seen begun.now) line.now)) }
 {
-    match open.flaw(alloc, line)? {
+    match begun.flaw(alloc, line)? {
         Some(flaw) => Ok(BufferWhy::Line(flaw)),
         None => Ok(BufferWhy::OtherScreen),
     }

@@ -146,7 +146,8 @@ pub fn one_reading()
 #[inline(always)]
 fn check_orders(mode: Mode, bytes: &[u8]) -> Result<u64, Refused>
     ensures refused { refusal_in result ≡ refusal_in (orders_from mode 0 2 bytes.now) }
-    ensures need { IfOk result (λ need. IsNeedOfAll need (sites_in (orders_from mode 0 2 bytes.now))) }
+    ensures need { IfOk result
+        (λ need. IsNeedOfAll need (sites_in (orders_from mode 0 2 bytes.now))) }
 {
     let mut at = 2;
     let mut rest = bytes;
@@ -174,7 +175,8 @@ struct WriteBody<'a> {
 
 /// The write control character and the orders of a write.
 fn write_parts(mode: Mode, rest: &[u8]) -> Result<WriteBody<'_>, Refused>
-    ensures parts { (make : ℕ → Command) → Gives (λ body. message_of mode (make body.wcc) body.orders.now) result
+    ensures parts { (make : ℕ → Command) → Gives
+        (λ body. message_of mode (make body.wcc) body.orders.now) result
         (write_body mode make rest.now) }
     ensures good { IfOk result (λ body. IsOk (orders_from mode 0 2 body.orders.now)) }
     ensures need { IfOk result

@@ -171,8 +171,9 @@ fn note_new(
     Ok(Origins { slots })
 }
 
-/// For each position of a new terminal of the layout's geometry, the order that wrote there last when the records are taken in turn as `check` takes them, up to the first against which something stands. Builds no
-/// screen, reads each record twice, and takes time for the records' bytes and the positions of the larger size.
+/// For each position of a new terminal of the layout's geometry, the order that wrote there last when the records are taken
+/// in turn as `check` takes them, up to the first against which something stands. Builds no screen, reads each record
+/// twice, and takes time for the records' bytes and the positions of the larger size.
 ///
 /// # Errors
 ///
