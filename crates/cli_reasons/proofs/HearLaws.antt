@@ -1,11 +1,13 @@
 -- Laws of what an ear has heard.
-use Rattle.std.proofs.Common.{◌≡◌, ◌≢◌, ◌⊎◌, ◌<◌, ◌≤◌, ℕ, zero, suc, ◌+◌, ◌-◌, Bool, true, false, List, [], ◌∷◌, ◌++◌, length, get_or, take, Option, Some, None, Err, refl, ap, sym, ◌∙◌, subst, arith, inl, inr, length-append, append-nil}
+use Rattle.std.proofs.Common.{◌≡◌, ◌≢◌, ◌⊎◌, ◌<◌, ◌≤◌, ℕ, zero, suc, ◌+◌, ◌-◌, Bool, true, false, List, [], ◌∷◌, ◌++◌, length, get_or, take, drop, cond, Option, Some, None, Err, refl, ap, sym, ◌∙◌, subst, arith, inl, inr, length-append, append-nil}
 use Rattle.std.specs.Prelude.{◌==◌, ◌^◌, min}
 use Rattle.std.proofs.lemmas.Bool.{cases_lt, eq-eqb, eqb-true, lt-ltb}
-use Rattle.std.proofs.lemmas.List.{append_assoc, get_or-take, get_or_append_left, length-take-le, nil_from_length}
+use Rattle.std.proofs.lemmas.List.{append_assoc, get_or-take, get_or_append_left, length-take-le, nil_from_length, take-append-drop, take_rest}
+use Rattle.std.proofs.lemmas.List.Sums.{count_by-le-length, sum_by-cons}
 use Rattle.std.proofs.Math.Seq.{get_or-append_right, get_or-append_seam, take-suc}
 use Rattle.bstr.specs.Text.{lines_of, without_terminator}
 use Rattle.bstr.proofs.lemmas.LineLemmas.{lines-append, lines-one, lines-nil}
+use Rattle.hex.specs.Hex.{is_hex_digit}
 use Rattle.memchr.specs.Find.{IsFirstByte, is_byte}
 use Rattle.cli_reasons.specs.declared.ear.Ear.{Ear}
 use Rattle.cli_commands.specs.LayoutText.{layout_in}
@@ -15,9 +17,12 @@ use Rattle.cli_reasons.specs.declared.judged.Judged.TheVariants.{Nothing}
 use Rattle.cli_reasons.specs.declared.record_line.SizesBy.{SizesBy}
 use Rattle.cli_reasons.specs.declared.walk.Lines.{Lines}
 use Rattle.cli_reasons.specs.declared.walk.Lines.TheVariants.{Records, ReadRecords, SizedRecords, Turns, SizedTurns, Answers, AnswersOfTurns, Names, Orders, Characters, Layout, Buffer, Trace, Stream}
+use Rattle.cli_reasons.specs.Digits.{BeginsWithDigits, digit_count}
 use Rattle.cli_reasons.specs.SaysLayout.{SaysLayout}
 use Rattle.cli_reasons.specs.Walked.{Walked, begins, heard, hears, is_done, is_too_long, judged_line, walked_of}
 use Rattle.cli_reasons.specs.Hearing.{Beside, EndedLines, EndsLine, HasNoFeed, HearsLines, HearsOf, Holds, HoldsSome, IsHeard, IsKept, IsLine, IsOpen, KeepsText, Says, input_said, is_enough, is_whole, needs_text, walked_over}
+use Rattle.cli_reasons.proofs.KnownDigits.{front_long, front_more}
+use Rattle.cli_reasons.proofs.Spaced.{first_too}
 use Rattle.cli_reasons.proofs.WalkLaws.{by_bool, enough_over, enough_same, heard_app, heard_done, hears_done, hears_lines, none_enough}
 
 -- ---- bytes without a feed
@@ -193,13 +198,55 @@ ends_again past old kept new after some walks empty (is, inr none) = absurd (let
 one_more : (place : ℕ) → place + 1 ≡ suc place
 one_more place = omega arith
 
-pub first_is_line : (bytes : List ℕ) (place : ℕ) → IsFirstByte (is_byte 10) bytes (Some place) → IsLine (take (place + 1) bytes)
+first_is_line : (bytes : List ℕ) (place : ℕ) → IsFirstByte (is_byte 10) bytes (Some place) → IsLine (take (place + 1) bytes)
 first_is_line bytes place (first, is) = (
   take place bytes,
   ap (λ n. take n bytes) (one_more place) ∙ take-suc bytes place 0 first.high ∙ ap (λ b. take place bytes ++ b ∷ []) (eqb-true _ _ is),
   λ k lt at. let inside : k < place = omega (arith, length-take-le place bytes (omega (arith, first.high))) in
       first.before k (omega arith) inside (eq-eqb _ _ (sym (get_or-take place bytes k 0 inside) ∙ at)),
 )
+
+-- ---- the same where digits are known at the front
+
+-- digits end no line
+digits_clean : (bytes : List ℕ) → digit_count bytes ≡ length bytes → HasNoFeed bytes
+digits_clean [] all k lt = absurd (omega arith)
+digits_clean (x ∷ xs) all k lt =
+    let parts = first_too (is_hex_digit x) (digit_count xs) (length xs) (omega (arith, all, sum_by-cons (λ y. cond (is_hex_digit y) 1 0) x xs)) (count_by-le-length is_hex_digit xs) in
+    elim k as (λ k. k < suc (length xs) → get_or (x ∷ xs) k 0 ≢ 10) [
+      | zero ↦ λ lt is. let wrong : false ≡ true = ap is_hex_digit (sym is) ∙ parts.0 in cc
+      | suc k ↦ λ lt. digits_clean xs parts.1 k (omega arith)
+    ] lt
+
+front_clean : (known : ℕ) (bytes : List ℕ) → BeginsWithDigits known bytes → HasNoFeed (take known bytes)
+front_clean known bytes is = digits_clean (take known bytes) (front_long known bytes is)
+
+-- this is the first feed after so many bytes, or none is
+abbrev pub Finds : ℕ → List ℕ → Option ℕ → Type 0
+Finds known bytes found = IsFirstByte (is_byte 10) (take (length bytes - known) (drop known bytes)) found
+
+none_after : (known : ℕ) (bytes : List ℕ) → Finds known bytes None → HasNoFeed (drop known bytes)
+none_after known bytes none k lt at =
+    let nowhere : IsFirstByte (is_byte 10) (drop known bytes) None = subst (λ rest. IsFirstByte (is_byte 10) rest None) (take_rest bytes known) none in
+    nowhere k (omega arith) lt (eq-eqb _ _ at)
+
+pub none_found : (known : ℕ) (bytes : List ℕ) → BeginsWithDigits known bytes → Finds known bytes None → HasNoFeed bytes
+none_found known bytes is none =
+    subst HasNoFeed (take-append-drop known bytes) (no_feed_app (take known bytes) (drop known bytes) (front_clean known bytes is) (none_after known bytes none))
+
+line_behind : (known : ℕ) (bytes line : List ℕ) → BeginsWithDigits known bytes → IsLine line → IsLine (take known bytes ++ line)
+line_behind known bytes line is (front, same, none) = (
+  take known bytes ++ front,
+  ap (λ l. take known bytes ++ l) same ∙ sym (append_assoc (take known bytes) front (10 ∷ [])),
+  no_feed_app (take known bytes) front (front_clean known bytes is) none,
+)
+
+pub line_found : (known place : ℕ) (bytes : List ℕ) → BeginsWithDigits known bytes → Finds known bytes (Some place) → IsLine (take (known + place + 1) bytes)
+line_found known place bytes is found =
+    let count : known + place + 1 ≡ known + (place + 1) = omega arith in
+    let first : IsFirstByte (is_byte 10) (drop known bytes) (Some place) = subst (λ rest. IsFirstByte (is_byte 10) rest (Some place)) (take_rest bytes known) found in
+    rw (ap (λ n. take n bytes) count ∙ front_more known (place + 1) bytes)
+    (line_behind known bytes (take (place + 1) (drop known bytes)) is (first_is_line (drop known bytes) place first))
 
 -- ---- an ear
 

@@ -14,7 +14,7 @@ digit_is_no_other : (byte : ℕ) → is_hex_digit byte ≡ true → is_other byt
 digit_is_no_other byte is = neither (byte == 0x20) (is_hex_digit byte) is
 
 -- of more than one byte the first is a digit and the others are
-first_too : (here : Bool) (rest most : ℕ) → cond here 1 0 + rest ≡ most + 1 → rest ≤ most → (here ≡ true) × (rest ≡ most)
+pub first_too : (here : Bool) (rest most : ℕ) → cond here 1 0 + rest ≡ most + 1 → rest ≤ most → (here ≡ true) × (rest ≡ most)
 first_too true rest most all below = (refl, omega (arith, all))
 first_too false rest most all below = absurd (omega (arith, all, below))
 

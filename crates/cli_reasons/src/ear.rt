@@ -9,6 +9,7 @@ ghost use Rattle.cli_commands.specs.Held.{answer_seen};
 ghost use Rattle.cli_commands.specs.LayoutText.{layout_in};
 ghost use Rattle.cli_commands.specs.Lines.{lines_in};
 ghost use Rattle.cli_reasons.specs.declared.walk.Lines.TheVariants.{Layout};
+ghost use Rattle.cli_reasons.specs.Digits.{BeginsWithDigits};
 ghost use Rattle.cli_reasons.specs.Hearing.{all_said, answered, Beside, EndedLines, found_said, HasCome, HasEnded, HasNoFeed, Hears, HearsLines, HearsOf, Holds, HoldsSome, IsHeard, IsKept, IsLine, is_endless, is_enough, is_whole, KeepsText, lines_said, needs_text, record_said, refusal_said, Says, tells_records, turns_in, turns_said, walked_over};
 ghost use Rattle.cli_reasons.specs.Refusal.{holds_records};
 ghost use Rattle.cli_reasons.specs.SaysLayout.{SaysLayout};
@@ -16,6 +17,7 @@ ghost use Rattle.cli_reasons.specs.Refusing.{refused_number, StaysRefused};
 ghost use Rattle.cli_reasons.specs.Walked.{is_done, walked_of};
 
 use crate::buffer_line::buffer_sentence;
+use crate::digits::leading_digits;
 use crate::flaw::{Flaw, Limit, Why};
 use crate::judged::is_session;
 use crate::layout_reason::layout_sentence;
@@ -60,15 +62,17 @@ pub struct Ear {
     is_deaf: bool,
 }
 
-/// The first line of bytes with its LF, and what follows, where one ends in them.
-fn split_line(bytes: &[u8]) -> Option<(&[u8], &[u8])>
+/// The first line of bytes with its LF, and what follows, where one ends in them. So many bytes at the front are known to be digits.
+fn split_line(bytes: &[u8], known: usize) -> Option<(&[u8], &[u8])>
+    requires { BeginsWithDigits known bytes.now }
     ensures whole { IfSome result (λ parts. bytes.now ≡ parts.0.now ++ parts.1.now) }
     ensures line { IfSome result (λ parts. IsLine parts.0.now) }
+    ensures digits { IfSome result (λ parts. BeginsWithDigits known parts.0.now) }
     ensures fewer { IfSome result (λ parts. length parts.1.now < length bytes.now) }
     ensures none { result ≡ None → HasNoFeed bytes.now }
 {
-    let end = memchr(b'\n', bytes)?;
-    Some(bytes.split_at(end + 1))
+    let end = memchr(b'\n', &bytes[known..])?;
+    Some(bytes.split_at(known + end + 1))
 }
 
 /// How many turns a text has: one more than it has lines `turn`.
@@ -115,6 +119,22 @@ impl Lines {
         ensures { result ≡ is_endless self }
     {
         matches!(self, Lines::Trace | Lines::Stream)
+    }
+
+    /// How many bytes at the front of such lines are known to be digits: none where lines aren't digits mostly.
+    fn known_digits(self, bytes: &[u8]) -> usize
+        ensures { BeginsWithDigits result bytes.now }
+    {
+        match self {
+            Lines::Names(_)
+            | Lines::Orders
+            | Lines::Characters
+            | Lines::Layout
+            | Lines::Buffer(_)
+            | Lines::Trace
+            | Lines::Stream => 0,
+            _ => leading_digits(bytes),
+        }
     }
 
     /// What the command of these lines answers.
@@ -228,11 +248,14 @@ impl Ear {
             → HearsOf (past ++ bytes.now) self.new) }
     {
         let mut rest = bytes;
-        'lines: while let Some((line, left)) = split_line(rest) {
-            self.end_line(line)?;
+        'lines: loop {
+            let known = self.walk.lines.known_digits(rest);
+            let Some((line, left)) = split_line(rest, known) else {
+                return self.keep_open(rest);
+            };
+            self.end_line(line, known)?;
             rest = left;
         }
-        self.keep_open(rest)
     }
 
     /// Keeps bytes without an LF.
@@ -246,20 +269,21 @@ impl Ear {
         Ok(())
     }
 
-    /// Hears the end of a line, with its LF.
-    fn end_line(&mut self, part: &[u8]) -> Result<(), CommandError>
-        requires { IsLine part.now }
+    /// Hears the end of a line, with its LF. So many bytes at the front of what comes of it are known to be digits.
+    fn end_line(&mut self, part: &[u8], known: usize) -> Result<(), CommandError>
+        requires line { IsLine part.now }
+        requires digits { BeginsWithDigits known part.now }
         ensures beside { Beside self.old self.new }
         ensures heard { OnOk result ((past : List ℕ) → HearsOf past self.old
             → HearsOf (past ++ part.now) self.new) }
     {
         if self.kept.as_slice().is_empty() {
-            self.walk.hear(part)?;
+            self.walk.hear(part, known)?;
             return Ok(());
         }
         self.keep(part)?;
         let line = replace(&mut self.kept, Vec::new(self.alloc));
-        self.walk.hear(line.as_slice())?;
+        self.walk.hear(line.as_slice(), 0)?;
         Ok(())
     }
 
@@ -277,7 +301,7 @@ impl Ear {
             return Ok(());
         }
         let line = replace(&mut self.kept, Vec::new(self.alloc));
-        self.walk.hear(line.as_slice())?;
+        self.walk.hear(line.as_slice(), 0)?;
         Ok(())
     }
 

@@ -5,6 +5,7 @@ ghost use Rattle.std.specs.Str.{is_utf8};
 ghost use Rattle.cli_commands.specs.Fault.{Gives};
 ghost use Rattle.cli_commands.specs.Held.{records_held};
 ghost use Rattle.ds_keys.specs.Lines.{key_of};
+ghost use Rattle.cli_reasons.specs.Digits.{BeginsWithDigits};
 ghost use Rattle.cli_reasons.specs.Judged.{size_line, is_plain, is_session, is_spaced, judged_digits, spaced_bytes, stream_flaw};
 ghost use Rattle.cli_reasons.specs.Judged.{JudgedAs, judged_by, judged_record, judged_turn, names_in, judged_name, judged_other, is_comment, judged_order, judged_characters, is_space, is_no_space, leading_spaces, offset_len, judged_trace, judged_stream};
 
@@ -57,11 +58,12 @@ fn size_line(sizes: SizesBy) -> SizeLine
     }
 }
 
-/// Whether a line is a record without spaces: digits alone, an even number and some.
-fn is_plain(line: &[u8]) -> bool
+/// Whether a line is a record without spaces: digits alone, an even number and some. So many at its front are known.
+fn is_plain(line: &[u8], known: usize) -> bool
+    requires { BeginsWithDigits known line.now }
     ensures { result ≡ is_plain line.now }
 {
-    !line.is_empty() && line.len() % 2 == 0 && are_digits(line)
+    !line.is_empty() && line.len() % 2 == 0 && are_digits(line, known)
 }
 
 /// Whether a line is digits, an even number of them, and spaces.
@@ -69,7 +71,7 @@ fn is_plain(line: &[u8]) -> bool
 pub(crate) fn is_spaced(line: &[u8]) -> bool
     ensures { result ≡ is_spaced line.now }
 {
-    if are_digits(line) {
+    if are_digits(line, 0) {
         return line.len() % 2 == 0;
     }
     first_other(line).is_none() && digit_count(line) % 2 == 0
@@ -99,15 +101,17 @@ fn judged_by(told: &Records, sizes: SizesBy) -> Judged
     }
 }
 
-/// What a line of records does.
+/// What a line of records does, of which so many bytes at its front are known to be digits.
 pub(crate) fn judged_record(
     alloc: Global,
     sizes: SizesBy,
     line: &[u8],
+    known: usize,
 ) -> Result<Judged, CommandError>
+    requires { BeginsWithDigits known line.now }
     ensures { JudgedAs result (judged_record sizes line.now) }
 {
-    if is_plain(line) {
+    if is_plain(line, known) {
         return Ok(Judged::Record(line.len() / 2));
     }
     if let Some(bytes) = spaced_bytes(line) {
@@ -124,18 +128,20 @@ pub(crate) fn judged_record(
     }
 }
 
-/// What a line of records of several turns does.
+/// What a line of records of several turns does, of which so many bytes at its front are known to be digits.
 pub(crate) fn judged_turn(
     alloc: Global,
     sizes: SizesBy,
     line: &[u8],
+    known: usize,
 ) -> Result<Judged, CommandError>
+    requires { BeginsWithDigits known line.now }
     ensures { JudgedAs result (judged_turn sizes line.now) }
 {
     if line == b"turn".as_slice() {
         return Ok(Judged::Nothing);
     }
-    judged_record(alloc, sizes, line)
+    judged_record(alloc, sizes, line, known)
 }
 
 /// Whether a line names a key, which is a stroke too.

@@ -3,6 +3,7 @@
 ghost use Rattle.std.specs.Prelude.{◌≡◌, None, OnOk, Some, true};
 ghost use Rattle.cli_reasons.specs.declared.judged.Judged.TheVariants.{Record};
 ghost use Rattle.cli_reasons.specs.Counts.{next_number, over_limit};
+ghost use Rattle.cli_reasons.specs.Digits.{BeginsWithDigits};
 ghost use Rattle.cli_reasons.specs.Judged.{JudgedAs};
 ghost use Rattle.cli_reasons.specs.Walked.{after_line, begins, begun_after, closed, count_after, first_sizes, flaw_after, found_as, hears, is_done, is_too_long, judged_line, sizes_after, walked_of};
 
@@ -137,12 +138,13 @@ impl Walk {
         self.found.is_some() || self.is_over
     }
 
-    /// Hears a line with its end.
+    /// Hears a line with its end, of which so many bytes at its front are known to be digits.
     ///
     /// # Errors
     ///
     /// Where a request for memory was refused.
-    pub(crate) fn hear(&mut self, raw: &[u8]) -> Result<(), CommandError>
+    pub(crate) fn hear(&mut self, raw: &[u8], known: usize) -> Result<(), CommandError>
+        requires { BeginsWithDigits known raw.now }
         ensures heard { OnOk result (walked_of self.new ≡ hears (walked_of self.old) raw.now) }
         ensures done { is_done (walked_of self.old) ≡ true → self.new ≡ self.old }
         ensures lines { self.new.lines ≡ self.old.lines }
@@ -154,17 +156,19 @@ impl Walk {
             self.is_over = true;
             return Ok(());
         }
-        self.take_line(without_end(raw))
+        let line = without_end(raw);
+        self.take_line(line, known.min(line.len()))
     }
 
     /// Takes a line without its end, where none is refused.
-    fn take_line(&mut self, line: &[u8]) -> Result<(), CommandError>
-        requires { self.old.found ≡ None }
+    fn take_line(&mut self, line: &[u8], known: usize) -> Result<(), CommandError>
+        requires goes { self.old.found ≡ None }
+        requires digits { BeginsWithDigits known line.now }
         ensures taken { OnOk result
             (walked_of self.new ≡ after_line (walked_of self.old) line.now) }
         ensures lines { self.new.lines ≡ self.old.lines }
     {
-        let judged = self.judged(line)?;
+        let judged = self.judged(line, known)?;
         self.number = next_number(self.number);
         if let Some(flaw) = self.taken(judged) {
             self.refuse(flaw, line)?;
@@ -172,15 +176,16 @@ impl Walk {
         Ok(())
     }
 
-    fn judged(&self, line: &[u8]) -> Result<Judged, CommandError>
+    fn judged(&self, line: &[u8], known: usize) -> Result<Judged, CommandError>
+        requires { BeginsWithDigits known line.now }
         ensures { JudgedAs result (judged_line self.now.lines self.now.sizes line.now) }
     {
         match self.lines {
             Lines::Records | Lines::ReadRecords | Lines::SizedRecords | Lines::Answers => {
-                judged_record(self.alloc, self.sizes, line)
+                judged_record(self.alloc, self.sizes, line, known)
             }
             Lines::Turns | Lines::SizedTurns | Lines::AnswersOfTurns => {
-                judged_turn(self.alloc, self.sizes, line)
+                judged_turn(self.alloc, self.sizes, line, known)
             }
             Lines::Names(names) => judged_name(self.alloc, names, line),
             Lines::Orders => judged_order(self.alloc, self.sizes, line),
