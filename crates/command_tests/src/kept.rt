@@ -60,13 +60,31 @@ fn push_next(row: &mut Row, word: &str) {
     row.number(u32::from(next_sequence(sequence)));
 }
 
+/// Whether a record reads.
+fn push_reads(row: &mut Row, words: &str) {
+    let bytes = row.read_bytes(words);
+    row.truth(reads(bytes.as_slice()));
+}
+
+/// Whether an answer tells of a key or a pen.
+fn push_attention(row: &mut Row, words: &str) {
+    let bytes = row.read_bytes(words);
+    row.truth(has_attention(bytes.as_slice()));
+}
+
+/// Whether a line is empty or a comment.
+fn push_ignored(row: &mut Row, words: &str) {
+    let text = read_text(row, words);
+    row.truth(is_ignored(text.as_slice()));
+}
+
 /// Adds what a verb answers; whether it is one of these.
 pub(crate) fn push_answer(row: &mut Row, verb: &str, words: &str) -> bool {
     match verb {
         "kept" => push_kept(row, words),
-        "record-reads" => row.truth(reads(row.read_bytes(words).as_slice())),
-        "attention" => row.truth(has_attention(row.read_bytes(words).as_slice())),
-        "ignored" => row.truth(is_ignored(read_text(row, words).as_slice())),
+        "record-reads" => push_reads(row, words),
+        "attention" => push_attention(row, words),
+        "ignored" => push_ignored(row, words),
         "next-number" => push_next(row, words),
         "sent-classic" => push_sent(row, false, words),
         "sent-enhanced" => push_sent(row, true, words),
