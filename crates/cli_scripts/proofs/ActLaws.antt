@@ -14,7 +14,7 @@ use Rattle.tn_session.specs.Talk.{Talk, stands, starved}
 use Rattle.tn_session.specs.TerminalTalk.{OfWaiting}
 use Rattle.cli_scripts.specs.declared.deed.Deed.{Deed}
 use Rattle.cli_scripts.specs.declared.deed.Deed.TheVariants.{Pressed}
-use Rattle.cli_scripts.specs.Acts.{PressesOnly, keys_deeds, unconnected_deeds, is_reset}
+use Rattle.cli_scripts.specs.Acts.{PressesOnly, WorksKeys, keys_deeds, unconnected_deeds, is_clear, is_reset}
 use Rattle.cli_scripts.specs.Desks.{NamedHost, Worked, is_waiting}
 
 -- what is made of a part of a session that waits
@@ -85,21 +85,10 @@ pressed_now (stands (has_failed why)) it host waiting resets old new some is so 
 pressed_now (stands (is_at_fault fault)) it host waiting resets old new some is so test grows = tt
 pressed_now starved it host waiting resets old new some is so test grows = tt
 
--- ---- keys, and nothing else
+-- ---- what keys leave
 
-map_both : (early late : List Key) → map Pressed (early ++ late) ≡ map Pressed early ++ map Pressed late
-map_both [] late = refl
-map_both (key ∷ early) late = ap (λ z. Pressed key ∷ z) (map_both early late)
+pub works_alone : (host : Option NamedHost) (it : Keys) (old new : Worked) → is_some host ≡ false → WorksKeys None it old new → WorksKeys host it old new
+works_alone host it old new none works = subst (λ (h : Option NamedHost). WorksKeys h it old new) (sym (no_host host none)) works
 
-pub none_pressed : (old new : Worked) → new.deeds ≡ old.deeds → PressesOnly old new
-none_pressed old new same = ([], same ∙ sym (append-nil old.deeds))
-
-pub one_pressed : (old new : Worked) (key : Key) → new.deeds ≡ old.deeds ++ Pressed key ∷ [] → PressesOnly old new
-one_pressed old new key grows = (key ∷ [], grows)
-
-pub more_pressed : (old mid new : Worked) → PressesOnly old mid → PressesOnly mid new → PressesOnly old new
-more_pressed old mid new (early, is) (late, so) = (
-  early ++ late,
-  so ∙ ap (λ z. z ++ map Pressed late) is ∙ append_assoc old.deeds (map Pressed early) (map Pressed late)
-      ∙ ap (λ z. old.deeds ++ z) (sym (map_both early late)),
-)
+pub works_at : (host : Option NamedHost) (it : Keys) (old new : Worked) → is_some host ≡ true → PressesOnly old new → WorksKeys host it old new
+works_at host it old new some only = subst (λ (h : Option NamedHost). WorksKeys h it old new) (sym (a_host host some).1) only

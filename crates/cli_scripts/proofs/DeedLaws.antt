@@ -52,7 +52,7 @@ byte_once a m n byte d e (x, p, log, end) (y, q, other, also) =
     end_once (begins_between (stands a) (stands q)) q m n y d e
     (subst (λ (z : List ℕ). EndOn (begins_between (stands a) (stands q)) q z d m) same.0 moved) also
 
-bytes_once : (bytes : List ℕ) (a m n : At) (d e : List ℕ) → BytesOn a bytes d m → BytesOn a bytes e n → (d ≡ e) × (m ≡ n)
+pub bytes_once : (bytes : List ℕ) (a m n : At) (d e : List ℕ) → BytesOn a bytes d m → BytesOn a bytes e n → (d ≡ e) × (m ≡ n)
 bytes_once [] a m n d e p q = (p.0 ∙ sym q.0, p.1 ∙ sym q.1)
 bytes_once (byte ∷ bytes) a m n d e (x, p, r, first, later, is) (y, q, s, other, after, also) =
     let same = byte_once a p q byte x y first other in

@@ -99,14 +99,15 @@ begun_step device deeds longer heard gone due collects screens mid new is did be
 -- ---- a session anew
 
 -- a terminal anew is in place of the one that was there
-pub renewed_is : (w v : Worked) (talk : Talk TerminalState) (deeds : List Deed) → w ≡ v → talk ≡ new_talk w.device → deeds ≡ w.deeds ++ Begun ∷ []
-    → record w { talk = talk; deeds = deeds } ≡ record v { talk = new_talk v.device; deeds = v.deeds ++ Begun ∷ [] }
-renewed_is w v talk deeds same is grows =
-    ap (λ (t : Talk TerminalState). record w { talk = t; deeds = deeds }) is
-    ∙ ap (λ (ds : List Deed). record w { talk = new_talk w.device; deeds = ds }) grows
-    ∙ ap (λ (u : Worked). record u { talk = new_talk u.device; deeds = u.deeds ++ Begun ∷ [] }) same
+pub renewed_is : (w v : Worked) (talk : Talk TerminalState) (deeds : List Deed) (told : ℕ) → w ≡ v → talk ≡ new_talk w.device → deeds ≡ w.deeds ++ Begun ∷ []
+    → told ≡ 0 → record w { talk = talk; deeds = deeds; told = told } ≡ record v { talk = new_talk v.device; deeds = v.deeds ++ Begun ∷ []; told = 0 }
+renewed_is w v talk deeds told same is grows none =
+    ap (λ (t : Talk TerminalState). record w { talk = t; deeds = deeds; told = told }) is
+    ∙ ap (λ (ds : List Deed). record w { talk = new_talk w.device; deeds = ds; told = told }) grows
+    ∙ ap (λ (n : ℕ). record w { talk = new_talk w.device; deeds = w.deeds ++ Begun ∷ []; told = n }) none
+    ∙ ap (λ (u : Worked). record u { talk = new_talk u.device; deeds = u.deeds ++ Begun ∷ []; told = 0 }) same
 
 -- with a host
-pub opened_is : (w v old : Worked) (host : NamedHost) → w ≡ v → v ≡ record old { talk = new_talk old.device; deeds = old.deeds ++ Begun ∷ [] }
+pub opened_is : (w v old : Worked) (host : NamedHost) → w ≡ v → v ≡ record old { talk = new_talk old.device; deeds = old.deeds ++ Begun ∷ []; told = 0 }
     → record w { host = Some host; was_read = false; reads = 0; fault = None } ≡ opened old host
 opened_is w v old host same is = ap (λ (u : Worked). record u { host = Some host; was_read = false; reads = 0; fault = None }) (same ∙ is)

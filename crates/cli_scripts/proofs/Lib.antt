@@ -20,3 +20,14 @@ mod ResumeLaws
 mod LineLaws
 mod PerformLaws
 mod TakeLaws
+mod RunLaws
+mod Typed
+mod SameSteps
+mod TextOnce
+mod ActOnce
+mod HearOnce
+mod GoOnce
+mod ResumeOnce
+mod RunOnce
+mod RunCounts
+mod YesKeys

@@ -60,7 +60,7 @@ any_both talk (key ∷ first) others =
     ap (λ b. is_inhibited (answer_to talk key) || b) (any_both (after_key talk key) first others)
     ∙ or_assoc (is_inhibited (answer_to talk key)) (any_inhibited (after_key talk key) first) (any_inhibited (after_keys (after_key talk key) first) others)
 
-once_more : (key : Key) (times : ℕ) → replicate times key ++ key ∷ [] ≡ replicate (times + 1) key
+pub once_more : (key : Key) (times : ℕ) → replicate times key ++ key ∷ [] ≡ replicate (times + 1) key
 once_more key zero = refl
 once_more key (suc times) =
     let same : suc (times + 1) ≡ suc times + 1 = omega arith in

@@ -56,7 +56,7 @@ said_same : (said also_said : Said) (old new also : List ℕ) (outcome other_out
 said_same said also_said old new also outcome other_outcome same (grows, is) (more, so) =
     (grows ∙ ap (λ (s : Said). old ++ data_lines s.texts) same ∙ sym more, is ∙ ap (λ (s : Said). s.outcome) same ∙ sym so)
 
-reads_same : (page : CodePage) (reading : Reading) (words : List (List ℕ)) (w z w_new z_new : Worked) (old new also : List ℕ) (outcome other_outcome : Outcome)
+pub reads_same : (page : CodePage) (reading : Reading) (words : List (List ℕ)) (w z w_new z_new : Worked) (old new also : List ℕ) (outcome other_outcome : Outcome)
     → w.talk ≡ z.talk → IsListening w.talk → Reads page reading words w old outcome w_new new → Reads page reading words z old other_outcome z_new also
     → (new ≡ also) × (outcome ≡ other_outcome)
 reads_same page reading words w z w_new z_new old new also outcome other_outcome alike listens ((v, shows, says), _) ((u, shown, also_says), _) =
@@ -74,7 +74,7 @@ snaps_same (snaps.Kept it) page words w z kept kept_new kept_also old new also o
 snaps_same (snaps.Fault fault) page words w z kept kept_new kept_also old new also outcome other_outcome (copy, says) (copied, also_says) =
     said_same (failed (codes "Snap(): " ++ snap_fault_words fault)) (failed (codes "Snap(): " ++ snap_fault_words fault)) old new also outcome other_outcome refl says also_says
 
-answers_same : (kind : Kind) (words : List (List ℕ)) (one new other_new : Worker) (w : Worked) (outcome other_outcome : Outcome)
+pub answers_same : (kind : Kind) (words : List (List ℕ)) (one new other_new : Worker) (w : Worked) (outcome other_outcome : Outcome)
     → IsListening one.desk.talk → Answers kind words one outcome new → Answers kind words (beside one w) other_outcome other_new
     → (new.saying ≡ other_new.saying) × (outcome ≡ other_outcome)
 answers_same (kinds.Reads reading) words one new other_new w outcome other_outcome listens p q =
@@ -129,9 +129,9 @@ prints_same as_lines one new other_new w step other_step listens (outcome, is, p
     let same = reads_same one.code_page readings.Ascii [] one.desk (beside one w).desk new.desk other_new.desk one.saying new.saying other_new.saying outcome other_outcome
     refl listens p q in
     (same.0, ap outcome_of is ∙ ap Some same.1 ∙ sym (ap outcome_of so))
-prints_same (as_page path) one new other_new w step other_step listens (wants, is) (also, so) =
+prints_same (as_page path) one new other_new w step other_step listens (wants, is, rests) (also, so, rested) =
     (is ∙ sym so, page_open path step wants ∙ sym (page_open path other_step also))
-prints_same (as_fault words) one new other_new w step other_step listens p q =
+prints_same (as_fault words) one new other_new w step other_step listens (p, rests) (q, rested) =
     ends_same (failed (printed_text words)) one.saying new.saying other_new.saying step other_step p q
 
 asks_same : (words : List (List ℕ)) (step other_step : Step) → AsksLayout words step → AsksLayout words other_step → outcome_of step ≡ outcome_of other_step

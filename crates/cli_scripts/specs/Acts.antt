@@ -4,7 +4,7 @@ use Rattle.ds_codec.specs.Aid.{function_aid, access_aid}
 use Rattle.ds_keys.specs.declared.key.Key.{Key}
 use Rattle.ds_keys.specs.declared.key.Key.TheVariants as pressed
 use Rattle.ds_keys.specs.declared.key.Key.TheVariants.{Attention}
-use Rattle.script_keys.specs.Actions.{Action, keys, other}
+use Rattle.script_keys.specs.Actions.{Action, keys, disconnect, other}
 use Rattle.script_keys.specs.declared.keys.Keys.{Keys}
 use Rattle.script_keys.specs.declared.keys.Keys.TheVariants.{Plain}
 use Rattle.script_keys.specs.Faults.{Fault}
@@ -16,10 +16,12 @@ use Rattle.tn_session.specs.declared.terminal_state.TerminalState.{TerminalState
 use Rattle.tn_session.specs.TerminalTalk.{OfWaiting}
 use Rattle.cli_scripts.specs.declared.deed.Deed.{Deed}
 use Rattle.cli_scripts.specs.declared.deed.Deed.TheVariants.{Begun, Pressed}
+use Rattle.cli_scripts.specs.Deeds.{new_talk}
 use Rattle.cli_scripts.specs.Desks.{NamedHost, Worked, is_waiting}
 use Rattle.cli_scripts.specs.declared.kind.Kind.{Kind}
-use Rattle.cli_scripts.specs.declared.kind.Kind.TheVariants.{Types, TypesKey}
+use Rattle.cli_scripts.specs.declared.kind.Kind.TheVariants.{Prints, Reads, Types, TypesKey}
 use Rattle.cli_scripts.specs.Kinds.{kind_of}
+use Rattle.cli_scripts.specs.Pressing.{all_typed_at}
 
 abbrev pub is_reset : Keys → Bool
 is_reset (Plain pressed.Reset) = true
@@ -42,23 +44,39 @@ keys_deeds it (Some host) state =
 abbrev pub PressesKeys : Keys → Worked → Worked → Type 0
 PressesKeys it old new = OfWaiting (λ state. old.deeds ++ keys_deeds it old.host state) old.talk new.deeds
 
--- keys were pressed, and nothing else was done
+-- keys were pressed, and nothing else was done: the line to the host stays, and all that no key changes
 abbrev pub PressesOnly : Worked → Worked → Type 0
-PressesOnly old new = (typed : List Key) × (new.deeds ≡ old.deeds ++ map Pressed typed)
+PressesOnly old new = (typed : List Key) × (new ≡ all_typed_at old typed)
 
--- no key was pressed, and no session begun
+-- without a host Clear begins a session anew
+abbrev pub cleared : Worked → Worked
+cleared w = record w { talk = new_talk w.device; deeds = w.deeds ++ Begun ∷ []; told = 0 }
+
+abbrev pub WorksKeys : Option NamedHost → Keys → Worked → Worked → Type 0
+WorksKeys None it old new = new ≡ (if is_clear it then cleared old else old)
+WorksKeys (Some host) it old new = PressesOnly old new
+
+-- nothing was done at the terminal
 abbrev pub PressesNone : Worked → Worked → Type 0
-PressesNone old new = new.deeds ≡ old.deeds
+PressesNone old new = new ≡ old
 
--- what types presses keys, and nothing else does
+-- nothing but that its screen may have been read
+abbrev pub MayRead : Worked → Worked → Type 0
+MayRead old new = new ≡ record old { was_read = new.was_read }
+
+-- what types presses keys, what reads may note that, and nothing else does anything
 abbrev pub PressesAs : Kind → Worked → Worked → Type 0
 PressesAs Types old new = PressesOnly old new
 PressesAs TypesKey old new = PressesOnly old new
+PressesAs (Reads reading) old new = MayRead old new
+PressesAs Prints old new = MayRead old new
 PressesAs kind old new = PressesNone old new
 
--- an action that presses keys does what its keys do; others than String and Key do nothing at the terminal
+-- An action that presses keys does what its keys do, and Disconnect ends the line to the host; others than String and Key do nothing at the
+-- terminal but read it.
 abbrev pub Acts : Result Action Fault → Worked → Worked → Type 0
-Acts (Ok (keys it)) old new = PressesKeys it old new
+Acts (Ok (keys it)) old new = PressesKeys it old new × WorksKeys old.host it old new
+Acts (Ok disconnect) old new = new ≡ record old { host = None }
 Acts (Ok (other name arguments)) old new = PressesAs (kind_of name) old new
 Acts action old new = PressesNone old new
 

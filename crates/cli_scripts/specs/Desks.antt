@@ -41,7 +41,7 @@ link_of_host (Some host) protocol lu_name =
 
 -- The session, the host while it is connected, how often it was read, why the last session failed, all that was done at it and was heard of
 -- hosts, and the bytes that were due: those that were handed out, and those that weren't. Where screens on which keys send are collected to be
--- judged, so are those: the ones that were handed out, and the ones that weren't.
+-- judged, so are those: the ones that were handed out, and the ones that weren't. And how many records the session had taken when that was last asked.
 pub record Worked : Type 0 where
   pub device : Device
   pub talk : Talk TerminalState
@@ -56,6 +56,7 @@ pub record Worked : Type 0 where
   pub collects : Bool
   pub judged : List SentOn
   pub unjudged : List SentOn
+  pub told : ℕ
 
 -- a terminal that isn't connected
 abbrev pub desk_of : Device → Bool → Worked
@@ -73,6 +74,7 @@ desk_of device collects = record {
   collects = collects;
   judged = [];
   unjudged = [];
+  told = 0;
 }
 
 abbrev pub new_desk : Device → Worked
@@ -151,6 +153,7 @@ opened w host = record w {
   reads = 0;
   fault = None;
   deeds = w.deeds ++ Begun ∷ [];
+  told = 0;
 }
 
 -- why a call failed, if it did
@@ -196,7 +199,13 @@ abbrev pub TakesBytes : Worked → List ℕ → Worked → Type 0
 TakesBytes old bytes new =
     (told : Result Progress RunFault) × Adds old.due new.due (λ given. TerminalTakes old.talk bytes told given new.talk)
 
--- One read was made, and the session is over or goes on after it. Where a record was shown, the screen wasn't read since.
+-- nothing else changes by it
+abbrev pub KeepsRest : Worked → Worked → Type 0
+KeepsRest old new =
+    (new.device ≡ old.device) × (new.gone ≡ old.gone) × (new.collects ≡ old.collects) × (new.judged ≡ old.judged) × (new.unjudged ≡ old.unjudged)
+
+-- One read was made, for which memory was not refused, and the session is over or goes on after it. Where a record was shown, which is where the
+-- session took more records than when that was last asked, the screen wasn't read since.
 abbrev pub HearsOnce : Worked → List ℕ → Bool → Worked → Type 0
 HearsOnce old bytes shown new =
     TakesBytes old bytes new
@@ -204,6 +213,10 @@ HearsOnce old bytes shown new =
     × (new.host ≡ host_after (over_by (fault_in new.talk) new.reads) old.host)
     × (new.fault ≡ fault_after (over_by (fault_in new.talk) new.reads) old.fault)
     × (new.was_read ≡ (old.was_read && not shown))
+    × KeepsRest old new
+    × (fault_in new.talk ≡ Some OutOfMemory → ⊥)
+    × OfWaiting (λ state. nat_lt old.told state.taken) new.talk shown
+    × OfWaiting (λ state. state.taken) new.talk new.told
 
 -- nothing was heard, and nothing handed out
 abbrev pub Keeps : Worked → Worked → Type 0

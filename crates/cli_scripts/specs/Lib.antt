@@ -19,4 +19,6 @@ pub mod Steps
 pub mod Waits
 pub mod Workers
 pub mod Performs
+pub mod Runs
+pub mod RunLaws
 pub mod Worlds

@@ -1,5 +1,5 @@
--- What keys do to a session, one after the other.
-use Rattle.std.specs.Prelude.{Bool, true, false, ◌||◌, List, [], ◌∷◌}
+-- What keys do to a session and to its terminal, one after the other.
+use Rattle.std.specs.Prelude.{ℕ, Bool, true, false, ◌||◌, List, [], ◌∷◌, ◌++◌}
 use Rattle.ds_keys.specs.declared.key.Key.{Key}
 use Rattle.tn_session.specs.declared.pressed.Pressed.{Pressed}
 use Rattle.tn_session.specs.declared.pressed.Pressed.TheVariants.{Done, Inhibited, Ignored, Sent}
@@ -8,6 +8,9 @@ use Rattle.tn_session.specs.OneLog.{waits}
 use Rattle.tn_session.specs.Strikes.{by_key}
 use Rattle.tn_session.specs.Talk.{Talk, stands}
 use Rattle.tn_session.specs.TerminalTalk.{worked}
+use Rattle.cli_scripts.specs.declared.deed.Deed.TheVariants.{Pressed as PressedKey}
+use Rattle.cli_scripts.specs.Desks.{Worked}
+use Rattle.cli_scripts.specs.SentOn.{sent_on, collected}
 
 -- a session that failed stays as it is
 abbrev pub after_key : Talk TerminalState → Key → Talk TerminalState
@@ -34,3 +37,23 @@ after_keys talk (key ∷ keys) = after_keys (after_key talk key) keys
 abbrev pub any_inhibited : Talk TerminalState → List Key → Bool
 any_inhibited talk [] = false
 any_inhibited talk (key ∷ keys) = is_inhibited (answer_to talk key) || any_inhibited (after_key talk key) keys
+
+-- ---- at a terminal
+
+-- the bytes that are due for a key
+abbrev pub due_for : Talk TerminalState → Key → List ℕ
+due_for (stands (waits state left)) key = (worked state (by_key key)).due
+due_for talk key = []
+
+-- All that a key changes: the session, what was done, what is due, and, where they are collected, the screens on which keys sent.
+abbrev pub typed_at : Worked → Key → Worked
+typed_at w key = record w {
+  talk = after_key w.talk key;
+  deeds = w.deeds ++ PressedKey key ∷ [];
+  due = w.due ++ due_for w.talk key;
+  unjudged = w.unjudged ++ collected w.collects (sent_on key w.talk);
+}
+
+abbrev pub all_typed_at : Worked → List Key → Worked
+all_typed_at w [] = w
+all_typed_at w (key ∷ keys) = all_typed_at (typed_at w key) keys

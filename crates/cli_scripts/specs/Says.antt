@@ -180,8 +180,8 @@ EndsAnswering kind arguments old step new = (outcome : Outcome) × (step ≡ End
 abbrev pub Prints : Printed → Worker → Step → Worker → Type 0
 Prints as_lines old step new =
     (outcome : Outcome) × (step ≡ Ended outcome) × Reads old.code_page readings.Ascii [] old.desk old.saying outcome new.desk new.saying
-Prints (as_page path) old step new = WantsPage path step × (new.saying ≡ old.saying)
-Prints (as_fault words) old step new = EndsSaying (failed (printed_text words)) step old.saying new.saying
+Prints (as_page path) old step new = WantsPage path step × (new.saying ≡ old.saying) × (new.desk ≡ old.desk)
+Prints (as_fault words) old step new = EndsSaying (failed (printed_text words)) step old.saying new.saying × (new.desk ≡ old.desk)
 
 abbrev pub AsksLayout : List (List ℕ) → Step → Type 0
 AsksLayout [] step = step ≡ Ended outcomes.Done

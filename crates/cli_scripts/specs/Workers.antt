@@ -9,7 +9,7 @@ use Rattle.script_screens.specs.declared.lines.Outcome.TheVariants as outcomes
 use Rattle.script_screens.specs.Lines.{failed}
 use Rattle.tn_session.specs.declared.terminal_state.TerminalState.{TerminalState}
 use Rattle.tn_session.specs.Talk.{Talk}
-use Rattle.cli_scripts.specs.Acts.{PressesKeys}
+use Rattle.cli_scripts.specs.Acts.{PressesKeys, PressesOnly, WorksKeys}
 use Rattle.cli_scripts.specs.Answers.{printed_text}
 use Rattle.cli_scripts.specs.declared.came.Came.{Came}
 use Rattle.cli_scripts.specs.declared.came.Came.TheVariants as came
@@ -64,6 +64,7 @@ IsOver old step new = (step ≡ Ended outcomes.Done) × Rests old new
 abbrev pub TypesOn : Doing → Worker → Step → Worker → Type 0
 TypesOn (Typing typing) old step new =
     TypesText old.code_page old.settings.blank_fill typing step old.desk new.desk old.saying new.saying
+    × PressesOnly old.desk new.desk
 TypesOn doing old step new = ⊥
 
 -- As the line to the host ends what opens fails, a text is over or canceled, a wait is over or fails, and anything else is over.
@@ -96,9 +97,11 @@ HeardOn Opening shown old step new = OpensBy shown step × Rests old new
 HeardOn Sent shown old step new = AfterSent true old.desk.talk step × Rests old new
 HeardOn (Pressing it) shown old step new =
     PressesKeys it old.desk new.desk × SaysKeys it old.desk.host old.desk.talk step old.saying new.saying
+    × WorksKeys old.desk.host it old.desk new.desk
 HeardOn (TypingCode code) shown old step new =
     TypesCode old.settings.blank_fill code old.desk new.desk
     × SaysCode old.settings.blank_fill code old.desk.host old.desk.talk step old.saying new.saying
+    × PressesOnly old.desk new.desk
 HeardOn (Typing typing) shown old step new = TypesOn (Typing typing) old step new
 HeardOn (Calling host) shown old step new = (step ≡ Waits (Calling host) Connection) × Rests old new
 HeardOn (Writing path) shown old step new = (step ≡ Waits (Writing path) Page) × Rests old new

@@ -8,7 +8,8 @@ ghost use Rattle.script_keys.specs.Runs.{keys_of_run, keys_of};
 ghost use Rattle.tn_session.specs.KeptView.{kept_view};
 ghost use Rattle.tn_session.specs.TerminalTalk.{OfWaiting, tolerant_worked, records_kept, agreed_in, lu_name_in, takes_input_in};
 ghost use Rattle.cli_scripts.specs.declared.deed.Deed.TheVariants.{Begun, Heard, Pressed as PressedKey};
-ghost use Rattle.cli_scripts.specs.Pressing.{after_key, answer_to, is_inhibited, after_keys, any_inhibited};
+ghost use Rattle.cli_scripts.specs.Acts.{cleared};
+ghost use Rattle.cli_scripts.specs.Pressing.{after_key, answer_to, is_inhibited, after_keys, all_typed_at, any_inhibited, typed_at};
 ghost use Rattle.cli_scripts.specs.Deeds.{new_talk};
 ghost use Rattle.cli_scripts.specs.Desks.{DidAll, HearsOnce, KeepsScreens, TakesBytes, counted, fault_in, opened, read_again, why_of, handed_due, handed_screens, desk_of, device_in, device_of, is_error, is_waiting, link_in, model_number, protocol_of, Shows};
 
@@ -78,6 +79,7 @@ impl Model for Desk {
       collects = d.collects;
       judged = d.judged.items;
       unjudged = d.unjudged.items;
+      told = d.session.told.taken;
     } };
 
     ghost invariant = { λ d. DidSo d.device d.deeds.items d.heard.items (d.gone.items ++ d.due.items) d.session.talk d.collects (d.judged.items ++ d.unjudged.items) };
@@ -193,6 +195,7 @@ impl Desk {
         ensures renewed { OnOk result (self.new ≡ record self.old {
           talk = new_talk self.old.device;
           deeds = self.old.deeds ++ Begun ∷ [];
+          told = 0;
         }) }
         ensures same { OnErr result (self.new ≡ self.old) }
     {
@@ -244,6 +247,8 @@ impl Desk {
         ensures host { self.new.host ≡ self.old.host }
         ensures rest { (self.new.reads ≡ self.old.reads) × (self.new.fault ≡ self.old.fault)
             × (self.new.was_read ≡ self.old.was_read) }
+        ensures same { (self.new.device ≡ self.old.device)
+            × (self.new.unjudged ≡ self.old.unjudged) × (self.new.told ≡ self.old.told) }
         ensures takes { TakesBytes self.old bytes.now self.new }
         // It fails where the session does, for that reason.
         ensures told { why_of result ≡ fault_in self.new.talk }
@@ -295,6 +300,10 @@ impl Desk {
         ensures host { self.new.host ≡ self.old.host }
         ensures rest { (self.new.reads ≡ self.old.reads) × (self.new.fault ≡ self.old.fault)
             × (self.new.talk ≡ self.old.talk) × (self.new.due ≡ self.old.due) }
+        ensures same { (self.new.device ≡ self.old.device)
+            × (self.new.unjudged ≡ self.old.unjudged) }
+        ensures shown { OfWaiting (λ state. nat_lt self.old.told state.taken) self.old.talk result }
+        ensures told { OfWaiting (λ state. state.taken) self.old.talk self.new.told }
     {
         let came = is_shown(self.session.arrived());
         if came {
@@ -309,6 +318,8 @@ impl Desk {
         ensures heard { self.new.heard ≡ self.old.heard }
         ensures gone { self.new.gone ≡ self.old.gone }
         ensures screens { KeepsScreens self.old self.new }
+        ensures host { self.new.host ≡ self.old.host }
+        ensures cleared { OnOk result (self.new ≡ cleared self.old) }
     {
         self.renew(alloc)
     }
@@ -318,6 +329,7 @@ impl Desk {
         ensures deeds { OnOk result (self.new.deeds ≡ self.old.deeds ++ PressedKey key.now ∷ []) }
         ensures talk { OnOk result (self.new.talk ≡ after_key self.old.talk key.now) }
         ensures answer { IfOk result (λ pressed. pressed ≡ answer_to self.old.talk key.now) }
+        ensures typed { OnOk result (self.new ≡ typed_at self.old key.now) }
         ensures heard { self.new.heard ≡ self.old.heard }
         ensures gone { self.new.gone ≡ self.old.gone }
         ensures screens { KeepsScreens self.old self.new }
@@ -342,6 +354,7 @@ impl Desk {
             ≡ after_keys self.old.talk (replicate times key.now)) }
         ensures inhibited { IfOk result (λ inhibited. inhibited
             ≡ any_inhibited self.old.talk (replicate times key.now)) }
+        ensures typed { OnOk result (self.new ≡ all_typed_at self.old (replicate times key.now)) }
         ensures heard { self.new.heard ≡ self.old.heard }
         ensures gone { self.new.gone ≡ self.old.gone }
         ensures screens { KeepsScreens self.old self.new }
@@ -363,6 +376,7 @@ impl Desk {
             ≡ after_keys self.old.talk (keys_of_run run.now)) }
         ensures inhibited { IfOk result (λ inhibited. inhibited
             ≡ any_inhibited self.old.talk (keys_of_run run.now)) }
+        ensures typed { OnOk result (self.new ≡ all_typed_at self.old (keys_of_run run.now)) }
         ensures heard { self.new.heard ≡ self.old.heard }
         ensures gone { self.new.gone ≡ self.old.gone }
         ensures screens { KeepsScreens self.old self.new }
@@ -378,6 +392,7 @@ impl Desk {
         ensures talk { OnOk result (self.new.talk ≡ after_keys self.old.talk (keys_of runs.now)) }
         ensures inhibited { IfOk result (λ inhibited. inhibited
             ≡ any_inhibited self.old.talk (keys_of runs.now)) }
+        ensures typed { OnOk result (self.new ≡ all_typed_at self.old (keys_of runs.now)) }
         ensures heard { self.new.heard ≡ self.old.heard }
         ensures gone { self.new.gone ≡ self.old.gone }
         ensures screens { KeepsScreens self.old self.new }

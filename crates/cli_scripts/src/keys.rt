@@ -1,6 +1,6 @@
 //! Actions that press keys.
 
-ghost use Rattle.std.specs.Prelude.{◌≡◌, ◌++◌, is_some, map, IfOk, OnOk};
+ghost use Rattle.std.specs.Prelude.{◌≡◌, ◌++◌, is_some, map, None, IfOk, OnOk};
 ghost use Rattle.script_screens.specs.declared.lines.Outcome.TheVariants.{Done};
 ghost use Rattle.cli_scripts.specs.declared.doing.Step.TheVariants.{Ended};
 ghost use Rattle.cli_scripts.specs.Keying.{OnWaiting, PressedSo, SaysKeys, SaysCode, TypesCode};
@@ -8,7 +8,7 @@ ghost use Rattle.script_keys.specs.Runs.{keys_of};
 ghost use Rattle.script_keys.specs.Steps.{runs_of};
 ghost use Rattle.tn_session.specs.TerminalTalk.{OfWaiting};
 ghost use Rattle.cli_scripts.specs.declared.deed.Deed.TheVariants.{Pressed};
-ghost use Rattle.cli_scripts.specs.Acts.{is_clear, is_reset, unconnected_deeds, PressesKeys, PressesOnly};
+ghost use Rattle.cli_scripts.specs.Acts.{is_clear, is_reset, unconnected_deeds, PressesKeys, PressesOnly, WorksKeys};
 ghost use Rattle.cli_scripts.specs.Desks.{Keeps};
 ghost use Rattle.cli_scripts.specs.Workers.{AfterSent};
 
@@ -45,6 +45,7 @@ fn press_unconnected(alloc: Global, desk: &mut Desk, keys: &Keys) -> Result<Step
     ensures keeps { Keeps desk.old desk.new }
     ensures deeds { OnOk result (desk.new.deeds ≡ desk.old.deeds ++ unconnected_deeds keys.now) }
     ensures over { IfOk result (λ step. step ≡ Ended Done) }
+    ensures works { OnOk result (WorksKeys None keys.now desk.old desk.new) }
 {
     if is_clear(keys) {
         desk.clear(alloc)?;
@@ -64,6 +65,7 @@ fn press_now(
         ++ map Pressed (keys_of (runs_of state.terminal keys.now))) desk.old.talk desk.new.deeds) }
     ensures says { IfOk result (λ step. OnWaiting desk.old.talk (λ state.
         PressedSo keys.now desk.old.talk state step saying.old saying.new)) }
+    ensures only { OnOk result (PressesOnly desk.old desk.new) }
 {
     let runs = runs_of(alloc, desk.screen(), *keys)?;
     if desk.press_runs(alloc, &runs)? {
@@ -86,6 +88,7 @@ pub(crate) fn press(
     ensures deeds { OnOk result (PressesKeys keys.now desk.old desk.new) }
     ensures says { IfOk result (λ step. SaysKeys keys.now desk.old.host desk.old.talk step
         saying.old saying.new) }
+    ensures works { OnOk result (WorksKeys desk.old.host keys.now desk.old desk.new) }
 {
     if !desk.is_connected() {
         return press_unconnected(alloc, desk, keys);

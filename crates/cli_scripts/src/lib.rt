@@ -27,7 +27,7 @@ mod world;
 
 pub use came::{Came, Need, Wants};
 pub use deed::Deed;
-pub use laws::deeds_law;
+pub use laws::{deeds_law, runs_law};
 pub use machine::Machine;
 pub use run::run_script;
 pub use sent_screen::SentScreen;

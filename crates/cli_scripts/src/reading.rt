@@ -3,7 +3,7 @@
 ghost use Rattle.std.specs.Prelude.{◌≡◌, map, IfOk};
 ghost use Rattle.script_screens.specs.Lines.{Says};
 ghost use Rattle.script_screens.specs.Snap.{snap_of};
-ghost use Rattle.cli_scripts.specs.Acts.{PressesNone};
+ghost use Rattle.cli_scripts.specs.Acts.{MayRead};
 ghost use Rattle.cli_scripts.specs.Desks.{Keeps};
 ghost use Rattle.cli_scripts.specs.Says.{Reads, Snaps, after_first, said_of_copy};
 
@@ -23,7 +23,7 @@ pub(crate) fn read(
     saying: &mut Saying,
 ) -> Result<Outcome, AllocError>
     ensures keeps { Keeps desk.old desk.new }
-    ensures deeds { PressesNone desk.old desk.new }
+    ensures deeds { MayRead desk.old desk.new }
     ensures reads { IfOk result (λ outcome. Reads code_page reading
         (map (λ argument. argument.items) arguments.now) desk.old saying.old outcome desk.new
         saying.new) }

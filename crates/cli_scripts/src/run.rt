@@ -1,13 +1,15 @@
 //! The command `script`, over what it is worked over.
 
-ghost use Rattle.std.specs.Prelude.{◌≡◌, ◌++◌, ℕ, List, [], true, false, IfOk, OnOk, OnErr};
+ghost use Rattle.std.specs.Prelude.{◌≡◌, ◌++◌, ℕ, List, [], true, false, Err, IfOk, OnOk, OnErr};
 ghost use Rattle.std.specs.Bool.{OnTrue};
-ghost use Rattle.std.specs.Io.KnownBytes.{Appends};
+ghost use Rattle.std.specs.Io.KnownBytes.{Appends, prepend_known};
 ghost use Rattle.cli_commands.specs.Streams.{AppendsFront};
 ghost use Rattle.cli_scripts.specs.Desks.{Keeps, DidAll, handed_screens};
 ghost use Rattle.cli_scripts.specs.Judged.{Concludes, HasFindings, IsOver, Judges, JudgesAll, judged_all, reports_of, end_of_report, judged_status};
-ghost use Rattle.cli_scripts.specs.Answers.{AreAnswers};
+ghost use Rattle.cli_scripts.specs.Answers.{AreAnswers, handed_lines};
 ghost use Rattle.cli_scripts.specs.Machines.{AnswersSo};
+ghost use Rattle.cli_scripts.specs.declared.came.Need.TheVariants.{Connection, Layout, Page};
+ghost use Rattle.cli_scripts.specs.Runs.{GivesLine, GivesNeed, HasEnded, IsEndAt, Ran, Turned, handed_due_of, need_of};
 ghost use Rattle.cli_scripts.specs.Worlds.{Exchanged, Took, Tells, TellsAll, is_need};
 ghost use Rattle.cli_scripts.specs.declared.run.Ended.TheVariants.{Over};
 ghost use Rattle.cli_commands.specs.declared.status.Status.TheVariants.{Done, Findings, NoMemory};
@@ -80,15 +82,22 @@ impl From<CommandError> for Ended {
 fn take_line<R: GivesBytes>(
     alloc: Global,
     machine: &mut Machine,
-    script: &mut Script<'_, R>,
+    script: &mut R,
+    lines: &mut Script,
 ) -> Result<Wants, Ended>
     requires { machine.old.is_busy ≡ false }
     ensures desk { Keeps machine.old.desk machine.new.desk }
     ensures gone { machine.new.telling.gone ≡ machine.old.telling.gone }
     ensures answered { IfOk result (λ wants. AnswersSo true machine.old wants machine.new) }
+    ensures gives { IfOk result (λ wants. GivesLine machine.old wants machine.new
+        (prepend_known lines.old.ahead (R.remaining script.old))
+        (prepend_known lines.new.ahead (R.remaining script.new))) }
+    ensures same { result ≡ Err Over → machine.new ≡ machine.old }
+    ensures ended { result ≡ Err Over
+        → HasEnded (prepend_known lines.old.ahead (R.remaining script.old)) }
 {
-    match script.next()? {
-        Asked::Line(line) => Ok(machine.take(alloc, Came::Line(line))?),
+    match lines.advance(script)? {
+        Asked::Line => Ok(machine.take(alloc, Came::Line(lines.line()))?),
         Asked::LongLine => Ok(machine.take(alloc, Came::LongLine)?),
         Asked::End => Err(Ended::Over),
     }
@@ -106,6 +115,8 @@ fn take_read<W: World>(
         (W.received world.old) (W.received world.new) }
     ensures gone { machine.new.telling.gone ≡ machine.old.telling.gone }
     ensures answered { IfOk result (λ wants. AnswersSo true machine.old wants machine.new) }
+    ensures gives { IfOk result (λ wants. GivesNeed (need_of patience) machine.old wants machine.new
+        (W.received world.old) (W.received world.new)) }
 {
     let mut piece = [0; PIECE];
     match world.read(&mut piece, patience) {
@@ -130,6 +141,8 @@ fn take_connection<W: World>(
         (W.received world.old) (W.received world.new) }
     ensures gone { machine.new.telling.gone ≡ machine.old.telling.gone }
     ensures answered { IfOk result (λ wants. AnswersSo true machine.old wants machine.new) }
+    ensures gives { IfOk result (λ wants. GivesNeed Connection machine.old wants machine.new
+        (W.received world.old) (W.received world.new)) }
 {
     let mut cause = Vec::new(alloc);
     let connected = match machine.wanted_host() {
@@ -154,6 +167,8 @@ fn take_page<W: World>(
         (W.received world.old) (W.received world.new) }
     ensures gone { machine.new.telling.gone ≡ machine.old.telling.gone }
     ensures answered { IfOk result (λ wants. AnswersSo true machine.old wants machine.new) }
+    ensures gives { IfOk result (λ wants. GivesNeed Page machine.old wants machine.new
+        (W.received world.old) (W.received world.new)) }
 {
     let mut cause = Vec::new(alloc);
     let written = match machine.wanted_file() {
@@ -178,6 +193,8 @@ fn take_layout<W: World>(
         (W.received world.old) (W.received world.new) }
     ensures gone { machine.new.telling.gone ≡ machine.old.telling.gone }
     ensures answered { IfOk result (λ wants. AnswersSo true machine.old wants machine.new) }
+    ensures gives { IfOk result (λ wants. GivesNeed Layout machine.old wants machine.new
+        (W.received world.old) (W.received world.new)) }
 {
     let mut text = Vec::new(alloc);
     let read = match machine.wanted_file() {
@@ -203,6 +220,8 @@ fn give<W: World>(
         (W.received world.old) (W.received world.new) }
     ensures gone { machine.new.telling.gone ≡ machine.old.telling.gone }
     ensures answered { IfOk result (λ wants. AnswersSo true machine.old wants machine.new) }
+    ensures gives { IfOk result (λ wants. GivesNeed need machine.old wants machine.new
+        (W.received world.old) (W.received world.new)) }
 {
     match need {
         Need::Arrived => take_read(alloc, machine, world, Patience::None),
@@ -226,7 +245,8 @@ fn give<W: World>(
 fn turn<R: GivesBytes, W: World>(
     alloc: Global,
     machine: &mut Machine,
-    script: &mut Script<'_, R>,
+    script: &mut R,
+    lines: &mut Script,
     world: &mut W,
     wants: Wants,
     held_back: &History<u8>,
@@ -237,9 +257,17 @@ fn turn<R: GivesBytes, W: World>(
         (W.received world.old) (W.received world.new) }
     ensures gone { machine.new.telling.gone ≡ machine.old.telling.gone }
     ensures answered { IfOk result (λ wants. AnswersSo true machine.old wants machine.new) }
+    ensures turned { IfOk result (λ next. Turned wants machine.old next machine.new
+        (prepend_known lines.old.ahead (R.remaining script.old))
+        (prepend_known lines.new.ahead (R.remaining script.new)) (W.received world.old)
+        (W.received world.new)) }
+    ensures same { result ≡ Err Over → machine.new ≡ machine.old }
+    ensures ended { result ≡ Err Over
+        → IsEndAt wants (prepend_known lines.old.ahead (R.remaining script.old)) }
+    ensures silent { result ≡ Err Over → W.received world.new ≡ W.received world.old }
 {
     match wants {
-        Wants::Line => take_line(alloc, machine, script),
+        Wants::Line => take_line(alloc, machine, script, lines),
         Wants::Nothing => Err(Ended::Over),
         Wants::Need(need) => Ok(give(alloc, machine, world, need)?),
     }
@@ -247,7 +275,7 @@ fn turn<R: GivesBytes, W: World>(
 
 /// Sends what is due to the host, and ends the line to it where the session is over.
 fn send<W: World>(machine: &mut Machine, world: &mut W)
-    ensures { (given : List ℕ) × (machine.new.desk.gone ≡ machine.old.desk.gone ++ given)
+    ensures sends { (given : List ℕ) × (machine.new.desk.gone ≡ machine.old.desk.gone ++ given)
         × (W.sent world.new ≡ W.sent world.old ++ given)
         × (machine.new.desk.heard ≡ machine.old.desk.heard)
         × (W.received world.new ≡ W.received world.old)
@@ -256,6 +284,7 @@ fn send<W: World>(machine: &mut Machine, world: &mut W)
         × (machine.new.desk.judged ≡ machine.old.desk.judged)
         × (machine.new.desk.unjudged ≡ machine.old.desk.unjudged)
         × (machine.new.desk.collects ≡ machine.old.desk.collects) }
+    ensures handed { machine.new ≡ handed_due_of machine.old }
 {
     if !machine.due().is_empty() {
         world.write(machine.due());
@@ -277,6 +306,8 @@ fn answer<O: TakesBytes>(machine: &mut Machine, output: &mut O, held_back: &mut 
         (O.contents output.new)) }
     ensures desk { machine.new.desk ≡ machine.old.desk }
     ensures busy { machine.new.is_busy ≡ machine.old.is_busy }
+    ensures handed { machine.new
+        ≡ record machine.old { telling = handed_lines machine.old.telling } }
 {
     let taken = write_lines(output, held_back, machine.lines());
     machine.hand_out_lines();
@@ -352,7 +383,8 @@ fn end_report<P: TakesBytes>(
 fn work<R: GivesBytes, O: TakesBytes, P: TakesBytes, W: World>(
     alloc: Global,
     machine: &mut Machine,
-    script: &mut Script<'_, R>,
+    script: &mut R,
+    lines: &mut Script,
     output: &mut O,
     world: &mut W,
     judge: &mut Judge,
@@ -367,12 +399,15 @@ fn work<R: GivesBytes, O: TakesBytes, P: TakesBytes, W: World>(
     ensures judged { result.ended ≡ Over → Judges machine.old.desk machine.new.desk judge.old
         judge.new result.is_told (P.contents report.old) (P.contents report.new) }
     ensures all { result.ended ≡ Over → machine.new.desk.unjudged ≡ [] }
+    ensures ran { result.ended ≡ Over → Ran machine.old machine.new
+        (prepend_known lines.old.ahead (R.remaining script.old)) (W.received world.old)
+        (W.received world.new) }
 {
     let mut wants = Wants::Line;
     let mut held_back = History::new();
     let mut is_told = true;
     'turns: for _turn in 0..u64::MAX {
-        let given = turn(alloc, machine, script, world, wants, &held_back);
+        let given = turn(alloc, machine, script, lines, world, wants, &held_back);
         match inspect(alloc, machine, judge, report, is_told) {
             Ok(told) => is_told = told,
             Err(AllocError) => return finished(Ended::NoMemory, false),
@@ -455,12 +490,17 @@ pub fn run_script<R: GivesBytes, O: TakesBytes, P: TakesBytes, W: World>(
     ensures judged { IsOver result → JudgesAll machine.old.desk machine.new.desk judge.old
         judge.new (P.contents report.old) (P.contents report.new) }
     ensures findings { IsOver result → HasFindings result judge.new.has_findings }
+    // The script's lines, what came of hosts, and the rest that came led, in turn, from one terminal to the other.
+    ensures ran { IsOver result → Ran machine.old machine.new (R.remaining script.old)
+        (W.received world.old) (W.received world.new) }
 {
-    let Ok(mut lines) = Script::new(alloc, script) else {
+    let Ok(mut lines) = Script::new(alloc) else {
         attest(machine);
         return Status::NoMemory;
     };
-    let finish = work(alloc, machine, &mut lines, output, world, judge, report);
+    let finish = work(
+        alloc, machine, script, &mut lines, output, world, judge, report,
+    );
     attest(machine);
     conclude(alloc, judge, report, finish)
 }

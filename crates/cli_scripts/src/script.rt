@@ -1,5 +1,10 @@
 //! The lines of a script, as they are read.
 
+ghost use Rattle.std.specs.Prelude.{◌≡◌, [], IfOk, IfSome};
+ghost use Rattle.std.specs.Io.KnownBytes.{prepend_known};
+ghost use Rattle.bstr.specs.Text.{without_terminator};
+ghost use Rattle.cli_scripts.specs.Runs.{AsksFor};
+
 use cli_commands::{CommandError, GivesBytes, ReadAhead, next_line, without_end};
 use std::alloc::{AllocError, Global};
 
@@ -9,24 +14,26 @@ const MOST_BYTES: usize = 65_536;
 /// How many bytes are read ahead at most.
 const MOST_AHEAD: usize = 65_536;
 
+/// A line of more bytes, without its end, may go on behind what was read of it.
+const MOST_READ: usize = 16_777_216;
+
 /// How many times what is left of a line is read at most.
 const MOST_PARTS: u64 = 4_294_967_296;
 
 /// What a read of the script gave.
-#[derive(Clone, Copy, Debug)]
-pub(crate) enum Asked<'a> {
-    /// A line, without its end.
-    Line(&'a [u8]),
+#[derive(Clone, Copy, Debug, PartialEq, Eq)]
+pub(crate) enum Asked {
+    /// A line.
+    Line,
     /// A line of more than 65,536 bytes, which was read to its end.
     LongLine,
     /// The script's end.
     End,
 }
 
-/// The lines of a script.
+/// The lines of a script: what was read ahead of it, and the last line that was read, with its end.
 #[derive(Drop)]
-pub(crate) struct Script<'a, R: GivesBytes> {
-    reader: &'a mut R,
+pub(crate) struct Script {
     ahead: ReadAhead,
     line: Vec<u8>,
 }
@@ -38,22 +45,23 @@ fn has_end(line: &[u8]) -> bool {
     }
 }
 
-impl<'a, R: GivesBytes> Script<'a, R> {
-    pub(crate) fn new(alloc: Global, reader: &'a mut R) -> Result<Script<'a, R>, AllocError> {
+impl Script {
+    pub(crate) fn new(alloc: Global) -> Result<Script, AllocError>
+        ensures { IfOk result (λ script. script.ahead ≡ []) }
+    {
         Ok(Script {
-            reader,
             ahead: ReadAhead::new(alloc, MOST_AHEAD)?,
             line: Vec::new(alloc),
         })
     }
 
     /// Reads what is left of a line that is too long.
-    fn pass(&mut self) -> Result<(), CommandError> {
+    fn pass<R: GivesBytes>(&mut self, reader: &mut R) -> Result<(), CommandError> {
         'parts: for _part in 0..MOST_PARTS {
             if has_end(&self.line) {
                 return Ok(());
             }
-            if !next_line(self.reader, &mut self.ahead, &mut self.line)? {
+            if !next_line(reader, &mut self.ahead, &mut self.line)? {
                 return Ok(());
             }
         }
@@ -61,14 +69,28 @@ impl<'a, R: GivesBytes> Script<'a, R> {
     }
 
     /// Reads the next line.
-    pub(crate) fn next(&mut self) -> Result<Asked<'_>, CommandError> {
-        if !next_line(self.reader, &mut self.ahead, &mut self.line)? {
+    pub(crate) fn advance<R: GivesBytes>(&mut self, reader: &mut R) -> Result<Asked, CommandError>
+        ensures { IfSome (prepend_known self.old.ahead (R.remaining reader.old)) (λ bytes.
+            IfOk result (λ asked. AsksFor bytes asked (without_terminator self.new.line.items)
+            (prepend_known self.new.ahead (R.remaining reader.new)))) }
+    {
+        if !next_line(reader, &mut self.ahead, &mut self.line)? {
             return Ok(Asked::End);
         }
-        if MOST_BYTES < without_end(&self.line).len() {
-            self.pass()?;
-            return Ok(Asked::LongLine);
+        let length = without_end(&self.line).len();
+        if length <= MOST_BYTES {
+            return Ok(Asked::Line);
         }
-        Ok(Asked::Line(without_end(&self.line)))
+        if MOST_READ < length {
+            self.pass(reader)?;
+        }
+        Ok(Asked::LongLine)
+    }
+
+    /// The line that was read last, without its end.
+    pub(crate) fn line(&self) -> &[u8]
+        ensures { result.now ≡ without_terminator self.now.line.items }
+    {
+        without_end(&self.line)
     }
 }

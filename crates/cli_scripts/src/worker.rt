@@ -2,7 +2,7 @@
 
 ghost use Rattle.std.specs.Prelude.{◌≡◌, map, is_some, IfOk, OnOk};
 ghost use Rattle.script_keys.specs.Actions.{read_action};
-ghost use Rattle.cli_scripts.specs.Acts.{Acts, PressesAs, PressesNone, PressesOnly};
+ghost use Rattle.cli_scripts.specs.Acts.{Acts, MayRead, PressesAs, PressesNone, PressesOnly};
 ghost use Rattle.cli_scripts.specs.Desks.{Keeps};
 ghost use Rattle.cli_scripts.specs.Machines.{HearsCame};
 ghost use Rattle.cli_scripts.specs.Performs.{Goes};
@@ -172,7 +172,7 @@ impl Worker {
         ensures keeps { Keeps self.old.desk self.new.desk }
         ensures page { self.new.code_page ≡ self.old.code_page }
         ensures set { SetsAs kind self.old self.new }
-        ensures deeds { PressesNone self.old.desk self.new.desk }
+        ensures acts { PressesAs kind self.old.desk self.new.desk }
         ensures says { IfOk result (λ step. EndsAnswering kind
             (map (λ argument. argument.items) arguments.now) self.old step self.new) }
     {
@@ -284,7 +284,7 @@ impl Worker {
         ensures keeps { Keeps self.old.desk self.new.desk }
         ensures page { self.new.code_page ≡ self.old.code_page }
         ensures set { KeepsSet self.old self.new }
-        ensures deeds { PressesNone self.old.desk self.new.desk }
+        ensures deeds { MayRead self.old.desk self.new.desk }
         ensures says { IfOk result (λ step.
             Prints (printing_of (map (λ argument. argument.items) arguments.now)) self.old step
             self.new) }
@@ -309,7 +309,7 @@ impl Worker {
         ensures keeps { Keeps self.old.desk self.new.desk }
         ensures page { self.new.code_page ≡ self.old.code_page }
         ensures set { SetsAs kind self.old self.new }
-        ensures deeds { PressesNone self.old.desk self.new.desk }
+        ensures acts { PressesAs kind self.old.desk self.new.desk }
         ensures says { IfOk result (λ outcome. Answers kind
             (map (λ argument. argument.items) arguments.now) self.old outcome self.new) }
     {
@@ -357,7 +357,7 @@ impl Worker {
         ensures keeps { Keeps self.old.desk self.new.desk }
         ensures page { self.new.code_page ≡ self.old.code_page }
         ensures set { KeepsSet self.old self.new }
-        ensures deeds { PressesNone self.old.desk self.new.desk }
+        ensures deeds { MayRead self.old.desk self.new.desk }
         ensures reads { IfOk result (λ outcome. Reads self.old.code_page reading
             (map (λ argument. argument.items) arguments.now) self.old.desk self.old.saying outcome
             self.new.desk self.new.saying) }

@@ -1,11 +1,15 @@
-use Rattle.std.proofs.Common.{refl, sym, ap, ◌∙◌, subst}
+use Rattle.std.proofs.Common.{◌≡◌, Err, refl, sym, ap, ◌∙◌, subst}
+use Rattle.std.specs.Io.KnownBytes.{prepend_known}
 use Rattle.std.proofs.lemmas.Bool.{OnTrue_at}
-use Rattle.cli_scripts.specs.Answers.{Telling}
+use Rattle.cli_scripts.specs.Answers.{Telling, handed_lines}
+use Rattle.cli_scripts.specs.declared.run.Ended.TheVariants.{Over}
 use Rattle.cli_scripts.specs.declared.run.Finish.{Finish}
 use Rattle.cli_scripts.specs.Desks.{Worked}
 use Rattle.cli_scripts.specs.Judged.{Judges}
 use Rattle.cli_scripts.specs.Machines.{Scripted}
+use Rattle.cli_scripts.specs.Runs.{handed_desk, handed_due_of}
 use Rattle.cli_scripts.proofs.JudgedLaws.{judges_more}
+use Rattle.cli_scripts.proofs.RunLaws.{goes_more, goes_none, ran_so}
 use Rattle.cli_scripts.proofs.WorkLaws.{busy_after, exchanged_more, told_all, told_front, told_more}
 use Rattle.cli_scripts.proofs.run.work.Goals as goal
 
@@ -19,13 +23,13 @@ pub returns-in-Err-given-clause-told : goal.returns-in-Err-given-clause-told
 returns-in-Err-given-clause-told g c =
     told_front c.args.machine.now c.turns.machine c.send.new.machine (g.O.TakesBytes.contents c.args.output.now)
     (g.O.TakesBytes.contents c.turns.output) c.turns.invariant.told
-    (ap (λ (t : Telling). t.gone) c.send.ensures.5 ∙ ap (λ (m : Scripted). m.telling.gone) c.in-Ok.ensures.machine ∙ c.turn-given.ensures.gone)
+    (ap (λ (t : Telling). t.gone) c.send.ensures.sends.5 ∙ ap (λ (m : Scripted). m.telling.gone) c.in-Ok.ensures.machine ∙ c.turn-given.ensures.gone)
 
 pub returns-then-not-answer-clause-told : goal.returns-then-not-answer-clause-told
 returns-then-not-answer-clause-told g c =
     told_more c.args.machine.now c.turns.machine c.send.new.machine c.answer.new.machine (g.O.TakesBytes.contents c.args.output.now)
     (g.O.TakesBytes.contents c.turns.output) (g.O.TakesBytes.contents c.answer.new.output) c.turns.invariant.told
-    (ap (λ (t : Telling). t.gone) c.send.ensures.5 ∙ ap (λ (m : Scripted). m.telling.gone) c.in-Ok.ensures.machine ∙ c.turn-given.ensures.gone)
+    (ap (λ (t : Telling). t.gone) c.send.ensures.sends.5 ∙ ap (λ (m : Scripted). m.telling.gone) c.in-Ok.ensures.machine ∙ c.turn-given.ensures.gone)
     c.if-not-answer.ensures.told
 
 pub returns-in-Err-given-clause-judged : goal.returns-in-Err-given-clause-judged
@@ -35,14 +39,14 @@ returns-in-Err-given-clause-judged g c =
     (judges_more c.args.machine.now.desk c.turns.machine.desk c.turn-given.new.machine.desk c.send.new.machine.desk c.args.judge.now c.turns.judge
     c.inspect.new.judge c.turns.is_told c.in-Ok.told (g.P.TakesBytes.contents c.args.report.now) (g.P.TakesBytes.contents c.turns.report)
     (g.P.TakesBytes.contents c.inspect.new.report) c.turns.invariant.judged c.turn-given.ensures.took.judged c.turn-given.ensures.took.collects
-    (c.send.ensures.7 ∙ ap (λ (m : Scripted). m.desk.judged) c.in-Ok.ensures.machine)
-    (c.send.ensures.9 ∙ ap (λ (m : Scripted). m.desk.collects) c.in-Ok.ensures.machine) c.in-Ok.ensures.after c.in-Ok.ensures.before
+    (c.send.ensures.sends.7 ∙ ap (λ (m : Scripted). m.desk.judged) c.in-Ok.ensures.machine)
+    (c.send.ensures.sends.9 ∙ ap (λ (m : Scripted). m.desk.collects) c.in-Ok.ensures.machine) c.in-Ok.ensures.after c.in-Ok.ensures.before
     c.in-Ok.ensures.reported)
 
 pub turns-preserved : goal.turns-preserved
 turns-preserved g c =
     let handed = c.in-Ok.ensures.machine in
-    let sends = c.send.ensures in
+    let sends = c.send.ensures.sends in
     record {
       exchanged = exchanged_more c.args.machine.now.desk c.turns.machine.desk c.turn-given.new.machine.desk c.inspect.new.machine.desk
           c.send.new.machine.desk c.answer.new.machine.desk (g.W.World.sent c.args.world.now) (g.W.World.sent c.turns.world)
@@ -64,7 +68,25 @@ turns-preserved g c =
       busy = c.answer.ensures.busy ∙ sends.6 ∙ ap (λ (m : Scripted). m.is_busy) handed
           ∙ busy_after c.in-Ok-given.next c.turns.machine c.turn-given.new.machine c.in-Ok-given.ensures.answered;
       passed = OnTrue_at c.if-not-answer.false c.answer.ensures.passed;
+      going = goes_more c.args.machine.now c.turns.machine c.turn-given.new.machine c.answer.new.machine c.turns.wants c.in-Ok-given.next
+          (prepend_known c.args.lines.now.ahead (g.R.GivesBytes.remaining c.args.script.now))
+          (prepend_known c.turns.lines.ahead (g.R.GivesBytes.remaining c.turns.script))
+          (prepend_known c.turn-given.new.lines.ahead (g.R.GivesBytes.remaining c.turn-given.new.script)) (g.W.World.received c.args.world.now)
+          (g.W.World.received c.turns.world) (g.W.World.received c.turn-given.new.world) (g.W.World.received c.send.new.world)
+          c.turns.invariant.going c.in-Ok-given.ensures.turned
+          (c.answer.ensures.handed ∙ ap (λ (m : Scripted). record m { telling = handed_lines m.telling })
+          (c.send.ensures.handed ∙ ap handed_due_of handed)) sends.4;
     }
+
+pub returns-in-Err-given-clause-ran : goal.returns-in-Err-given-clause-ran
+returns-in-Err-given-clause-ran g c =
+    λ over. let at = c.in-Err-given.is ∙ ap Err (sym (ap (λ (f : Finish). f.ended) c.finished-in-Err-given.ensures) ∙ over) in
+    ran_so c.args.machine.now c.turns.machine c.send.new.machine c.turns.wants
+    (prepend_known c.args.lines.now.ahead (g.R.GivesBytes.remaining c.args.script.now))
+    (prepend_known c.turns.lines.ahead (g.R.GivesBytes.remaining c.turns.script)) (g.W.World.received c.args.world.now)
+    (g.W.World.received c.turns.world) (g.W.World.received c.send.new.world) c.turns.invariant.going (c.turn-given.ensures.ended at)
+    (c.send.ensures.handed ∙ ap handed_due_of c.in-Ok.ensures.machine ∙ ap handed_desk (c.turn-given.ensures.same at))
+    (c.send.ensures.sends.4 ∙ c.turn-given.ensures.silent at)
 
 pub returns-clause-told : goal.returns-clause-told
 returns-clause-told g c =

@@ -1,5 +1,7 @@
 use Rattle.std.proofs.Common.{◌≡◌, []}
+use Rattle.std.specs.Io.KnownBytes.{prepend_known}
 use Rattle.cli_scripts.specs.Judged.{Judges}
+use Rattle.cli_scripts.specs.Runs.{Goes}
 use Rattle.cli_scripts.specs.Worlds.{Exchanged, TellsAll, is_need}
 use Rattle.cli_scripts.proofs.run.work.Given as goal
 
@@ -13,4 +15,6 @@ invariant-turns g l =
           (g.P.TakesBytes.contents l.report);
       busy : l.machine.is_busy ≡ is_need l.wants;
       passed : l.held_back.items ≡ [];
+      going : Goes l.initial.machine l.wants l.machine (prepend_known l.initial.lines.ahead (g.R.GivesBytes.remaining l.initial.script))
+          (prepend_known l.lines.ahead (g.R.GivesBytes.remaining l.script)) (g.W.World.received l.initial.world) (g.W.World.received l.world);
     }

@@ -1,5 +1,5 @@
 use Rattle.std.proofs.lemmas.Result.{on_ok_weaker}
-use Rattle.cli_scripts.proofs.ActLaws.{more_pressed}
+use Rattle.cli_scripts.proofs.Typed.{more_pressed}
 use Rattle.cli_scripts.proofs.typing.type_free.Goals as goal
 
 pub returns-in-End-clause-deeds : goal.returns-in-End-clause-deeds

@@ -1,7 +1,7 @@
 use Rattle.std.proofs.Common.{◌∙◌, ap, subst, sym, inl, inr}
 use Rattle.tn_session.specs.declared.pressed.Pressed.{Pressed}
 use Rattle.cli_scripts.specs.TypedTexts.{goes_on, StoppedAt}
-use Rattle.cli_scripts.proofs.ActLaws.{more_pressed}
+use Rattle.cli_scripts.proofs.Typed.{more_pressed}
 use Rattle.cli_scripts.proofs.TextLaws.{goes_further, piece_after}
 use Rattle.cli_scripts.proofs.typing.type_pieces.Goals as goal
 

@@ -25,25 +25,26 @@ nothing device deeds heard gone due talk collects judged unjudged none unheard u
 pub invariant_of-result : goal.invariant_of-result
 invariant_of-result c =
     nothing c.args.device c.new-2.result.items c.new-3.result.items c.new-4.result.items c.new.result.items c.in_ok-new_session.field-0.talk
-    c.args.collects c.new-5.result.items c.new-6.result.items c.new-2.ensures c.new-3.ensures c.new-4.ensures c.new.ensures.items
-    (ap (λ w. w.talk) c.in_ok-new_session.ensures) c.new-5.ensures c.new-6.ensures.items
+    c.args.collects c.new-5.result.items c.new-6.result.items c.in_ok-new_session.field-0.told.taken c.new-2.ensures c.new-3.ensures c.new-4.ensures
+    c.new.ensures.items (ap (λ w. w.talk) c.in_ok-new_session.ensures) c.new-5.ensures c.new-6.ensures.items (ap (λ w. w.told.taken) c.in_ok-new_session.ensures)
 
 -- each part of a desk
 parts : (device : Device) (collects : Bool) (deeds : List Deed) (heard gone due : List ℕ) (talk : Talk TerminalState) (judged unjudged : List SentOn)
-    → deeds ≡ [] → heard ≡ [] → gone ≡ [] → due ≡ [] → talk ≡ new_talk device → judged ≡ [] → unjudged ≡ []
-    → record (desk_of device collects) { talk = talk; deeds = deeds; heard = heard; gone = gone; due = due; judged = judged; unjudged = unjudged }
+    (told : ℕ) → deeds ≡ [] → heard ≡ [] → gone ≡ [] → due ≡ [] → talk ≡ new_talk device → judged ≡ [] → unjudged ≡ [] → told ≡ 0
+    → record (desk_of device collects) { talk = talk; deeds = deeds; heard = heard; gone = gone; due = due; judged = judged; unjudged = unjudged; told = told }
     ≡ desk_of device collects
-parts device collects deeds heard gone due talk judged unjudged none unheard ungone undue is unseen unkept =
-    ap (λ z. record (desk_of device collects) { talk = z; deeds = deeds; heard = heard; gone = gone; due = due; judged = judged; unjudged = unjudged }) is
-    ∙ ap (λ z. record (desk_of device collects) { deeds = z; heard = heard; gone = gone; due = due; judged = judged; unjudged = unjudged }) none
-    ∙ ap (λ z. record (desk_of device collects) { heard = z; gone = gone; due = due; judged = judged; unjudged = unjudged }) unheard
-    ∙ ap (λ z. record (desk_of device collects) { gone = z; due = due; judged = judged; unjudged = unjudged }) ungone
-    ∙ ap (λ z. record (desk_of device collects) { due = z; judged = judged; unjudged = unjudged }) undue
-    ∙ ap (λ z. record (desk_of device collects) { judged = z; unjudged = unjudged }) unseen
-    ∙ ap (λ z. record (desk_of device collects) { unjudged = z }) unkept
+parts device collects deeds heard gone due talk judged unjudged told none unheard ungone undue is unseen unkept untold =
+    ap (λ z. record (desk_of device collects) { talk = z; deeds = deeds; heard = heard; gone = gone; due = due; judged = judged; unjudged = unjudged; told = told }) is
+    ∙ ap (λ z. record (desk_of device collects) { deeds = z; heard = heard; gone = gone; due = due; judged = judged; unjudged = unjudged; told = told }) none
+    ∙ ap (λ z. record (desk_of device collects) { heard = z; gone = gone; due = due; judged = judged; unjudged = unjudged; told = told }) unheard
+    ∙ ap (λ z. record (desk_of device collects) { gone = z; due = due; judged = judged; unjudged = unjudged; told = told }) ungone
+    ∙ ap (λ z. record (desk_of device collects) { due = z; judged = judged; unjudged = unjudged; told = told }) undue
+    ∙ ap (λ z. record (desk_of device collects) { judged = z; unjudged = unjudged; told = told }) unseen
+    ∙ ap (λ z. record (desk_of device collects) { unjudged = z; told = told }) unkept
+    ∙ ap (λ (n : ℕ). record (desk_of device collects) { told = n }) untold
 
 pub returns : goal.returns
 returns c =
     parts c.args.device c.args.collects c.new-2.result.items c.new-3.result.items c.new-4.result.items c.new.result.items
-    c.in_ok-new_session.field-0.talk c.new-5.result.items c.new-6.result.items c.new-2.ensures c.new-3.ensures c.new-4.ensures c.new.ensures.items
-    (ap (λ w. w.talk) c.in_ok-new_session.ensures) c.new-5.ensures c.new-6.ensures.items
+    c.in_ok-new_session.field-0.talk c.new-5.result.items c.new-6.result.items c.in_ok-new_session.field-0.told.taken c.new-2.ensures c.new-3.ensures c.new-4.ensures
+    c.new.ensures.items (ap (λ w. w.talk) c.in_ok-new_session.ensures) c.new-5.ensures c.new-6.ensures.items (ap (λ w. w.told.taken) c.in_ok-new_session.ensures)

@@ -1,6 +1,6 @@
 use Rattle.std.proofs.Common.{◌≡◌, ◌++◌, map, take}
 use Rattle.script_keys.specs.Runs.{keys_of}
-use Rattle.cli_scripts.specs.Pressing.{after_keys, any_inhibited}
+use Rattle.cli_scripts.specs.Pressing.{after_keys, all_typed_at, any_inhibited}
 use Rattle.cli_scripts.specs.declared.deed.Deed.TheVariants.{Pressed}
 use Rattle.cli_scripts.specs.Desks.{KeepsScreens}
 use Rattle.cli_scripts.proofs.desk.Desk.press_runs.Given as goal
@@ -15,4 +15,5 @@ invariant-runs l =
       host : l.self.host ≡ l.initial.self.host;
       talk : l.self.talk ≡ after_keys l.initial.self.talk (keys_of (take l.run-index l.runs));
       inhibited : l.inhibited ≡ any_inhibited l.initial.self.talk (keys_of (take l.run-index l.runs));
+      typed : l.self ≡ all_typed_at l.initial.self (keys_of (take l.run-index l.runs));
     }

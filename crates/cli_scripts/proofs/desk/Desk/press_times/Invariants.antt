@@ -1,5 +1,5 @@
 use Rattle.std.proofs.Common.{◌≡◌, ◌++◌, replicate}
-use Rattle.cli_scripts.specs.Pressing.{after_keys, any_inhibited}
+use Rattle.cli_scripts.specs.Pressing.{after_keys, all_typed_at, any_inhibited}
 use Rattle.cli_scripts.specs.declared.deed.Deed.TheVariants.{Pressed}
 use Rattle.cli_scripts.specs.Desks.{KeepsScreens}
 use Rattle.cli_scripts.proofs.desk.Desk.press_times.Given as goal
@@ -14,4 +14,5 @@ invariant-times l =
       host : l.self.host ≡ l.initial.self.host;
       talk : l.self.talk ≡ after_keys l.initial.self.talk (replicate l._time l.key);
       inhibited : l.inhibited ≡ any_inhibited l.initial.self.talk (replicate l._time l.key);
+      typed : l.self ≡ all_typed_at l.initial.self (replicate l._time l.key);
     }

@@ -10,5 +10,5 @@ invariant_of-self c =
 
 pub returns-clause-renewed : goal.returns-clause-renewed
 returns-clause-renewed c =
-    renewed_is _ c.args.self.now c.in_ok-session.session.talk c.and-self-inside.result.items c.self.view_is (ap (λ w. w.talk) c.in_ok-session.ensures)
-    c.and-self-inside.ensures
+    renewed_is _ c.args.self.now c.in_ok-session.session.talk c.and-self-inside.result.items c.in_ok-session.session.told.taken c.self.view_is
+    (ap (λ w. w.talk) c.in_ok-session.ensures) c.and-self-inside.ensures (ap (λ w. w.told.taken) c.in_ok-session.ensures)
