@@ -1,6 +1,7 @@
 -- What came of a script and of hosts, in turn.
-use Rattle.std.proofs.Common.{◌≡◌, ◌≢◌, ◌++◌, ◌∷◌, ◌≤◌, ◌<◌, ℕ, Bool, true, false, nat_lt, cond, List, [], map, length, None, Some, Ok, Err, sym, ap, ◌∙◌, subst, refl, arith, inl, inr, append_assoc}
-use Rattle.std.specs.Prelude.{Option, Result, All, IfOk, IfSome}
+use Rattle.std.proofs.Common.{◌≡◌, ◌≢◌, ◌++◌, ◌∷◌, ◌≤◌, ◌<◌, ℕ, Bool, true, false, nat_lt, cond, List, [], map, length, take, None, Some, Ok, Err, sym, ap, ◌∙◌, subst, refl, arith, inl, inr, append_assoc}
+use Rattle.std.specs.Prelude.{Option, Result, All, IfOk, IfSome, min}
+use Rattle.std.proofs.Math.Nat.{min-eq_left}
 use Rattle.std.specs.declared.alloc.AllocError.{AllocError}
 use Rattle.std.specs.Io.KnownBytes.{prepend_known}
 use Rattle.bstr.specs.Text.{without_terminator}
@@ -213,6 +214,15 @@ pub late_meets : (patience : Patience) → patience ≢ patiences.None → Meets
 late_meets patiences.None waits = absurd (waits refl)
 late_meets patiences.Endless waits = tt
 late_meets (patiences.Within limit begins) waits = tt
+
+pub never_both : (b : Bool) → b ≡ true → b ≡ false → ⊥
+never_both b is isnt = subst (λ (t : Bool). cond t (Unit {0}) ⊥) (sym is ∙ isnt) tt
+
+-- so many bytes at the front of a buffer, which it holds
+pub front_read : (count most found : ℕ) (piece before after : List ℕ) → found ≡ min count most → length piece ≡ most
+    → (count ≤ length piece) × (after ≡ before ++ take count piece) → after ≡ before ++ take found piece
+front_read count most found piece before after is full (fits, grows) =
+    grows ∙ ap (λ (n : ℕ). before ++ take n piece) (sym (is ∙ min-eq_left (subst (λ (n : ℕ). count ≤ n) full fits)))
 
 -- one need is another
 pub gave_for : (r : Result Wants AllocError) (need other : Need) (old new : Scripted) (received new_received : List ℕ) → need ≡ other
