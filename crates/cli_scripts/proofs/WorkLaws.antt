@@ -49,6 +49,20 @@ exchanged_more old before mid handed new end sent sent_mid sent_now sent_end rec
       came = comes ∙ t.came ∙ ap (λ z. z ++ t.heard) i.came ∙ append_assoc received i.heard t.heard;
     }
 
+-- what was exchanged, and then what a turn heard alone
+pub exchanged_then : (old before mid : Worked) (sent sent_mid sent_now received received_mid received_now : List ℕ)
+    → Exchanged old before sent sent_mid received received_mid → Took before mid sent_mid sent_now received_mid received_now
+    → Exchanged old mid sent sent_now received received_now
+exchanged_then old before mid sent sent_mid sent_now received received_mid received_now i t =
+    record {
+      given = i.given;
+      heard = i.heard ++ t.heard;
+      gone = t.gone ∙ i.gone;
+      went = t.went ∙ i.went;
+      took = t.took ∙ ap (λ z. z ++ t.heard) i.took ∙ append_assoc old.heard i.heard t.heard;
+      came = t.came ∙ ap (λ z. z ++ t.heard) i.came ∙ append_assoc received i.heard t.heard;
+    }
+
 -- a line is under way where something is needed for it
 pub busy_after : (wants : Wants) (old new : Scripted) → AnswersSo true old wants new → new.is_busy ≡ is_need wants
 busy_after Line old new answers = answers.1

@@ -8,9 +8,10 @@ use Rattle.cli_scripts.specs.Desks.{Worked}
 use Rattle.cli_scripts.specs.Judged.{Judges}
 use Rattle.cli_scripts.specs.Machines.{Scripted}
 use Rattle.cli_scripts.specs.Runs.{handed_desk, handed_due_of}
+use Rattle.cli_scripts.specs.Worlds.{Exchanged}
 use Rattle.cli_scripts.proofs.JudgedLaws.{judges_more}
 use Rattle.cli_scripts.proofs.RunLaws.{goes_more, goes_none, ran_so}
-use Rattle.cli_scripts.proofs.WorkLaws.{busy_after, exchanged_more, told_all, told_front, told_more}
+use Rattle.cli_scripts.proofs.WorkLaws.{busy_after, exchanged_more, exchanged_then, told_all, told_front, told_more}
 use Rattle.cli_scripts.proofs.run.work.Goals as goal
 
 pub returns-in-Err-clause-told : goal.returns-in-Err-clause-told
@@ -42,6 +43,25 @@ returns-in-Err-given-clause-judged g c =
     (c.send.ensures.sends.7 ∙ ap (λ (m : Scripted). m.desk.judged) c.in-Ok.ensures.machine)
     (c.send.ensures.sends.9 ∙ ap (λ (m : Scripted). m.desk.collects) c.in-Ok.ensures.machine) c.in-Ok.ensures.after c.in-Ok.ensures.before
     c.in-Ok.ensures.reported)
+
+pub returns-in-Err-clause-exchanged : goal.returns-in-Err-clause-exchanged
+returns-in-Err-clause-exchanged g c =
+    subst (λ (m : Scripted). Exchanged c.args.machine.now.desk m.desk (g.W.World.sent c.args.world.now) (g.W.World.sent c.turn-given.new.world)
+    (g.W.World.received c.args.world.now) (g.W.World.received c.turn-given.new.world)) (sym c.in-Err.ensures.same)
+    (exchanged_then c.args.machine.now.desk c.turns.machine.desk c.turn-given.new.machine.desk (g.W.World.sent c.args.world.now)
+    (g.W.World.sent c.turns.world) (g.W.World.sent c.turn-given.new.world) (g.W.World.received c.args.world.now) (g.W.World.received c.turns.world)
+    (g.W.World.received c.turn-given.new.world) c.turns.invariant.exchanged c.turn-given.ensures.took)
+
+pub returns-then-not-answer-clause-exchanged : goal.returns-then-not-answer-clause-exchanged
+returns-then-not-answer-clause-exchanged g c =
+    let handed = c.in-Ok.ensures.machine in
+    let sends = c.send.ensures.sends in
+    exchanged_more c.args.machine.now.desk c.turns.machine.desk c.turn-given.new.machine.desk c.inspect.new.machine.desk
+    c.send.new.machine.desk c.answer.new.machine.desk (g.W.World.sent c.args.world.now) (g.W.World.sent c.turns.world)
+    (g.W.World.sent c.turn-given.new.world) (g.W.World.sent c.send.new.world) (g.W.World.received c.args.world.now)
+    (g.W.World.received c.turns.world) (g.W.World.received c.turn-given.new.world) (g.W.World.received c.send.new.world) sends.0
+    c.turns.invariant.exchanged c.turn-given.ensures.took (ap (λ (m : Scripted). m.desk.gone) handed) (ap (λ (m : Scripted). m.desk.heard) handed)
+    sends.1 sends.2 sends.3 sends.4 c.answer.ensures.desk
 
 pub turns-preserved : goal.turns-preserved
 turns-preserved g c =
