@@ -1,8 +1,7 @@
 -- What actions do at a terminal whose session waits.
-use Rattle.std.proofs.Common.{◌≡◌, Bool, true, false, cond, not, ◌&&◌, List, [], ◌∷◌, ◌++◌, map, Option, Some, None, refl, sym, ap, ◌∙◌, append_assoc, subst}
+use Rattle.std.proofs.Common.{◌≡◌, Bool, true, false, cond, not, ◌&&◌, List, [], ◌++◌, map, Option, Some, None, refl, sym, ap, ◌∙◌, subst}
 use Rattle.std.specs.Prelude.{is_some, if◌then◌else◌}
 use Rattle.std.proofs.lemmas.List.{append-nil}
-use Rattle.ds_keys.specs.declared.key.Key.{Key}
 use Rattle.script_keys.specs.declared.keys.Keys.{Keys}
 use Rattle.script_keys.specs.declared.run.Run.{Run}
 use Rattle.ds_screen.specs.Picture.{Picture}
@@ -14,7 +13,7 @@ use Rattle.tn_session.specs.Talk.{Talk, stands, starved}
 use Rattle.tn_session.specs.TerminalTalk.{OfWaiting}
 use Rattle.cli_scripts.specs.declared.deed.Deed.{Deed}
 use Rattle.cli_scripts.specs.declared.deed.Deed.TheVariants.{Pressed}
-use Rattle.cli_scripts.specs.Acts.{PressesOnly, WorksKeys, keys_deeds, unconnected_deeds, is_clear, is_reset}
+use Rattle.cli_scripts.specs.Acts.{PressesOnly, WorksKeys, keys_deeds, unconnected_deeds, is_reset}
 use Rattle.cli_scripts.specs.Desks.{NamedHost, Worked, is_waiting}
 
 -- what is made of a part of a session that waits

@@ -1,7 +1,6 @@
 -- What becomes of an action is determined, while the session listens.
-use Rattle.std.proofs.Common.{◌≡◌, ℕ, Bool, true, false, not, ◌&&◌, cond, List, [], ◌∷◌, ◌++◌, map, codes, Option, Some, None, Ok, Err, refl, sym, ap, ◌∙◌, subst}
+use Rattle.std.proofs.Common.{◌≡◌, ℕ, Bool, true, false, not, ◌&&◌, cond, List, [], ◌∷◌, ◌++◌, codes, Option, Some, None, Ok, Err, refl, sym, ap, ◌∙◌, subst}
 use Rattle.std.specs.Prelude.{Result, is_some}
-use Rattle.ds_screen.specs.Picture.{Picture}
 use Rattle.script_keys.specs.Actions.{Action, keys, connect, disconnect, quit, other}
 use Rattle.script_keys.specs.declared.keys.Keys.{Keys}
 use Rattle.ds_keys.specs.declared.key.Key.{Key}
@@ -14,7 +13,7 @@ use Rattle.script_requests.specs.declared.wait.Awaited.{Awaited}
 use Rattle.script_requests.specs.declared.wait.Awaited.TheVariants.{InputField, Mode3270, NvtMode, Output, Unlock, Disconnect, Seconds}
 use Rattle.script_requests.specs.declared.wait.Wait.{Wait}
 use Rattle.script_requests.specs.declared.wait.WaitFault.{WaitFault}
-use Rattle.script_requests.specs.Waits.{read_wait, wait_fault_text}
+use Rattle.script_requests.specs.Waits.{read_wait}
 use Rattle.script_screens.specs.declared.code_page.CodePage.{CodePage}
 use Rattle.script_screens.specs.declared.key.Typed.{Typed}
 use Rattle.script_screens.specs.declared.key.Typed.TheVariants.{Code, NoCode, Unknown}
@@ -29,11 +28,10 @@ use Rattle.script_screens.specs.Snap.{snap_of}
 use Rattle.tn_session.specs.declared.terminal_state.TerminalState.{TerminalState}
 use Rattle.tn_session.specs.OneLog.{waits, is_over, has_failed, is_at_fault}
 use Rattle.tn_session.specs.Talk.{Talk, stands, starved}
-use Rattle.tn_session.specs.TerminalTalk.{OfWaiting, agreed_in}
+use Rattle.tn_session.specs.TerminalTalk.{OfWaiting}
 use Rattle.cli_scripts.specs.Acts.{Acts, PressesAs, PressesKeys, PressesOnly, WorksKeys, MayRead, cleared, is_clear, is_reset, keys_deeds}
 use Rattle.cli_scripts.specs.Answers.{printed_text}
 use Rattle.cli_scripts.specs.declared.came.Need.TheVariants.{Bytes, Connection}
-use Rattle.cli_scripts.specs.declared.deed.Deed.{Deed}
 use Rattle.cli_scripts.specs.declared.doing.Doing.TheVariants.{Calling, Pressing, Sent, TypingCode, Waiting}
 use Rattle.cli_scripts.specs.declared.doing.Step.{Step}
 use Rattle.cli_scripts.specs.declared.doing.Step.TheVariants.{Ended, Quits, Waits}
@@ -44,11 +42,11 @@ use Rattle.cli_scripts.specs.declared.settings.Settings.{Settings}
 use Rattle.cli_scripts.specs.declared.waiting.Becomes.{Becomes}
 use Rattle.cli_scripts.specs.declared.waiting.Becomes.TheVariants.{Over, Fails, Awaits}
 use Rattle.cli_scripts.specs.declared.worker.Worker.{Worker}
-use Rattle.cli_scripts.specs.Desks.{NamedHost, Worked, Shows, device_in, is_waiting, model_number, protocol_of}
-use Rattle.cli_scripts.specs.Keying.{OnWaiting, waits_in, EndsKeys, PressedSo, PressesSo, SaysKeys, TypedSo, SaysCode, SaysKeyOf, SaysTyped, OthersKeys, bad_key, code_keys, key_deeds, locked_said}
+use Rattle.cli_scripts.specs.Desks.{NamedHost, Worked, is_waiting}
+use Rattle.cli_scripts.specs.Keying.{OnWaiting, waits_in, EndsKeys, PressesSo, SaysKeys, TypedSo, SaysCode, SaysKeyOf, SaysTyped, OthersKeys, bad_key, code_keys, key_deeds, locked_said}
 use Rattle.cli_scripts.specs.Kinds.{kind_of}
 use Rattle.cli_scripts.specs.Performs.{Acted}
-use Rattle.cli_scripts.specs.Pressing.{after_key, after_keys, all_typed_at, any_inhibited, typed_at}
+use Rattle.cli_scripts.specs.Pressing.{after_key, after_keys, any_inhibited}
 use Rattle.cli_scripts.specs.SayLaws.{IsListening}
 use Rattle.cli_scripts.specs.Says.{AsksLayout, Connects, EndsAnswering, EndsSaying, IsCopyOf, Others, Printed, as_fault, as_lines, as_page, Prints, Snaps, named_host, printing_of}
 use Rattle.cli_scripts.specs.TypedTexts.{OthersTexts, TypesArguments}

@@ -1,19 +1,18 @@
 -- What becomes of a line is determined, while the session listens.
-use Rattle.std.proofs.Common.{◌≡◌, ℕ, Bool, true, false, List, [], ◌∷◌, ◌++◌, codes, Option, Some, None, Ok, Err, refl, sym, ap, ◌∙◌, subst}
-use Rattle.std.specs.Prelude.{Result, is_some}
+use Rattle.std.proofs.Common.{◌≡◌, ℕ, Bool, true, false, List, [], ◌∷◌, ◌++◌, Option, Some, None, refl, sym, ap, ◌∙◌, subst}
+use Rattle.std.specs.Prelude.{Result}
 use Rattle.script_keys.specs.Actions as known
 use Rattle.script_keys.specs.Faults.{Fault}
 use Rattle.script_lines.specs.Actions as lines
 use Rattle.script_screens.specs.declared.lines.Outcome.{Outcome}
 use Rattle.script_screens.specs.declared.lines.Outcome.TheVariants as outcomes
-use Rattle.script_screens.specs.Lines.{data_lines, failed}
 use Rattle.script_screens.specs.Status.{status_line}
 use Rattle.ds_screen.specs.Picture.{Picture}
 use Rattle.tn_session.specs.declared.terminal_state.TerminalState.{TerminalState}
-use Rattle.cli_scripts.specs.Answers.{Telling, last_line, syntax_text}
+use Rattle.cli_scripts.specs.Answers.{Telling, last_line}
 use Rattle.cli_scripts.specs.declared.came.Need.TheVariants.{Arrived}
 use Rattle.cli_scripts.specs.declared.came.Wants.{Wants}
-use Rattle.cli_scripts.specs.declared.came.Wants.TheVariants.{Line, Need, Nothing}
+use Rattle.cli_scripts.specs.declared.came.Wants.TheVariants.{Need}
 use Rattle.cli_scripts.specs.declared.doing.Doing.{Doing}
 use Rattle.cli_scripts.specs.declared.doing.Doing.TheVariants.{Arriving}
 use Rattle.cli_scripts.specs.declared.doing.Step.{Step}
@@ -22,11 +21,11 @@ use Rattle.cli_scripts.specs.declared.machine.Job.{Job}
 use Rattle.cli_scripts.specs.declared.worker.Worker.{Worker}
 use Rattle.cli_scripts.specs.Desks.{Worked, device_in, link_in, model_number}
 use Rattle.cli_scripts.specs.Machines.{IsKept, Scripted, TellsOf}
-use Rattle.cli_scripts.specs.Performs.{Acted, AreCalls, AreDone, BeginsLine, Call, Calls, Did, Goes, GoesOnWith, IsStop, Performs, StopsBy, StopsWith, worker_of}
+use Rattle.cli_scripts.specs.Performs.{Acted, AreCalls, AreDone, BeginsLine, Call, Calls, Goes, GoesOnWith, IsStop, Performs, StopsBy, StopsWith, worker_of}
 use Rattle.cli_scripts.specs.SayLaws.{IsListening}
-use Rattle.cli_scripts.specs.Says.{TellsAnswer, TellsNext}
-use Rattle.cli_scripts.proofs.ActOnce.{GoesWell, SameAct, acted_once, part_once, same_worker, well_acted, well_same}
-use Rattle.cli_scripts.proofs.SameSteps.{SameDoing, SameStep, doing_alike, step_alike, steps_alike}
+use Rattle.cli_scripts.specs.Says.{TellsAnswer}
+use Rattle.cli_scripts.proofs.ActOnce.{GoesWell, acted_once, part_once, well_acted, well_same}
+use Rattle.cli_scripts.proofs.SameSteps.{SameDoing, SameStep, steps_alike}
 
 -- ---- the actions of a line
 

@@ -6,14 +6,14 @@ use Rattle.tn_session.specs.declared.fault.RunFault.{RunFault}
 use Rattle.tn_session.specs.declared.fault.RunFault.TheVariants.{OutOfMemory}
 use Rattle.tn_session.specs.declared.progress.Progress.{Progress}
 use Rattle.tn_session.specs.declared.terminal_state.TerminalState.{TerminalState}
-use Rattle.tn_session.specs.OneLog.{Standing, waits, is_over, has_failed, is_at_fault}
+use Rattle.tn_session.specs.OneLog.{waits, is_over, has_failed, is_at_fault}
 use Rattle.tn_session.specs.Talk.{Talk, stands, starved}
 use Rattle.tn_session.specs.TerminalTalk.{IsNotOver, OfWaiting, TakesAs, TerminalTakes, heard_act, tolerates}
 use Rattle.tn_session.proofs.Pieces.{log_on_once, takes_log}
 use Rattle.tn_session.proofs.TolerantWork.{terminal_takes_on}
 use Rattle.cli_scripts.specs.declared.deed.Deed.{Deed}
 use Rattle.cli_scripts.specs.declared.deed.Deed.TheVariants.{Heard}
-use Rattle.cli_scripts.specs.Desks.{HearsOnce, NamedHost, Worked, fault_after, fault_in, host_after, over_by, read_again}
+use Rattle.cli_scripts.specs.Desks.{HearsOnce, NamedHost, Worked, fault_after, fault_in, host_after, over_by}
 use Rattle.cli_scripts.specs.SayLaws.{IsListening}
 use Rattle.cli_scripts.specs.SentOn.{SentOn}
 use Rattle.cli_scripts.proofs.ActOnce.{listening, part_once}

@@ -1,7 +1,6 @@
 -- What becomes of what is under way is determined by what came, while the session listens.
-use Rattle.std.proofs.Common.{◌≡◌, ℕ, Bool, true, false, List, Vec, Global, [], ◌∷◌, ◌++◌, codes, Option, Some, None, Ok, Err, refl, sym, ap, ◌∙◌, subst}
+use Rattle.std.proofs.Common.{◌≡◌, ℕ, Bool, true, false, List, Vec, Global, ◌++◌, codes, Option, None, refl, sym, ap, ◌∙◌, subst}
 use Rattle.std.specs.Prelude.{Result, is_some}
-use Rattle.script_keys.specs.declared.keys.Keys.{Keys}
 use Rattle.script_screens.specs.declared.lines.Outcome.{Outcome}
 use Rattle.script_screens.specs.declared.lines.Outcome.TheVariants as outcomes
 use Rattle.script_screens.specs.Lines.{Said, data_lines, failed}
@@ -9,7 +8,6 @@ use Rattle.script_checks.specs.Said.{said_of_check}
 use Rattle.tn_cores.specs.Devices.{sizes_of}
 use Rattle.tn_session.specs.declared.terminal_state.TerminalState.{TerminalState}
 use Rattle.tn_session.specs.Kept.{Kept as KeptRecord}
-use Rattle.tn_session.specs.Talk.{Talk}
 use Rattle.tn_session.specs.TerminalTalk.{records_kept}
 use Rattle.cli_scripts.specs.Answers.{printed_text}
 use Rattle.cli_scripts.specs.declared.came.Came.{Came}
@@ -21,14 +19,14 @@ use Rattle.cli_scripts.specs.declared.doing.Step.{Step}
 use Rattle.cli_scripts.specs.declared.doing.Step.TheVariants.{Ended, Waits}
 use Rattle.cli_scripts.specs.declared.doing.Typing.{Typing as Text}
 use Rattle.cli_scripts.specs.declared.worker.Worker.{Worker}
-use Rattle.cli_scripts.specs.Desks.{NamedHost, Worked, device_in, is_waiting, opened}
+use Rattle.cli_scripts.specs.Desks.{Worked, device_in, is_waiting, opened}
 use Rattle.cli_scripts.specs.Keying.{code_deeds}
 use Rattle.cli_scripts.specs.Runs.{Event, a_line, a_long_line, some_bytes, nothing_yet, not_in_time, the_end, a_host, no_host, a_page, no_page, a_layout, event_of}
 use Rattle.cli_scripts.specs.SayLaws.{IsListening}
 use Rattle.cli_scripts.specs.Says.{Checks, EndsSaying, IsOpening, unconnected_said}
 use Rattle.cli_scripts.specs.Waits.{Tells, closed, late}
-use Rattle.cli_scripts.specs.Workers.{AfterSent, ArrivesOn, ClosedOn, GoesOn, HeardAt, HeardOn, HearsBytes, HearsOn, IsOver, OpensBy, Rests, ToldOn, TypesOn, WaitsStill, hung_up}
-use Rattle.cli_scripts.proofs.ActOnce.{GoesWell, SameSaid, at_state, code_once, desk_once, ending_once, heard_once, keys_once, listening, over_once, part_once, tells_once, well_keys, well_pressed, well_same}
+use Rattle.cli_scripts.specs.Workers.{ArrivesOn, ClosedOn, GoesOn, HeardAt, HeardOn, HearsBytes, HearsOn, IsOver, OpensBy, Rests, ToldOn, TypesOn, WaitsStill, hung_up}
+use Rattle.cli_scripts.proofs.ActOnce.{GoesWell, at_state, code_once, desk_once, ending_once, heard_once, keys_once, listening, part_once, tells_once, well_keys, well_pressed, well_same}
 use Rattle.cli_scripts.proofs.HearOnce.{hears_on, hears_once}
 use Rattle.cli_scripts.proofs.SameSteps.{SameDoing, SameStep, doing_alike, steps_alike}
 use Rattle.cli_scripts.proofs.TextOnce.{text_once}

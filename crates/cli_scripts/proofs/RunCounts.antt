@@ -1,12 +1,11 @@
 -- Each line of a script has one answer.
-use Rattle.std.proofs.Common.{◌≡◌, ◌+◌, ℕ, true, List, [], ◌∷◌, ◌++◌, length, Option, refl, sym, ap, ◌∙◌, subst, arith, length-append}
+use Rattle.std.proofs.Common.{◌≡◌, ◌+◌, ℕ, true, List, [], ◌∷◌, ◌++◌, length, refl, ap, ◌∙◌, arith, length-append}
 use Rattle.script_screens.specs.declared.lines.Outcome.{Outcome}
-use Rattle.cli_scripts.specs.declared.came.Need.{Need as Wanted}
 use Rattle.cli_scripts.specs.declared.came.Wants.{Wants}
 use Rattle.cli_scripts.specs.declared.came.Wants.TheVariants.{Line, Need, Nothing}
 use Rattle.cli_scripts.specs.Machines.{AnswersSo, Scripted}
 use Rattle.cli_scripts.specs.RunLaws.{AnswersEach}
-use Rattle.cli_scripts.specs.Runs.{Event, a_line, a_long_line, IsEnd, IsGiven, IsLine, Meets, Ran, Turns, handed_out, line_of, lines_of}
+use Rattle.cli_scripts.specs.Runs.{Event, a_line, a_long_line, IsEnd, IsGiven, IsLine, Turns, handed_out, line_of, lines_of}
 use Rattle.cli_scripts.proofs.RunLaws.{need_alone}
 
 -- a line that is under way isn't answered yet

@@ -9,7 +9,6 @@ use Rattle.cli_commands.specs.declared.fault.CommandError.{CommandError}
 use Rattle.cli_commands.specs.declared.fault.CommandError.TheVariants.{Fault, ReadFailed, OutOfMemory}
 use Rattle.cli_commands.specs.NextLine.{ReadsLine}
 use Rattle.cli_scripts.specs.Judged.{ended_by}
-use Rattle.cli_scripts.specs.declared.run.Ended.{Ended}
 use Rattle.cli_scripts.specs.declared.run.Ended.TheVariants.{Over}
 use Rattle.cli_scripts.specs.declared.script.Asked.TheVariants as asked
 use Rattle.cli_scripts.specs.declared.world.Patience.{Patience}
@@ -25,7 +24,7 @@ use Rattle.cli_scripts.specs.declared.came.Need.TheVariants as needs
 use Rattle.cli_scripts.specs.declared.came.Wants.{Wants}
 use Rattle.cli_scripts.specs.declared.came.Wants.TheVariants as wanted
 use Rattle.cli_scripts.specs.Machines.{AnswersSo, HearsNext, Scripted, goes_on}
-use Rattle.cli_scripts.specs.Runs.{AreOfScript, AreRead, AsksFor, AreScript, Event, a_line, a_long_line, some_bytes, nothing_yet, not_in_time, the_end, event_of, GivesLine, GivesNeed, Goes, IsEnd, IsEndAt, HasEnded, IsGiven, IsLine, IsShort, Meets, Ran, Takes, Turned, Turns, all_bytes, bytes_of, handed_desk, handed_out, kept_line, line_of, lines_of, need_of}
+use Rattle.cli_scripts.specs.Runs.{AreRead, AsksFor, AreScript, Event, a_line, a_long_line, some_bytes, nothing_yet, not_in_time, the_end, event_of, GivesLine, GivesNeed, Goes, IsEnd, IsEndAt, HasEnded, IsGiven, IsLine, IsShort, Meets, Ran, Takes, Turned, Turns, all_bytes, bytes_of, handed_desk, handed_out, kept_line, line_of, lines_of, need_of}
 
 turns_more : (events : List Event) (wants : Wants) (old : Scripted) (last : Wants) (mid : Scripted) (event : Event) (next : Wants) (taken : Scripted)
     → Turns events wants old last mid → IsGiven last event → Takes event mid next taken → Turns (events ++ event ∷ []) wants old next (handed_out taken)

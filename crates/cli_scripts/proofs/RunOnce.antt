@@ -1,5 +1,5 @@
 -- What a script leads to is determined by what came.
-use Rattle.std.proofs.Common.{◌≡◌, ℕ, Bool, true, false, List, [], ◌∷◌, ◌++◌, codes, Option, Some, None, refl, sym, ap, ◌∙◌, subst}
+use Rattle.std.proofs.Common.{◌≡◌, List, [], ◌∷◌, ◌++◌, codes, Option, Some, None, refl, sym, ap, ◌∙◌, subst}
 use Rattle.std.specs.Prelude.{is_some}
 use Rattle.script_screens.specs.declared.lines.Outcome.TheVariants as outcomes
 use Rattle.script_screens.specs.Lines.{data_lines}
@@ -16,7 +16,7 @@ use Rattle.cli_scripts.specs.Desks.{Worked, handed_due, handed_screens}
 use Rattle.cli_scripts.specs.Machines.{Scripted}
 use Rattle.cli_scripts.specs.Performs.{BeginsLine, GoesOnWith, StopsWith, TakesBy, worker_of}
 use Rattle.cli_scripts.specs.RunLaws.{NoneFailed, RunsAgree, TurnsAgree}
-use Rattle.cli_scripts.specs.Runs.{Event, a_line, a_long_line, some_bytes, nothing_yet, not_in_time, the_end, a_host, no_host, a_page, no_page, a_layout, event_of, Ran, Takes, Turns, handed_desk, handed_out}
+use Rattle.cli_scripts.specs.Runs.{Event, a_line, a_long_line, event_of, Takes, Turns, handed_out}
 use Rattle.cli_scripts.specs.SayLaws.{IsListening}
 use Rattle.cli_scripts.specs.Workers.{KeepsSet}
 use Rattle.cli_scripts.proofs.ActOnce.{same_worker}

@@ -1,5 +1,5 @@
 -- How far actions have come: alike, where their texts are the same, however these lie in memory.
-use Rattle.std.proofs.Common.{◌≡◌, ℕ, List, refl, sym, ap, ◌∙◌, subst}
+use Rattle.std.proofs.Common.{◌≡◌, ℕ, List, refl, sym, ◌∙◌, subst}
 use Rattle.cli_scripts.specs.declared.came.Need.TheVariants.{Bytes, Page, Layout}
 use Rattle.cli_scripts.specs.declared.doing.Doing.{Doing}
 use Rattle.cli_scripts.specs.declared.doing.Doing.TheVariants.{Typing, Writing, Checking}

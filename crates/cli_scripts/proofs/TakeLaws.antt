@@ -1,9 +1,8 @@
 -- What becomes of a line that begins or goes on.
-use Rattle.std.proofs.Common.{◌≡◌, ◌++◌, ◌∷◌, ℕ, List, [], None, Ok, Err, codes, sym, ap, ◌∙◌, subst, refl}
+use Rattle.std.proofs.Common.{◌≡◌, ◌++◌, ◌∷◌, ℕ, List, [], None, Ok, Err, codes, sym, ap, ◌∙◌, subst}
 use Rattle.std.specs.Prelude.{Option, Some, Result, IfOk, OnOk}
 use Rattle.std.specs.declared.alloc.AllocError.{AllocError}
 use Rattle.std.proofs.lemmas.List.{append-nil}
-use Rattle.script_screens.specs.declared.lines.Outcome.{Outcome}
 use Rattle.script_screens.specs.declared.lines.Outcome.TheVariants as outcomes
 use Rattle.script_screens.specs.Lines.{data_line, data_lines}
 use Rattle.cli_scripts.specs.Answers.{Telling, printed_text}
@@ -15,7 +14,7 @@ use Rattle.cli_scripts.specs.declared.doing.Step.{Step}
 use Rattle.cli_scripts.specs.declared.doing.Step.TheVariants.{Ended, Quits, Waits}
 use Rattle.cli_scripts.specs.declared.machine.Job.{Job}
 use Rattle.cli_scripts.specs.declared.worker.Worker.{Worker}
-use Rattle.cli_scripts.specs.Machines.{Scripted, TellsOf}
+use Rattle.cli_scripts.specs.Machines.{Scripted}
 use Rattle.cli_scripts.specs.Performs.{Goes, GoesOnWith, Performs, Resumes, StopsWith, TakesBy, worker_of}
 use Rattle.cli_scripts.specs.Says.{TellsNext}
 use Rattle.cli_scripts.proofs.LineEnds.{of_parts}

@@ -5,7 +5,6 @@ use Rattle.script_keys.specs.Steps.{margin_run}
 use Rattle.script_screens.specs.declared.code_page.CodePage.{CodePage}
 use Rattle.script_screens.specs.declared.lines.Outcome.TheVariants as outcomes
 use Rattle.script_screens.specs.declared.pieces.Piece.{Piece}
-use Rattle.script_screens.specs.Lines.{Said, data_lines, failed}
 use Rattle.script_screens.specs.Pieces.{piece_at}
 use Rattle.tn_session.specs.declared.pressed.Pressed.{Pressed}
 use Rattle.tn_session.specs.declared.pressed.Pressed.TheVariants.{Done, Inhibited, Ignored, Sent}
@@ -14,7 +13,6 @@ use Rattle.tn_session.specs.OneLog.{waits}
 use Rattle.tn_session.specs.Talk.{Talk, stands}
 use Rattle.tn_session.specs.TerminalTalk.{OfWaiting}
 use Rattle.cli_scripts.specs.Acts.{PressesOnly}
-use Rattle.cli_scripts.specs.Answers.{printed_text}
 use Rattle.cli_scripts.specs.declared.deed.Deed.{Deed}
 use Rattle.cli_scripts.specs.declared.deed.Deed.TheVariants.{Pressed as PressedKey}
 use Rattle.cli_scripts.specs.declared.doing.Step.{Step}
@@ -27,7 +25,7 @@ use Rattle.cli_scripts.specs.Keying.{OnWaiting}
 use Rattle.cli_scripts.specs.Pressing.{after_keys}
 use Rattle.cli_scripts.specs.Says.{EndsSaying}
 use Rattle.cli_scripts.specs.Steps.{IsTypedLater}
-use Rattle.cli_scripts.specs.TypedTexts.{goes_on, answer_of_piece, after_piece, after_pieces, keys_of_pieces, said_of_pieces, all_go_on, ArePieces, TypedPieces, WentOn, StoppedAt, Cancels, ReturnsTo, TypedFree, TypesFree, TypesAt, TypesBy, TypesText, column_of, is_text, margin_keys, operator_said}
+use Rattle.cli_scripts.specs.TypedTexts.{goes_on, answer_of_piece, after_piece, after_pieces, keys_of_pieces, said_of_pieces, all_go_on, ArePieces, WentOn, StoppedAt, Cancels, TypedFree, TypesFree, TypesAt, TypesBy, TypesText, column_of, is_text, margin_keys, operator_said}
 use Rattle.cli_scripts.proofs.SameSteps.{SameStep, later_alike, steps_alike}
 use Rattle.cli_scripts.proofs.Typed.{pressed_once}
 

@@ -1,5 +1,5 @@
 -- The keys of a script are a run of keys of the profile.
-use Rattle.std.proofs.Common.{◌≡◌, ℕ, Bool, true, List, [], ◌∷◌, Option, Some, None, refl, sym, ap, ◌∙◌, subst}
+use Rattle.std.proofs.Common.{◌≡◌, ℕ, true, List, [], ◌∷◌, Option, Some, None, refl, sym, ap, ◌∙◌, subst}
 use Rattle.std.specs.Prelude.{is_some}
 use Rattle.ds_keys.specs.declared.key.Key.{Key}
 use Rattle.ds_keys.specs.KeyRuns as keyed
@@ -14,7 +14,7 @@ use Rattle.tn_session.specs.Talk.{Talk, stands, starved}
 use Rattle.tn_session.specs.TerminalLog.{after_key, key_replied, operator_at}
 use Rattle.tn_session.specs.TerminalTalk.{OfWaiting, agreed_in, worked, worked_under}
 use Rattle.cli_scripts.specs.Desks.{Shows, Worked}
-use Rattle.cli_scripts.specs.Pressing.{after_keys, all_typed_at}
+use Rattle.cli_scripts.specs.Pressing.{after_keys}
 use Rattle.cli_scripts.specs.RunLaws.{YesHolds}
 use Rattle.cli_scripts.proofs.Typed.{typed_deeds, typed_keeps, typed_talk}
 

@@ -1,6 +1,6 @@
-use Rattle.std.proofs.Common.{◌≡◌, Bool, sym, ap, ◌∙◌}
+use Rattle.std.proofs.Common.{Bool, sym, ap, ◌∙◌}
 use Rattle.std.specs.Prelude.{if◌then◌else◌}
-use Rattle.cli_scripts.specs.Acts.{cleared, is_clear}
+use Rattle.cli_scripts.specs.Acts.{cleared}
 use Rattle.cli_scripts.proofs.keys.press_unconnected.Goals.{then-is_clear+in_ok-clear, else-is_clear}
 use Rattle.cli_scripts.proofs.keys.press_unconnected.Goals as goal
 

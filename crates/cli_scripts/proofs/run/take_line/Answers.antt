@@ -1,6 +1,6 @@
 use Rattle.std.proofs.Common.{Bool, ℕ, List, [], ◌∷◌, Some, sym, subst}
 use Rattle.std.specs.Io.KnownBytes.{prepend_known}
-use Rattle.std.specs.Prelude.{IfSome, Option}
+use Rattle.std.specs.Prelude.{IfSome}
 use Rattle.bstr.specs.Text.{without_terminator}
 use Rattle.cli_scripts.specs.declared.came.Came.TheVariants as came
 use Rattle.cli_scripts.specs.Machines.{AnswersSo, goes_on}

@@ -1,8 +1,7 @@
-use Rattle.std.proofs.Common.{◌≡◌, Err, refl, sym, ap, ◌∙◌, subst}
+use Rattle.std.proofs.Common.{Err, refl, sym, ap, ◌∙◌, subst}
 use Rattle.std.specs.Io.KnownBytes.{prepend_known}
 use Rattle.std.proofs.lemmas.Bool.{OnTrue_at}
 use Rattle.cli_scripts.specs.Answers.{Telling, handed_lines}
-use Rattle.cli_scripts.specs.declared.run.Ended.TheVariants.{Over}
 use Rattle.cli_scripts.specs.declared.run.Finish.{Finish}
 use Rattle.cli_scripts.specs.Desks.{Worked}
 use Rattle.cli_scripts.specs.Judged.{Judges}
@@ -10,7 +9,7 @@ use Rattle.cli_scripts.specs.Machines.{Scripted}
 use Rattle.cli_scripts.specs.Runs.{handed_desk, handed_due_of}
 use Rattle.cli_scripts.specs.Worlds.{Exchanged}
 use Rattle.cli_scripts.proofs.JudgedLaws.{judges_more}
-use Rattle.cli_scripts.proofs.RunLaws.{goes_more, goes_none, ran_so}
+use Rattle.cli_scripts.proofs.RunLaws.{goes_more, ran_so}
 use Rattle.cli_scripts.proofs.WorkLaws.{busy_after, exchanged_more, exchanged_then, told_all, told_front, told_more}
 use Rattle.cli_scripts.proofs.run.work.Goals as goal
 

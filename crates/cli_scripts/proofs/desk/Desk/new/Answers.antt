@@ -25,8 +25,8 @@ nothing device deeds heard gone due talk collects judged unjudged none unheard u
 pub invariant_of-result : goal.invariant_of-result
 invariant_of-result c =
     nothing c.args.device c.new-2.result.items c.new-3.result.items c.new-4.result.items c.new.result.items c.in_ok-new_session.field-0.talk
-    c.args.collects c.new-5.result.items c.new-6.result.items c.in_ok-new_session.field-0.told.taken c.new-2.ensures c.new-3.ensures c.new-4.ensures
-    c.new.ensures.items (ap (λ w. w.talk) c.in_ok-new_session.ensures) c.new-5.ensures c.new-6.ensures.items (ap (λ w. w.told.taken) c.in_ok-new_session.ensures)
+    c.args.collects c.new-5.result.items c.new-6.result.items c.new-2.ensures c.new-3.ensures c.new-4.ensures
+    c.new.ensures.items (ap (λ w. w.talk) c.in_ok-new_session.ensures) c.new-5.ensures c.new-6.ensures.items
 
 -- each part of a desk
 parts : (device : Device) (collects : Bool) (deeds : List Deed) (heard gone due : List ℕ) (talk : Talk TerminalState) (judged unjudged : List SentOn)
