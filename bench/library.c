@@ -1,6 +1,6 @@
 /* Times takvorn_show and takvorn_check, and a key, a record of a full screen of 60 fields and a check at a terminal that a program holds: by its state, and
- * by a handle. library LAYOUT RECORDS COUNT prints the least of seven runs of so many calls, in microseconds a call: of show and check of the records; of a
- * key, a record and a check by state; and of these by handle. */
+ * by a handle. library LAYOUT RECORDS COUNT prints the least of 21 runs of so many calls, each call in turn, in microseconds a call: of show and check of the
+ * records; of a key, a record and a check by state; and of these by handle. */
 #define _POSIX_C_SOURCE 200809L
 #include "takvorn.h"
 #include <stdio.h>
@@ -54,27 +54,29 @@ static size_t contents(const char *name, uint8_t *bytes, size_t room) {
   return length;
 }
 
-static double least(int (*call)(void), long count) {
-  double best = 0;
-  for (int run = 0; run < 7; run++) {
-    struct timespec from, to;
-    clock_gettime(CLOCK_MONOTONIC, &from);
-    for (long i = 0; i < count; i++)
-      if (call() != TAKVORN_DONE) exit(1);
-    clock_gettime(CLOCK_MONOTONIC, &to);
-    double spent = ((double)(to.tv_sec - from.tv_sec) * 1e9 + (double)(to.tv_nsec - from.tv_nsec)) / 1e3 / (double)count;
-    if (run == 0 || spent < best) best = spent;
-  }
-  return best;
+static double once(int (*call)(void), long count) {
+  struct timespec from, to;
+  clock_gettime(CLOCK_MONOTONIC, &from);
+  for (long i = 0; i < count; i++)
+    if (call() != TAKVORN_DONE) exit(1);
+  clock_gettime(CLOCK_MONOTONIC, &to);
+  return ((double)(to.tv_sec - from.tv_sec) * 1e9 + (double)(to.tv_nsec - from.tv_nsec)) / 1e3 / (double)count;
 }
 
 int main(int count, char **words) {
   static int (*const calls[])(void) = {show, check, key, record, state_check, held_key, held_record, held_check};
+  enum { CALLS = sizeof calls / sizeof calls[0], RUNS = 21 };
+  double least[CALLS];
   if (count != 4) return 2;
   layout_length = contents(words[1], layout, sizeof layout);
   records_length = contents(words[2], records, sizeof records);
   hold();
-  for (size_t i = 0; i < sizeof calls / sizeof calls[0]; i++) printf("%s%.2f", i ? " " : "", least(calls[i], atol(words[3])));
+  for (int run = 0; run < RUNS; run++)
+    for (int at = 0; at < CALLS; at++) {
+      double spent = once(calls[at], atol(words[3]));
+      if (run == 0 || spent < least[at]) least[at] = spent;
+    }
+  for (int at = 0; at < CALLS; at++) printf("%s%.2f", at ? " " : "", least[at]);
   puts("");
   takvorn_held_free(&held);
   return 0;

@@ -1,5 +1,5 @@
 #!/usr/bin/env python3
-"""Times `script` beside s3270, a line at a time as tools send them: scripts.py PROGRAM. The most a second of three runs each. The sessions
+"""Times `script` beside s3270, a line at a time as tools send them: scripts.py PROGRAM. The most a second of seven runs in turn. The sessions
 with Enter are classic ones: in TN3270E s3270 waits 40 ms for the host's acknowledgement of its response."""
 import multiprocessing
 import os
@@ -9,17 +9,34 @@ import sys
 import time
 
 sys.path.insert(0, os.path.join(os.path.dirname(os.path.abspath(__file__)), "..", "tests"))
-from script_hosts import SIGNON, Host  # noqa: E402
+from script_hosts import RECORD_END, SIGNON, Host  # noqa: E402
 
 REFERENCE = ["s3270", "-model", "3278-2", "-utf8", "-codepage", "cp037", "-xrm", "s3270.unlockDelay: False"]
 ENTERED = 1_000
 READ = 10_000
 
 
+class QuickHost(Host):
+    """A classic host that sends its next record for each answer, and doesn't read what that says: so little of the time is its own."""
+
+    def play(self) -> None:
+        self.agree_classic()
+        assert self.line is not None
+        first, *others = [value + RECORD_END for _, value in self.steps if isinstance(value, bytes)]
+        self.line.sendall(first)
+        for record in others:
+            while not self.line.recv(4096).endswith(RECORD_END):
+                pass
+            self.line.sendall(record)
+        while self.line.recv(4096):
+            pass
+
+
 def serve(ports: "multiprocessing.Queue[int]", text: str) -> None:
     """Serves one terminal after the other, each on a port of its own."""
+    kind = QuickHost if text.startswith("classic") else Host
     while True:
-        host = Host(text)
+        host = kind(text)
         ports.put(host.port)
         host.run()
 
@@ -53,8 +70,10 @@ def rate(command: list[str], port: int, line: bytes, times: int) -> float:
     return times / spent
 
 
-def best(command: list[str], ports: "multiprocessing.Queue[int]", line: bytes, times: int) -> float:
-    return max(rate(command, ports.get(), line, times) for _ in range(3))
+def best(commands: list[list[str]], ports: "multiprocessing.Queue[int]", line: bytes, times: int) -> list[float]:
+    """The best rate of each command."""
+    rates = [[rate(it, ports.get(), line, times) for it in commands] for _ in range(7)]
+    return [max(it) for it in zip(*rates)]
 
 
 def main(program: str) -> None:
@@ -65,7 +84,7 @@ def main(program: str) -> None:
     screens = "classic\n" + "".join(f"{SIGNON}\nturn\n" for _ in range(ENTERED)) + SIGNON + "\n"
     for name, text, line, times in (("10,000 Ascii", SIGNON, b"Ascii\n", READ), ("1,000 screens with Enter", screens, b"Enter\n", ENTERED)):
         ports = hosts_of(text)
-        ours_rate, other = best(ours, ports, line, times), best(REFERENCE, ports, line, times)
+        ours_rate, other = best([ours, REFERENCE], ports, line, times)
         print(f"script, {name}: {ours_rate:.0f} a second, s3270 {other:.0f}, ratio {ours_rate / other:.2f}", flush=True)
 
 
