@@ -19,6 +19,9 @@ cat examples/order.toml examples/items.toml > "$work/examples"
 same "an example in docs/LAYOUTS.md differs from examples/order.toml or examples/items.toml" "$work/guide" "$work/examples"
 "$program" show --format svg < examples/signon.hex > "$work/drawn"
 same "docs/signon.svg differs from what the program draws of examples/signon.hex" "$work/drawn" docs/signon.svg
+grep '^| `F' docs/FINDINGS.md > "$work/table"
+grep '^| `F' crates/command_tests/stdout > "$work/rows"
+same "the first table of docs/FINDINGS.md differs from the row 'table' of crates/command_tests/stdout" "$work/table" "$work/rows"
 for page in crates/*/README.md; do
   name=${page%/README.md}
   name=${name#crates/}

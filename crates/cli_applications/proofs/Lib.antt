@@ -1,5 +1,3 @@
-mod Keys
 mod Rows
 mod Loop
-mod Texts
 pub mod Found

@@ -1,33 +1,18 @@
 -- One more step of the loops of a manifest.
-use Rattle.std.proofs.Common.{◌≡◌, ◌∙◌, ℕ, ◌+◌, ◌<◌, ap, sym, refl, ◌≤◌, drop, get_or, length, List, ◌∷◌, Some, None, Result, Ok}
+use Rattle.std.proofs.Common.{◌≡◌, ◌∙◌, ℕ, ◌+◌, ◌<◌, ap, sym, ◌≤◌, drop, get_or, length, List, Some, None, Result, Ok}
 use Rattle.std.proofs.lemmas.List.{drop_all}
-use Rattle.toml.specs.Data.{Data, string, integer, float, boolean, datetime, array, table, Items, item, Members, as_table}
+use Rattle.toml.specs.Data.{Members, as_table}
 use Rattle.toml.specs.View.{view, items_view}
 use Rattle.toml.specs.declared.value.Value.{Value}
 use Rattle.toml.proofs.Views.{items_view-drop}
 use Rattle.cli_applications.specs.declared.fault.ManifestFault.{ManifestFault}
 use Rattle.cli_applications.specs.declared.fault.ManifestError.{ManifestError}
 use Rattle.cli_applications.specs.declared.fault.ManifestError.TheVariants.{OutOfMemory, Refused}
-use Rattle.cli_applications.specs.Results.{◌>>=◌, in_screen, Fails}
-use Rattle.cli_applications.specs.Manifest.{Named, with_screen, screens_from, tables_in}
-
-tables_in-table : (d : Data) (rest : Items) (fields : Members) → as_table d ≡ Some fields → tables_in (item d rest) ≡ fields ∷ tables_in rest
-tables_in-table (table ms) rest fields h = cc
-tables_in-table (string s) rest fields h = cc
-tables_in-table (integer z) rest fields h = cc
-tables_in-table (float x) rest fields h = cc
-tables_in-table (boolean b) rest fields h = cc
-tables_in-table (datetime t) rest fields h = cc
-tables_in-table (array ds) rest fields h = cc
-
-tables_in-other : (d : Data) (rest : Items) → as_table d ≡ None → tables_in (item d rest) ≡ tables_in rest
-tables_in-other (table ms) rest h = cc
-tables_in-other (string s) rest h = refl
-tables_in-other (integer z) rest h = refl
-tables_in-other (float x) rest h = refl
-tables_in-other (boolean b) rest h = refl
-tables_in-other (datetime t) rest h = refl
-tables_in-other (array ds) rest h = refl
+use Rattle.manifest_tables.specs.Results.{◌>>=◌}
+use Rattle.manifest_tables.specs.Tables.{tables_in}
+use Rattle.manifest_tables.proofs.Rows.{tables_in-table, tables_in-other}
+use Rattle.cli_applications.specs.Results.{in_screen, Fails}
+use Rattle.cli_applications.specs.Manifest.{Named, with_screen, screens_from}
 
 -- a value that is a table
 pub screens_from-table : (n : ℕ) (before : List Named) (vs : List Value) (i : ℕ) (v : Value) (fields : Members) (r : Result (List Named) ManifestFault)

@@ -1,5 +1,7 @@
 -- What is refused of a manifest, and the words that are printed of it.
 use Rattle.std.specs.Prelude.{codes, decimal, ℕ, List, [], ◌++◌, Option, Some, None}
+use Rattle.manifest_tables.specs.declared.key.Flaw.{Flaw}
+use Rattle.manifest_tables.specs.declared.key.Flaw.TheVariants as flaws
 use Rattle.cli_applications.specs.declared.fault.ManifestKey.{ManifestKey}
 use Rattle.cli_applications.specs.declared.fault.ManifestKey.TheVariants.{Unknown, Start, Screen, Name, Records, Layout, Next, Enter, Clear, Pa1, Pa2, Pa3, Pf1, Pf2, Pf3, Pf4, Pf5, Pf6, Pf7, Pf8, Pf9, Pf10, Pf11, Pf12, Pf13, Pf14, Pf15, Pf16, Pf17, Pf18, Pf19, Pf20, Pf21, Pf22, Pf23, Pf24}
 use Rattle.cli_applications.specs.declared.fault.Why.{Why}
@@ -80,6 +82,17 @@ not_toml = record { screen = None; which = None; why = NotToml }
 -- a key at fault
 abbrev pub at_key : ManifestKey → Why → ManifestFault
 at_key key why = record { screen = None; which = Some key; why = why }
+
+-- why a manifest with a flaw at a key is refused
+abbrev pub why_of : Flaw → Why
+why_of flaws.MissingKey = MissingKey
+why_of flaws.WrongKind = WrongKind
+why_of flaws.UnknownKey = UnknownKey
+why_of flaws.BadText = BadText
+
+-- a key with this flaw
+abbrev pub flaw_at : ManifestKey → Flaw → ManifestFault
+flaw_at key flaw = at_key key (why_of flaw)
 
 -- the same in a screen
 abbrev pub in_screen : ℕ → ManifestFault → ManifestFault

@@ -1,8 +1,8 @@
 -- The manifest of an application that a text says, or its first refusal.
-use Rattle.std.specs.Prelude.{ℕ, ◌+◌, Bool, true, false, not, ◌&&◌, ◌==◌, nat_le, bytes_eq, codes, List, [], ◌∷◌, ◌++◌, length, Option, Some, None, option_map, ok_or, position, Result, Ok, Err, if◌then◌else◌}
+use Rattle.std.specs.Prelude.{ℕ, ◌+◌, Bool, false, not, ◌&&◌, ◌==◌, nat_le, bytes_eq, codes, List, [], ◌∷◌, ◌++◌, length, Option, Some, None, option_map, ok_or, position, Result, Ok, Err, if◌then◌else◌}
 use Rattle.std.specs.List.{list_any}
 use Rattle.std.specs.Str.{is_utf8}
-use Rattle.toml.specs.Data.{Data, table, Items, no_items, item, Members, as_array, as_table}
+use Rattle.toml.specs.Data.{Data, Members, as_array, as_table}
 use Rattle.toml.specs.Parse.{parse_document}
 use Rattle.tn_dialogue.specs.declared.screen.Lead.{Lead}
 use Rattle.tn_dialogue.specs.declared.screen.Next.{Next}
@@ -13,7 +13,9 @@ use Rattle.cli_applications.specs.declared.fault.ManifestFault.{ManifestFault}
 use Rattle.cli_applications.specs.declared.fault.Why.TheVariants.{WrongKind, Twice, BadCount, NoSuchScreen}
 use Rattle.cli_applications.specs.Attention.{attention_keys, aid_of}
 use Rattle.cli_applications.specs.Fault.{at_key, not_toml}
-use Rattle.cli_applications.specs.Results.{◌>>=◌, tested, in_screen}
+use Rattle.manifest_tables.specs.Results.{◌>>=◌, tested}
+use Rattle.manifest_tables.specs.Tables.{tables_in, are_tables}
+use Rattle.cli_applications.specs.Results.{in_screen}
 use Rattle.cli_applications.specs.Values.{value_at, needed_at, text_of, needed_text, with_only}
 
 -- a key, and the name of where it leads
@@ -95,18 +97,6 @@ unfoldable pub with_screen : List Named → Members → Result (List Named) Mani
 with_screen before fields = do
   screen ← screen_of fields
   tested (is_free screen.name before) (before ++ screen ∷ []) (at_key Name Twice)
-
--- the tables among the items, in order
-abbrev pub tables_in : Items → List Members
-tables_in no_items = []
-tables_in (item (table fields) rest) = fields ∷ tables_in rest
-tables_in (item _ rest) = tables_in rest
-
--- each item is a table
-abbrev pub are_tables : Items → Bool
-are_tables no_items = true
-are_tables (item (table fields) rest) = are_tables rest
-are_tables (item _ rest) = false
 
 -- those of the tables from the n-th on, behind those before
 unfoldable pub screens_from : ℕ → List Named → List Members → Result (List Named) ManifestFault

@@ -1,10 +1,10 @@
 //! The manifest of an application, read from TOML.
 
-ghost use Rattle.std.specs.Prelude.{◌≡◌, MatchOption, true, false};
-ghost use Rattle.std.specs.Str.{is_utf8};
+ghost use Rattle.std.specs.Prelude.{◌≡◌};
 ghost use Rattle.toml.specs.View.{table_view};
 ghost use Rattle.cli_applications.specs.Chains.{Declares};
-ghost use Rattle.cli_applications.specs.Results.{Gives, Tells};
+ghost use Rattle.manifest_tables.specs.Results.{Tells};
+ghost use Rattle.cli_applications.specs.Results.{Gives};
 ghost use Rattle.cli_applications.specs.Manifest.{declaration_of, first_of, manifest_of, manifest_said, table_of};
 
 use crate::fault::{ManifestError, ManifestFault, ManifestKey, Why};
@@ -12,7 +12,8 @@ use crate::led::with_ways;
 use crate::plan::{index_of, plans_from};
 use crate::screen::{Manifest, NamedScreen};
 use crate::tables::screens_at;
-use crate::values::{needed_text, with_only};
+use crate::values::needed_text;
+use manifest_tables::{text_in, with_only};
 use std::alloc::Global;
 use toml::Table;
 
@@ -61,17 +62,6 @@ fn manifest_of(alloc: Global, text: &str) -> Result<Manifest, ManifestError>
 {
     let table = table_of(alloc, text)?;
     declaration_of(alloc, &table)
-}
-
-/// The text that bytes are, if it is UTF-8.
-fn text_in(bytes: &[u8]) -> Option<&str>
-    ensures { MatchOption result (is_utf8 bytes.now ≡ false) (λ text. (text.now
-        ≡ bytes.now) × (is_utf8 bytes.now ≡ true)) }
-{
-    match str::from_utf8(bytes) {
-        Ok(text) => Some(text),
-        Err(_) => None,
-    }
 }
 
 /// What bytes say, whether or not a way leads to each screen.

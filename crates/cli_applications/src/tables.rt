@@ -2,13 +2,16 @@
 
 ghost use Rattle.std.specs.Prelude.{◌≡◌, ◌++◌, [], ◌∷◌, option_map, true, false};
 ghost use Rattle.toml.specs.View.{view, table_view, items_view};
-ghost use Rattle.cli_applications.specs.Results.{Gives, Tells, in_screen};
-ghost use Rattle.cli_applications.specs.Manifest.{are_tables, has_name, is_free, screen_of, screens_at, screens_from, tables_in, tables_of, target_by, targets_at, targets_from, targets_in, targets_of, with_screen, with_target};
+ghost use Rattle.manifest_tables.specs.Results.{Tells};
+ghost use Rattle.manifest_tables.specs.Tables.{tables_in};
+ghost use Rattle.cli_applications.specs.Results.{Gives, in_screen};
+ghost use Rattle.cli_applications.specs.Manifest.{has_name, is_free, screen_of, screens_at, screens_from, tables_of, target_by, targets_at, targets_from, targets_in, targets_of, with_screen, with_target};
 
 use crate::attention::ATTENTION_KEYS;
 use crate::fault::{ManifestError, ManifestFault, ManifestKey, Why};
 use crate::screen::{NamedScreen, Target};
-use crate::values::{needed_at, needed_text, text_of, value_at, with_only};
+use crate::values::needed_text;
+use manifest_tables::{are_tables, needed_at, text_of, value_at, with_only};
 use std::alloc::Global;
 use toml::{Table, Value};
 
@@ -186,12 +189,6 @@ fn screens_from(alloc: Global, values: &[Value]) -> Result<Vec<NamedScreen>, Man
         }
     }
     Ok(screens)
-}
-
-fn are_tables(values: &[Value]) -> bool
-    ensures { result ≡ are_tables (items_view values.now) }
-{
-    values.iter().all(|value| value.is_table())
 }
 
 #[tactic(auto, unfolding(crate::specs::Manifest::tables_of))]

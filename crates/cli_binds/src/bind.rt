@@ -12,8 +12,8 @@ ghost use Rattle.cli_binds.specs.Bind.{lines_from, are_bound, status_of, printed
 use crate::fields::Form;
 use crate::lines::push_answer;
 use cli_commands::{
-    Answer, CommandError, GivesBytes, SizeLine, Status, TakesBytes, finish, layout_in, read_layout,
-    read_records, records_in,
+    Answer, CommandError, GivesBytes, SizeLine, Source, Status, TakesBytes, Text, finish,
+    read_layout, read_records,
 };
 use scr_layout::Layout;
 use std::alloc::{AllocError, Global};
@@ -62,6 +62,21 @@ fn answers_text(
     })
 }
 
+/// What `bind` answers to a layout and the answers of a source.
+fn bind_read_answers<S: Source>(
+    alloc: Global,
+    layout: &Layout,
+    source: &mut S,
+    form: Form,
+) -> Result<Answer, CommandError>
+    ensures answer { IfSome (S.remaining source.old)
+        (λ input. GivesOrFails answer_seen result (bind_answers form layout.now input)) }
+    ensures cause { ToldBy (S.failures source.old) (S.failures source.new) result }
+{
+    let told = read_records(alloc, source, SizeLine::Refused)?;
+    Ok(answers_text(alloc, form, layout, told.records.as_slice())?)
+}
+
 /// What `bind` answers to a layout and a text of answers.
 ///
 /// # Errors
@@ -75,23 +90,25 @@ pub fn bind_answers(
 ) -> Result<Answer, CommandError>
     ensures { Gives answer_seen result (bind_answers form layout.now answers.now) }
 {
-    let told = records_in(alloc, answers, SizeLine::Refused)?;
-    Ok(answers_text(alloc, form, layout, told.records.as_slice())?)
+    bind_read_answers(alloc, layout, &mut Text(answers), form)
 }
 
-/// What `bind` answers to a layout and to answers that are read.
-fn bind_read_answers<R: GivesBytes>(
+/// What `bind` answers to the sources of a layout and of answers.
+fn bind_read<L: Source, R: Source>(
     alloc: Global,
-    layout: &Layout,
-    reader: &mut R,
+    layout: &mut L,
+    answers: &mut R,
     form: Form,
 ) -> Result<Answer, CommandError>
-    ensures answer { IfSome (R.remaining reader.old)
-        (λ input. GivesOrFails answer_seen result (bind_answers form layout.now input)) }
-    ensures cause { ToldBy (R.failures reader.old) (R.failures reader.new) result }
+    ensures answer { IfSome (L.remaining layout.old) (λ text. IfSome (R.remaining
+        answers.old) (λ input. GivesOrFails answer_seen result (bind form text input))) }
+    ensures cause { ToldBy (L.failures layout.old + R.failures answers.old)
+        (L.failures layout.new + R.failures answers.new) result }
+    ensures unread { IfSome (L.remaining layout.old) (λ text. IfErr (layout_in text) (λ fault.
+        answers.new ≡ answers.old)) }
 {
-    let told = read_records(alloc, reader, SizeLine::Refused)?;
-    Ok(answers_text(alloc, form, layout, told.records.as_slice())?)
+    let layout = read_layout(alloc, layout)?;
+    bind_read_answers(alloc, &layout, answers, form)
 }
 
 /// What `bind` answers to the texts of a layout and of answers.
@@ -107,25 +124,7 @@ pub fn bind_texts(
 ) -> Result<Answer, CommandError>
     ensures { Gives answer_seen result (bind form layout.now answers.now) }
 {
-    let layout = layout_in(alloc, layout)?;
-    bind_answers(alloc, &layout, answers, form)
-}
-
-fn bind_read<L: GivesBytes, R: GivesBytes>(
-    alloc: Global,
-    layout: &mut L,
-    reader: &mut R,
-    form: Form,
-) -> Result<Answer, CommandError>
-    ensures answer { IfSome (L.remaining layout.old) (λ text. IfSome (R.remaining
-        reader.old) (λ input. GivesOrFails answer_seen result (bind form text input))) }
-    ensures cause { ToldBy (L.failures layout.old + R.failures reader.old)
-        (L.failures layout.new + R.failures reader.new) result }
-    ensures unread { IfSome (L.remaining layout.old) (λ text. IfErr (layout_in text) (λ fault.
-        reader.new ≡ reader.old)) }
-{
-    let layout = read_layout(alloc, layout)?;
-    bind_read_answers(alloc, &layout, reader, form)
+    bind_read(alloc, &mut Text(layout), &mut Text(answers), form)
 }
 
 /// Reads a layout and then answers in hexadecimal, one a line, and prints for each, counted from 0, its attention

@@ -11,8 +11,8 @@ ghost use Rattle.cli_characters.specs.Press.{printed_strike_typed, strike_input,
 
 use crate::strokes::{error_in, typed_text};
 use cli_commands::{
-    Answer, CommandError, GivesBytes, SizeLine, Status, TakesBytes, finish, press_strokes_texts,
-    read_text, records_in, within_limit,
+    Answer, CommandError, GivesBytes, SizeLine, Source, Status, TakesBytes, Text, Whole, finish,
+    press_strokes_texts, records_in, within_limit,
 };
 use std::alloc::Global;
 
@@ -34,20 +34,8 @@ fn strike_input(alloc: Global, records: &[u8], text: &[u8]) -> Result<Answer, Co
     strike_text(alloc, records, within_limit(text)?)
 }
 
-/// What `press --strokes` answers to the texts of records and of strokes, a line `string` by the keys of its characters.
-///
-/// # Errors
-///
-/// The first fault of the records' lines, then of the strokes' lines, then the first record that is refused; out of memory.
-pub fn typed_texts(alloc: Global, records: &[u8], lines: &[u8]) -> Result<Answer, CommandError>
-    ensures { Gives answer_seen result (strike_typed records.now lines.now) }
-{
-    records_in(alloc, records, SizeLine::Allowed)?;
-    strike_input(alloc, records, lines)
-}
-
-/// What `press --strokes` answers to good records and to strokes that are read.
-fn strike_read_lines<K: GivesBytes>(
+/// What `press --strokes` answers to good records and the strokes of a source.
+fn strike_lines<K: Source>(
     alloc: Global,
     records: &[u8],
     strokes: &mut K,
@@ -56,25 +44,37 @@ fn strike_read_lines<K: GivesBytes>(
         (λ lines. GivesOrFails answer_seen result (strike_input records.now lines)) }
     ensures cause { ToldBy (K.failures strokes.old) (K.failures strokes.new) result }
 {
-    let text = read_text(alloc, strokes)?;
-    strike_input(alloc, records, text.as_slice())
+    let text = strokes.whole(alloc)?;
+    strike_input(alloc, records, text.bytes())
 }
 
-fn strike_read<R: GivesBytes, K: GivesBytes>(
+/// What `press --strokes` answers to the sources of records and of strokes, a line `string` by the keys of its characters.
+fn strike_read<R: Source, K: Source>(
     alloc: Global,
-    reader: &mut R,
+    records: &mut R,
     strokes: &mut K,
 ) -> Result<Answer, CommandError>
-    ensures answer { IfSome (R.remaining reader.old) (λ input. IfSome (K.remaining
+    ensures answer { IfSome (R.remaining records.old) (λ input. IfSome (K.remaining
         strokes.old) (λ lines. GivesOrFails answer_seen result (strike_typed input lines))) }
-    ensures cause { ToldBy (R.failures reader.old + K.failures strokes.old)
-        (R.failures reader.new + K.failures strokes.new) result }
-    ensures unread { IfSome (R.remaining reader.old) (λ input.
+    ensures cause { ToldBy (R.failures records.old + K.failures strokes.old)
+        (R.failures records.new + K.failures strokes.new) result }
+    ensures unread { IfSome (R.remaining records.old) (λ input.
         IfErr (records_in Allowed input) (λ fault. strokes.new ≡ strokes.old)) }
 {
-    let records = read_text(alloc, reader)?;
-    records_in(alloc, records.as_slice(), SizeLine::Allowed)?;
-    strike_read_lines(alloc, records.as_slice(), strokes)
+    let records = records.whole(alloc)?;
+    records_in(alloc, records.bytes(), SizeLine::Allowed)?;
+    strike_lines(alloc, records.bytes(), strokes)
+}
+
+/// What `press --strokes` answers to the texts of records and of strokes, a line `string` by the keys of its characters.
+///
+/// # Errors
+///
+/// The first fault of the records' lines, then of the strokes' lines, then the first record that is refused; out of memory.
+pub fn typed_texts(alloc: Global, records: &[u8], lines: &[u8]) -> Result<Answer, CommandError>
+    ensures { Gives answer_seen result (strike_typed records.now lines.now) }
+{
+    strike_read(alloc, &mut Text(records), &mut Text(lines))
 }
 
 /// Reads records in hexadecimal, one a line, and strokes, one a line, a line `string` for the keys of its characters; applies the

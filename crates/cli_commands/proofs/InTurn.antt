@@ -1,6 +1,7 @@
 -- Lines taken in turn as they are read.
-use Rattle.std.proofs.Common.{◌≡◌, ◌⊎◌, ℕ, ◌+◌, ◌-◌, ◌<◌, ◌≤◌, true, false, cond, nat_lt, nat_le, List, [], ◌∷◌, ◌++◌, length, length-append, map, Ok, Err, refl, sym, ◌∙◌, ap, subst, inl, inr, arith}
+use Rattle.std.proofs.Common.{◌≡◌, ◌⊎◌, ℕ, Bool, ◌+◌, ◌-◌, ◌<◌, ◌≤◌, true, false, cond, nat_lt, nat_le, List, [], ◌∷◌, ◌++◌, length, length-append, map, Ok, Err, refl, sym, ◌∙◌, ap, subst, inl, inr, arith}
 use Rattle.std.specs.Prelude.{Option, Some, None, IfSome, Result}
+use Rattle.ds_codec.specs.Reading.{◌>>=◌}
 use Rattle.std.proofs.lemmas.Bool.{le-leb, lt-leb, leb-true, leb-false}
 use Rattle.bstr.specs.Text.{without_terminator}
 use Rattle.bstr.proofs.lemmas.LineLemmas.{lines-nil}
@@ -139,8 +140,6 @@ takes_nothing takes number told =
     let none : lines_in [] ≡ [] = ap (map without_terminator) lines-nil in
     rw none (refl, omega arith)
 
--- ---- what is given of an input
-
 within : (input : List ℕ) → length input ≤ 16777216 → within_limit input ≡ Ok input
 unfolding within_limit
 within input short = rw (lt_false (length input) short) refl
@@ -154,6 +153,40 @@ over input long = rw (lt_true (length input) long) refl
   where
     lt_true : (n : ℕ) → 16777216 < n → nat_lt 16777216 n ≡ true
     lt_true n many = le-leb (16777216 + 1) n (omega arith)
+
+-- ---- a text at hand
+
+too_long : (b : Bool) (input : List ℕ) (fault : Fault) → (cond b (Err TooLong) (Ok (tt {0})) >>= λ short. Ok input) ≡ Err fault → (b ≡ true) × (fault ≡ TooLong)
+too_long true input fault is = (refl, cc)
+too_long false input fault is = absurd cc
+
+all_lent : (b : Bool) (input lent : List ℕ) → (cond b (Err TooLong) (Ok (tt {0})) >>= λ short. Ok input) ≡ Ok lent → lent ≡ input
+all_lent true input lent is = absurd cc
+all_lent false input lent is = cc
+
+pub takes_long : {T A : Type 0} (takes : ℕ → T → List ℕ → Result T CommandError → Type 0) (none : T) (view : A → List ℕ) (input : List ℕ) (error : CommandError)
+    → Gives view (Err error) (within_limit input) → TakesInput takes none input (Err error)
+unfolding within_limit
+takes_long takes none view input (Told fault) is =
+    let long = too_long (nat_lt 16777216 (length input)) input fault is in
+    inl (leb-true (16777216 + 1) (length input) long.0, long.1)
+takes_long takes none view input ReadFailed is = tt
+takes_long takes none view input OutOfMemory is = tt
+
+takes_short : {T : Type 0} (takes : ℕ → T → List ℕ → Result T CommandError → Type 0) (none : T) (input : List ℕ) (result : Result T CommandError)
+    → length input ≤ 16777216 → TakesAll takes 1 none (lines_in input) result → TakesInput takes none input result
+takes_short takes none input (Ok told) short is = (short, is)
+takes_short takes none input (Err (Told fault)) short is = inr (short, is)
+takes_short takes none input (Err ReadFailed) short is = tt
+takes_short takes none input (Err OutOfMemory) short is = tt
+
+pub takes_lent : {T : Type 0} (takes : ℕ → T → List ℕ → Result T CommandError → Type 0) (none : T) (input lent : List ℕ) (result : Result T CommandError)
+    → within_limit input ≡ Ok lent → length lent ≤ 16777216 → TakesAll takes 1 none (lines_in lent) result → TakesInput takes none input result
+unfolding within_limit
+takes_lent takes none input lent result is short all =
+    subst (λ t. TakesInput takes none t result) (all_lent (nat_lt 16777216 (length input)) input lent is) (takes_short takes none lent result short all)
+
+-- ---- what is given of an input
 
 pub gives_input : {T A : Type 0} (view : T → A) (take : ℕ → A → List ℕ → Result A Fault) (none : T) (input : List ℕ) (result : Result T CommandError)
     → TakesInput (λ n t line r. Gives view r (take n (view t) line)) none input result

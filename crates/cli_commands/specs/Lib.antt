@@ -2,6 +2,7 @@ pub mod Status
 pub mod Fault
 pub mod Sizes
 pub mod Lines
+pub mod TurnLines
 pub mod NextLine
 pub mod Taking
 pub mod Records

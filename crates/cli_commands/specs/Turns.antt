@@ -1,11 +1,11 @@
 -- Lines of records in hexadecimal, with a line `turn` between the turns of a dialogue.
-use Rattle.std.specs.Prelude.{ℕ, ◌+◌, List, [], ◌∷◌, ◌++◌, codes, length, Result, Ok, Err, if◌then◌else◌}
-use Rattle.std.specs.Str.{bytes_eq}
+use Rattle.std.specs.Prelude.{ℕ, ◌+◌, List, [], ◌∷◌, ◌++◌, length, Result, Ok, Err, if◌then◌else◌}
 use Rattle.ds_codec.specs.Reading.{◌>>=◌}
 use Rattle.cli_commands.specs.declared.fault.Fault.{Fault}
 use Rattle.cli_commands.specs.declared.fault.Fault.TheVariants.{BadLine}
 use Rattle.cli_commands.specs.declared.input.sizes.SizeLine.TheVariants.{Refused}
 use Rattle.cli_commands.specs.Lines.{at_most}
+use Rattle.cli_commands.specs.TurnLines.{is_turn}
 use Rattle.cli_commands.specs.Records.{Line, ignored, sizes, outbound, bad, line_told}
 use Rattle.cli_commands.specs.Taking.{taken_in}
 
@@ -38,7 +38,7 @@ next_turn told = record told { ended = told.ended ++ told.current ∷ []; curren
 
 abbrev pub take_turn_line : ℕ → Turns → List ℕ → Result Turns Fault
 take_turn_line number told line =
-    if bytes_eq line (codes "turn") then Ok (next_turn told) else after_record number told (line_told Refused line)
+    if is_turn line then Ok (next_turn told) else after_record number told (line_told Refused line)
 
 -- each turn's records, in order
 abbrev pub turns_told : Turns → List (List (List ℕ))

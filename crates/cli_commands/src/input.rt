@@ -13,5 +13,7 @@ pub mod next;
 pub mod reading;
 pub mod records;
 pub mod sizes;
+pub mod source;
 pub mod strokes;
+pub mod turn_lines;
 pub mod turns;

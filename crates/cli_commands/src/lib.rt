@@ -12,9 +12,9 @@ mod status;
 mod streams;
 
 pub use commands::{
-    Talked, check_answer, check_texts, convert_back_text, convert_text, judge_talk, lent,
-    press_strokes_texts, press_texts, run_check, run_check_pen, run_convert, run_convert_back,
-    run_press, run_press_strokes, run_show, run_talk, show_text, talk_texts,
+    Talked, check_answer, check_texts, convert_back_text, convert_text, findings_of, judge_talk,
+    lent, press_strokes_texts, press_texts, run_check, run_check_pen, run_convert,
+    run_convert_back, run_press, run_press_strokes, run_show, run_talk, show_text, talk_texts,
 };
 pub use fault::{CommandError, Fault, failure};
 pub use input::ahead::ReadAhead;
@@ -22,11 +22,14 @@ pub use input::bytes::{read_text, within_limit};
 pub use input::keys::{Keys, keys_in, read_keys};
 pub use input::last_layout::LastLayout;
 pub use input::layout::{layout_in, read_layout};
+pub use input::layouts::read_layouts;
 pub use input::lines::is_ignored;
 pub use input::next::{next_line, without_end};
 pub use input::records::{Records, read_records, records_in};
 pub use input::sizes::SizeLine;
+pub use input::source::{Source, Text, Whole};
 pub use input::strokes::{Strokes, read_strokes, strokes_in};
+pub use input::turn_lines::{is_turn, left_after, push_line};
 pub use law::{convert_law, lines_law, own_strokes_law};
 pub use output::answer::{Answer, finish, printed};
 pub use output::demo::{Demos, demo_sends, demo_terminal};

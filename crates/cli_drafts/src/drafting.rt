@@ -10,8 +10,8 @@ ghost use Rattle.cli_drafts.specs.Draft.{printed_text, draft_told, draft, printe
 
 use crate::stop::stop_line;
 use cli_commands::{
-    Answer, CommandError, GivesBytes, Records, SizeLine, Status, TakesBytes, finish, read_records,
-    records_in,
+    Answer, CommandError, GivesBytes, Records, SizeLine, Source, Status, TakesBytes, Text, finish,
+    read_records,
 };
 use ds_screen::{PlaneCells, Screen};
 use scr_draft::{Opened, draft, open};
@@ -41,6 +41,16 @@ fn draft_told(alloc: Global, told: &Records) -> Result<Answer, CommandError>
     }
 }
 
+/// What `draft` answers to the records of a source.
+fn draft_records<S: Source>(alloc: Global, source: &mut S) -> Result<Answer, CommandError>
+    ensures answer { IfSome (S.remaining source.old)
+        (λ input. GivesOrFails answer_seen result (draft input)) }
+    ensures cause { ToldBy (S.failures source.old) (S.failures source.new) result }
+{
+    let told = read_records(alloc, source, SizeLine::Allowed)?;
+    draft_told(alloc, &told)
+}
+
 /// What `draft` answers to a text of records.
 ///
 /// # Errors
@@ -49,17 +59,7 @@ fn draft_told(alloc: Global, told: &Records) -> Result<Answer, CommandError>
 pub fn draft_text(alloc: Global, records: &[u8]) -> Result<Answer, CommandError>
     ensures { Gives answer_seen result (draft records.now) }
 {
-    let told = records_in(alloc, records, SizeLine::Allowed)?;
-    draft_told(alloc, &told)
-}
-
-fn draft_records<R: GivesBytes>(alloc: Global, reader: &mut R) -> Result<Answer, CommandError>
-    ensures answer { IfSome (R.remaining reader.old)
-        (λ input. GivesOrFails answer_seen result (draft input)) }
-    ensures cause { ToldBy (R.failures reader.old) (R.failures reader.new) result }
-{
-    let told = read_records(alloc, reader, SizeLine::Allowed)?;
-    draft_told(alloc, &told)
+    draft_records(alloc, &mut Text(records))
 }
 
 /// Reads records in hexadecimal, one a line, applies them to a new screen, and prints a layout for it, in TOML: an entry

@@ -13,12 +13,13 @@ use Rattle.scr_layout.specs.Entry.{Declared}
 use Rattle.scr_layout.specs.Layout.{Declaration}
 use Rattle.scr_check.specs.declared.finding.Overlong.{Overlong}
 use Rattle.scr_check.specs.declared.finding.Finding.{Finding}
-use Rattle.scr_check.specs.declared.finding.Finding.TheVariants.{RecordRefused, NoRecord, FirstNotErase, NotAWrite, KeyboardLocked, OtherSize, Unformatted, Undeclared, UndeclaredFixed, Missing, TooLong, OtherKind, EmptyModified, CursorDependent, Selectable}
+use Rattle.scr_check.specs.declared.finding.Finding.TheVariants.{NotAWrite, Undeclared, UndeclaredFixed, Missing, TooLong, OtherKind, EmptyModified, CursorDependent, Selectable}
 use Rattle.scr_check.specs.declared.origins.Origin.{Origin}
 use Rattle.scr_check.specs.declared.traced.Traced.{Traced}
 use Rattle.scr_check.specs.FindingText.{name_at}
 use Rattle.cli_findings.specs.FieldName.{field_name}
 use Rattle.cli_findings.specs.Facts.{row_at, column_at}
+use Rattle.cli_findings.specs.Rule.{rule_of, change_of}
 
 -- ---- a field without an entry
 
@@ -109,18 +110,20 @@ field_help layout end (EmptyModified place) = Some (modified_help layout.size pl
 field_help layout end (Selectable place) = Some (selectable_help layout.size place)
 field_help layout end finding = entry_help layout end finding
 
--- what ends a finding of a field that ends there; how a record that is refused is mended no finding tells
+-- what is built of a finding's own numbers and names
+abbrev pub built_help : Declaration → Option Origin → Finding → Option (List ℕ)
+built_help layout end (NotAWrite index) = Some (leave_out_help index)
+built_help layout end (CursorDependent index) = Some (begin_help index)
+built_help layout end finding = field_help layout end finding
+
+-- the change of a rule, else this one
+abbrev pub change_or : Option (List ℕ) → Option (List ℕ) → Option (List ℕ)
+change_or None built = built
+change_or (Some words) built = Some words
+
+-- what ends a finding of a field that ends there: what its rule's row has, or what is built; how a record that is refused is mended neither tells
 abbrev pub help_for : Declaration → Option Origin → Finding → Option (List ℕ)
-help_for layout end (RecordRefused index refused) = None
-help_for layout end NoRecord = Some (codes "give the records that write the screen")
-help_for layout end FirstNotErase = Some (codes "begin record 0 with Erase/Write, F5, or Erase/Write Alternate, 7E")
-help_for layout end (NotAWrite index) = Some (leave_out_help index)
-help_for layout end KeyboardLocked = Some (codes "set bit 02, which restores the keyboard, of the last write control character")
-help_for layout end (OtherSize shown declared) =
-    Some (codes "erase by Erase/Write, F5, for the default size and by Erase/Write Alternate, 7E, for the alternate, or change the layout's screen")
-help_for layout end Unformatted = Some (codes "write attributes, each by Start Field, 1D")
-help_for layout end (CursorDependent index) = Some (begin_help index)
-help_for layout end finding = field_help layout end finding
+help_for layout end finding = change_or (change_of (rule_of finding)) (built_help layout end finding)
 
 abbrev pub help_of : Declaration → Traced → Option (List ℕ)
 help_of layout traced = help_for layout traced.end traced.finding

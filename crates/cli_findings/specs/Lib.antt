@@ -1,3 +1,4 @@
+pub mod RuleRow
 pub mod Rule
 pub mod Name
 pub mod Origins

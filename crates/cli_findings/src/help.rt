@@ -4,10 +4,11 @@ ghost use Rattle.std.specs.Prelude.{◌≡◌, ◌++◌, ◌<◌, ◌≤◌, opt
 ghost use Rattle.std.specs.String.{string_bytes};
 ghost use Rattle.ds_codec.specs.Geometry.{cells_of, IsGood};
 ghost use Rattle.scr_check.specs.FindingText.{name_at};
-ghost use Rattle.cli_findings.specs.Help.{attribute_place, entry_keys, undeclared_help, modified_help, selectable_help, undeclared_fixed_help, address_digits, missing_text, missing_help, no_cell_text, absent_help, too_long_help, kind_words, other_kind_help, leave_out_help, begin_help, entry_help, field_help, help_for, help_of};
+ghost use Rattle.cli_findings.specs.Help.{attribute_place, entry_keys, undeclared_help, modified_help, selectable_help, undeclared_fixed_help, address_digits, missing_text, missing_help, no_cell_text, absent_help, too_long_help, kind_words, other_kind_help, leave_out_help, begin_help, entry_help, field_help, built_help, help_for, help_of};
 
 use crate::facts::{column_at, row_at};
 use crate::free_name::field_name;
+use crate::rule::rule_of;
 use ds_codec::{Geometry, Size, encode_address};
 use ds_screen::ring::previous;
 use order_lines::push_bytes;
@@ -214,12 +215,6 @@ fn begin_help(alloc: Global, index: usize) -> Result<String, AllocError>
     format!(in alloc; "begin the orders of record {index} with Set Buffer Address, 11")
 }
 
-fn fixed_help(alloc: Global, text: &str) -> Result<Option<String>, AllocError>
-    ensures { IfOk result (λ help. option_map string_bytes help ≡ Some text.now) }
-{
-    Ok(Some(String::from_str(alloc, text)?))
-}
-
 fn absent_entry_help(
     alloc: Global,
     layout: &Layout,
@@ -297,7 +292,25 @@ fn field_help(
     }
 }
 
-/// The change that ends a finding of a field that ends there, where one is known.
+/// The change that ends a finding of a field that ends there, built of the finding's own numbers and names, which no row of a rule
+/// can have.
+fn built_help(
+    alloc: Global,
+    layout: &Layout,
+    end: Option<Origin>,
+    finding: &Finding,
+) -> Result<Option<String>, AllocError>
+    ensures { IfOk result (λ help. option_map string_bytes help
+        ≡ built_help layout.now end finding.now) }
+{
+    match finding {
+        Finding::NotAWrite(index) => Ok(Some(leave_out_help(alloc, *index)?)),
+        Finding::CursorDependent(index) => Ok(Some(begin_help(alloc, *index)?)),
+        _ => field_help(alloc, layout, end, finding),
+    }
+}
+
+/// The change that ends a finding of a field that ends there, where one is known: that of its rule, or one of its own.
 fn help_for(
     alloc: Global,
     layout: &Layout,
@@ -307,25 +320,9 @@ fn help_for(
     ensures { IfOk result (λ help. option_map string_bytes help
         ≡ help_for layout.now end finding.now) }
 {
-    match finding {
-        Finding::RecordRefused(_, _) => Ok(None),
-        Finding::NoRecord => fixed_help(alloc, "give the records that write the screen"),
-        Finding::FirstNotErase => fixed_help(
-            alloc,
-            "begin record 0 with Erase/Write, F5, or Erase/Write Alternate, 7E",
-        ),
-        Finding::NotAWrite(index) => Ok(Some(leave_out_help(alloc, *index)?)),
-        Finding::KeyboardLocked => fixed_help(
-            alloc,
-            "set bit 02, which restores the keyboard, of the last write control character",
-        ),
-        Finding::OtherSize(_, _) => fixed_help(
-            alloc,
-            "erase by Erase/Write, F5, for the default size and by Erase/Write Alternate, 7E, for the alternate, or change the layout's screen",
-        ),
-        Finding::Unformatted => fixed_help(alloc, "write attributes, each by Start Field, 1D"),
-        Finding::CursorDependent(index) => Ok(Some(begin_help(alloc, *index)?)),
-        _ => field_help(alloc, layout, end, finding),
+    match rule_of(finding).change() {
+        Some(words) => Ok(Some(String::from_str(alloc, words)?)),
+        None => built_help(alloc, layout, end, finding),
     }
 }
 

@@ -19,6 +19,7 @@ mod report;
 mod results;
 mod rule;
 mod rule_facts;
+mod rule_row;
 mod sarif;
 mod told_results;
 mod uri;
@@ -41,7 +42,11 @@ pub use region::{Columns, Region, layout_line, line_of_fault};
 pub use rehearsal::rehearsal_after;
 pub use report::{Report, report_texts, run_report};
 pub use results::Results;
-pub use rule_facts::{meaning_of_finding, rule_count, rule_id_of, rule_index_of};
-pub use sarif::{findings_log, fronted_log, log_text, named_rule, refusal_log, rules_value};
+pub use rule_facts::{
+    form_of_finding, meaning_of_finding, mend_of_finding, rule_count, rule_id_of, rule_index_of,
+};
+pub use sarif::{
+    findings_log, fronted_log, log_text, named_rule, push_help, refusal_log, rules_value,
+};
 pub use told_results::{found_results, named_result, one_result, refused_results, results_line};
 pub use written_log::found_log;

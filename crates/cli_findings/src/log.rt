@@ -16,7 +16,7 @@ use crate::region::{layout_line, line_of_fault};
 use crate::sarif::refusal_log;
 use crate::written_log::found_log;
 use cli_commands::{
-    Answer, CommandError, Fault, GivesBytes, SizeLine, Status, layout_in, read_text, records_in,
+    Answer, CommandError, Fault, SizeLine, Source, Status, Whole, layout_in, records_in,
     within_limit,
 };
 use scr_check::Traced;
@@ -125,37 +125,37 @@ fn log_records(
     }
 }
 
-/// The log of a layout, and of records that are read.
-fn log_with<R: GivesBytes>(
+/// The log of a layout, and of the records of a source.
+fn log_with<S: Source>(
     alloc: Global,
     pen: Pen,
     paths: Paths<'_>,
     layout: &Layout,
-    reader: &mut R,
+    source: &mut S,
 ) -> Result<Answer, CommandError>
-    ensures answer { IfSome (R.remaining reader.old) (λ input. GivesOrFails answer_seen result
+    ensures answer { IfSome (S.remaining source.old) (λ input. GivesOrFails answer_seen result
         (Ok (or_refused pen paths.entry.records.now (log_records pen paths.entry layout.now (within_limit input))))) }
-    ensures cause { ToldBy (R.failures reader.old) (R.failures reader.new) result }
+    ensures cause { ToldBy (S.failures source.old) (S.failures source.new) result }
 {
-    let input = read_text(alloc, reader)?;
-    log_records(alloc, pen, paths, layout, input.as_slice())
+    let input = source.whole(alloc)?;
+    log_records(alloc, pen, paths, layout, input.bytes())
 }
 
-/// The log of a layout's text and of records that are read, unless the layout has a fault.
-fn log_over<R: GivesBytes>(
+/// The log of a layout's text and of the records of a source, unless the layout has a fault.
+fn log_over<S: Source>(
     alloc: Global,
     pen: Pen,
     paths: Paths<'_>,
     text: &[u8],
-    reader: &mut R,
+    source: &mut S,
 ) -> Result<Answer, CommandError>
-    ensures answer { IfSome (R.remaining reader.old) (λ input. GivesOrFails answer_seen result
+    ensures answer { IfSome (S.remaining source.old) (λ input. GivesOrFails answer_seen result
         (Ok (log_layout pen paths.entry (within_limit text.now) (layout_in text.now) (within_limit input)))) }
-    ensures cause { ToldBy (R.failures reader.old) (R.failures reader.new) result }
-    ensures unread { IfErr (layout_in text.now) (λ fault. reader.new ≡ reader.old) }
+    ensures cause { ToldBy (S.failures source.old) (S.failures source.new) result }
+    ensures unread { IfErr (layout_in text.now) (λ fault. source.new ≡ source.old) }
 {
     match layout_in(alloc, text) {
-        Ok(layout) => log_with(alloc, pen, paths, &layout, reader),
+        Ok(layout) => log_with(alloc, pen, paths, &layout, source),
         Err(CommandError::Fault(fault)) => {
             Ok(refused_answer(alloc, pen, paths.layout, layout_line(text, fault), fault)?)
         }
@@ -164,41 +164,21 @@ fn log_over<R: GivesBytes>(
     }
 }
 
-/// The log of a layout and records that are read.
-pub(crate) fn log_read<L: GivesBytes, R: GivesBytes>(
+/// The log of the sources of a layout and of records.
+pub(crate) fn log_read<L: Source, R: Source>(
     alloc: Global,
     pen: Pen,
     paths: Paths<'_>,
     layout: &mut L,
-    reader: &mut R,
+    records: &mut R,
 ) -> Result<Answer, CommandError>
     ensures answer { IfSome (L.remaining layout.old) (λ text. IfSome (R.remaining
-        reader.old) (λ input. GivesOrFails answer_seen result (Ok (printed_log pen paths.entry text input)))) }
-    ensures cause { ToldBy (L.failures layout.old + R.failures reader.old)
-        (L.failures layout.new + R.failures reader.new) result }
+        records.old) (λ input. GivesOrFails answer_seen result (Ok (printed_log pen paths.entry text input)))) }
+    ensures cause { ToldBy (L.failures layout.old + R.failures records.old)
+        (L.failures layout.new + R.failures records.new) result }
     ensures unread { IfSome (L.remaining layout.old) (λ text. IfErr (layout_in text) (λ fault.
-        reader.new ≡ reader.old)) }
+        records.new ≡ records.old)) }
 {
-    let text = read_text(alloc, layout)?;
-    log_over(alloc, pen, paths, text.as_slice(), reader)
-}
-
-/// The log of the texts of a layout and of records.
-pub(crate) fn log_texts(
-    alloc: Global,
-    pen: Pen,
-    paths: Paths<'_>,
-    layout: &[u8],
-    records: &[u8],
-) -> Result<Answer, CommandError>
-    ensures { Gives answer_seen result (Ok (printed_log pen paths.entry layout.now records.now)) }
-{
-    match layout_in(alloc, layout) {
-        Ok(told) => log_records(alloc, pen, paths, &told, records),
-        Err(CommandError::Fault(fault)) => {
-            Ok(refused_answer(alloc, pen, paths.layout, layout_line(layout, fault), fault)?)
-        }
-        Err(CommandError::ReadFailed) => Err(CommandError::ReadFailed),
-        Err(CommandError::OutOfMemory) => Err(CommandError::OutOfMemory),
-    }
+    let text = layout.whole(alloc)?;
+    log_over(alloc, pen, paths, text.bytes(), records)
 }

@@ -13,11 +13,11 @@ ghost use Rattle.cli_findings.specs.Report.{report_findings, report_within, repo
 
 use crate::found::{Pen, find};
 use crate::json_lines::{findings_answer, refusal_answer};
-use crate::log::{log_read, log_texts};
+use crate::log::log_read;
 use crate::paths::Paths;
 use cli_commands::{
-    Answer, CommandError, GivesBytes, SizeLine, Status, TakesBytes, finish, layout_in, read_layout,
-    read_text, records_in, within_limit,
+    Answer, CommandError, GivesBytes, SizeLine, Source, Status, TakesBytes, Text, Whole, finish,
+    read_layout, records_in, within_limit,
 };
 use scr_layout::Layout;
 use std::alloc::{AllocError, Global};
@@ -70,18 +70,6 @@ fn report_records(
     report_within(alloc, pen, layout, text)
 }
 
-fn report_both(
-    alloc: Global,
-    pen: Pen,
-    layout: &[u8],
-    records: &[u8],
-) -> Result<Answer, CommandError>
-    ensures { Gives answer_seen result (report pen layout.now records.now) }
-{
-    let layout = layout_in(alloc, layout)?;
-    report_records(alloc, pen, &layout, records)
-}
-
 /// What is reported: the answer, or in its place what is wrong with an input.
 fn or_refusal(alloc: Global, answer: Result<Answer, CommandError>) -> Result<Answer, CommandError>
     ensures texts { (due : Result Printed AFault) → Gives answer_seen answer due
@@ -95,6 +83,62 @@ fn or_refusal(alloc: Global, answer: Result<Answer, CommandError>) -> Result<Ans
         Err(CommandError::Fault(fault)) => Ok(refusal_answer(alloc, fault)?),
         Err(CommandError::ReadFailed) => Err(CommandError::ReadFailed),
         Err(CommandError::OutOfMemory) => Err(CommandError::OutOfMemory),
+    }
+}
+
+fn report_read<L: Source, R: Source>(
+    alloc: Global,
+    pen: Pen,
+    layout: &mut L,
+    records: &mut R,
+) -> Result<Answer, CommandError>
+    ensures answer { IfSome (L.remaining layout.old) (λ text. IfSome (R.remaining
+        records.old) (λ input. GivesOrFails answer_seen result (report pen text input))) }
+    ensures cause { ToldBy (L.failures layout.old + R.failures records.old)
+        (L.failures layout.new + R.failures records.new) result }
+    ensures unread { IfSome (L.remaining layout.old) (λ text. IfErr (layout_in text) (λ fault.
+        records.new ≡ records.old)) }
+{
+    let layout = read_layout(alloc, layout)?;
+    let records = records.whole(alloc)?;
+    report_records(alloc, pen, &layout, records.bytes())
+}
+
+fn report_lines<L: Source, R: Source>(
+    alloc: Global,
+    pen: Pen,
+    layout: &mut L,
+    records: &mut R,
+) -> Result<Answer, CommandError>
+    ensures answer { IfSome (L.remaining layout.old) (λ text. IfSome (R.remaining
+        records.old) (λ input. GivesOrFails answer_seen result (Ok (or_refusal (report pen text input))))) }
+    ensures cause { ToldBy (L.failures layout.old + R.failures records.old)
+        (L.failures layout.new + R.failures records.new) result }
+    ensures unread { IfSome (L.remaining layout.old) (λ text. IfErr (layout_in text) (λ fault.
+        records.new ≡ records.old)) }
+{
+    let answer = report_read(alloc, pen, layout, records);
+    or_refusal(alloc, answer)
+}
+
+/// What is reported of the sources of a layout and of records.
+fn report_streams<L: Source, R: Source>(
+    alloc: Global,
+    pen: Pen,
+    report: Report<'_>,
+    layout: &mut L,
+    records: &mut R,
+) -> Result<Answer, CommandError>
+    ensures answer { IfSome (L.remaining layout.old) (λ text. IfSome (R.remaining
+        records.old) (λ input. GivesOrFails answer_seen result (Ok (printed_report pen report.entry text input)))) }
+    ensures cause { ToldBy (L.failures layout.old + R.failures records.old)
+        (L.failures layout.new + R.failures records.new) result }
+    ensures unread { IfSome (L.remaining layout.old) (λ text. IfErr (layout_in text) (λ fault.
+        records.new ≡ records.old)) }
+{
+    match report {
+        Report::Json => report_lines(alloc, pen, layout, records),
+        Report::Sarif(paths) => log_read(alloc, pen, paths, layout, records),
     }
 }
 
@@ -114,66 +158,7 @@ pub fn report_texts(
     ensures { Gives answer_seen result
         (Ok (printed_report pen report.entry layout.now records.now)) }
 {
-    match report {
-        Report::Json => or_refusal(alloc, report_both(alloc, pen, layout, records)),
-        Report::Sarif(paths) => log_texts(alloc, pen, paths, layout, records),
-    }
-}
-
-fn report_read<L: GivesBytes, R: GivesBytes>(
-    alloc: Global,
-    pen: Pen,
-    layout: &mut L,
-    reader: &mut R,
-) -> Result<Answer, CommandError>
-    ensures answer { IfSome (L.remaining layout.old) (λ text. IfSome (R.remaining
-        reader.old) (λ input. GivesOrFails answer_seen result (report pen text input))) }
-    ensures cause { ToldBy (L.failures layout.old + R.failures reader.old)
-        (L.failures layout.new + R.failures reader.new) result }
-    ensures unread { IfSome (L.remaining layout.old) (λ text. IfErr (layout_in text) (λ fault.
-        reader.new ≡ reader.old)) }
-{
-    let layout = read_layout(alloc, layout)?;
-    let records = read_text(alloc, reader)?;
-    report_records(alloc, pen, &layout, records.as_slice())
-}
-
-fn report_lines<L: GivesBytes, R: GivesBytes>(
-    alloc: Global,
-    pen: Pen,
-    layout: &mut L,
-    reader: &mut R,
-) -> Result<Answer, CommandError>
-    ensures answer { IfSome (L.remaining layout.old) (λ text. IfSome (R.remaining
-        reader.old) (λ input. GivesOrFails answer_seen result (Ok (or_refusal (report pen text input))))) }
-    ensures cause { ToldBy (L.failures layout.old + R.failures reader.old)
-        (L.failures layout.new + R.failures reader.new) result }
-    ensures unread { IfSome (L.remaining layout.old) (λ text. IfErr (layout_in text) (λ fault.
-        reader.new ≡ reader.old)) }
-{
-    let answer = report_read(alloc, pen, layout, reader);
-    or_refusal(alloc, answer)
-}
-
-/// What is reported of a layout and records that are read.
-fn report_streams<L: GivesBytes, R: GivesBytes>(
-    alloc: Global,
-    pen: Pen,
-    report: Report<'_>,
-    layout: &mut L,
-    reader: &mut R,
-) -> Result<Answer, CommandError>
-    ensures answer { IfSome (L.remaining layout.old) (λ text. IfSome (R.remaining
-        reader.old) (λ input. GivesOrFails answer_seen result (Ok (printed_report pen report.entry text input)))) }
-    ensures cause { ToldBy (L.failures layout.old + R.failures reader.old)
-        (L.failures layout.new + R.failures reader.new) result }
-    ensures unread { IfSome (L.remaining layout.old) (λ text. IfErr (layout_in text) (λ fault.
-        reader.new ≡ reader.old)) }
-{
-    match report {
-        Report::Json => report_lines(alloc, pen, layout, reader),
-        Report::Sarif(paths) => log_read(alloc, pen, paths, layout, reader),
-    }
+    report_streams(alloc, pen, report, &mut Text(layout), &mut Text(records))
 }
 
 /// Reads a layout and then records in hexadecimal, one a line, and reports what stands against them, with what the keys

@@ -292,7 +292,12 @@ fn result_value(
     }
 }
 
-fn push_help(out: &mut String, help: Option<String>) -> Result<(), AllocError>
+/// What to do, after a colon, where it is known.
+///
+/// # Errors
+///
+/// Where a request for memory was refused.
+pub fn push_help(out: &mut String, help: Option<String>) -> Result<(), AllocError>
     ensures { OnOk result (string_bytes out.new
         ≡ string_bytes out.old ++ help_end (option_map string_bytes help)) }
 {

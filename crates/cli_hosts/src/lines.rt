@@ -1,49 +1,18 @@
 //! The lines of a terminal.
 
-ghost use Rattle.std.specs.Prelude.{◌≡◌, ◌++◌, map, IfOk, OnOk};
-ghost use Rattle.std.specs.List.{flat_map};
+ghost use Rattle.std.specs.Prelude.{◌≡◌, IfOk};
 ghost use Rattle.std.specs.String.{string_bytes};
-ghost use Rattle.tn_session.specs.HostView.{field_view, outcome_view};
-ghost use Rattle.cli_sessions.specs.Session.{field_line, answered_lines, fault_line};
+ghost use Rattle.tn_session.specs.HostView.{outcome_view};
+ghost use Rattle.cli_sessions.specs.Session.{answered_lines, fault_line};
 ghost use Rattle.cli_hosts.specs.Words.{limit_number, limit_line, starved_line};
 ghost use Rattle.cli_hosts.specs.Writing.{Writes};
 
 use cli_commands::{Answer, Status, TakesBytes, finish};
-use cli_sessions::{Output, fault_number};
-use order_lines::{push_bytes, push_hex};
-use scr_check::name_at;
-use scr_layout::{Entry, Layout};
+use cli_sessions::{Output, push_answered, push_fault};
+use scr_layout::Layout;
 use session_hub::End;
 use std::alloc::{AllocError, Global};
 use tn_session::{HostOutcome, RunFault};
-
-fn push_field(
-    out: &mut String,
-    entries: &[Entry],
-    field: &(usize, Vec<u8>),
-) -> Result<(), AllocError>
-    ensures { OnOk result (string_bytes out.new
-        ≡ string_bytes out.old ++ field_line entries.now (field_view field.now)) }
-{
-    out.push_str(name_at(entries, field.0))?;
-    out.push_str(" ")?;
-    push_bytes(out, field.1.as_slice())?;
-    out.push_str("\n")
-}
-
-fn push_fields(
-    out: &mut String,
-    entries: &[Entry],
-    fields: &[(usize, Vec<u8>)],
-) -> Result<(), AllocError>
-    ensures { OnOk result (string_bytes out.new ≡ string_bytes out.old
-        ++ flat_map (field_line entries.now) (map field_view fields.now)) }
-{
-    for field in fields {
-        push_field(out, entries, field)?;
-    }
-    Ok(())
-}
 
 /// The key of the terminal of this number, and its fields.
 pub(crate) fn answered_text(
@@ -56,10 +25,7 @@ pub(crate) fn answered_text(
         ≡ answered_lines layout.now.entries number (outcome_view outcome.now)) }
 {
     let mut out = String::new(alloc);
-    write!(out, "terminal {number} aid ")?;
-    push_hex(&mut out, outcome.aid.byte())?;
-    out.push_str("\n")?;
-    push_fields(&mut out, layout.entries(), outcome.fields.as_slice())?;
+    push_answered(&mut out, layout, number, outcome)?;
     Ok(out)
 }
 
@@ -67,8 +33,9 @@ pub(crate) fn answered_text(
 pub fn fault_text(alloc: Global, number: u64, why: RunFault) -> Result<String, AllocError>
     ensures { IfOk result (λ text. string_bytes text ≡ fault_line number why) }
 {
-    let fault = fault_number(why);
-    format!(in alloc; "terminal {number} fault {fault}\n")
+    let mut out = String::new(alloc);
+    push_fault(&mut out, number, why)?;
+    Ok(out)
 }
 
 /// The number of a limit; that of the others is a session's.

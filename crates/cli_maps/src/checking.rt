@@ -29,7 +29,8 @@ use crate::told::maps_asked;
 use bms_map::{Control, Map};
 use bms_source::{Refusal, SourceError, lines_of};
 use cli_commands::{
-    Answer, CommandError, Fault, GivesBytes, Status, TakesBytes, finish, read_text, within_limit,
+    Answer, CommandError, Fault, GivesBytes, Source, Status, TakesBytes, Text, Whole, finish,
+    within_limit,
 };
 use cli_findings::Region;
 use std::alloc::{AllocError, Global};
@@ -224,6 +225,40 @@ fn check_limited(
     }
 }
 
+/// What is said of the maps of BMS source, a text or one that is read, unless it is too long.
+fn check_read<S: Source>(
+    alloc: Global,
+    report: Report<'_>,
+    from: &mut S,
+    asked: Asked<'_>,
+) -> Result<Answer, CommandError>
+    ensures answer { IfSome (S.remaining from.old) (λ input. GivesOrFails answer_seen result
+        (check_limited (report_seen report.entry) (name_in asked.entry.name) asked.entry.control
+        input)) }
+    ensures cause { ToldBy (S.failures from.old) (S.failures from.new) result }
+{
+    match from.whole(alloc) {
+        Ok(text) => check_limited(alloc, report, asked, text.bytes()),
+        Err(error) => Err(error),
+    }
+}
+
+/// What `check --map` answers to it.
+fn check_reported<S: Source>(
+    alloc: Global,
+    report: Report<'_>,
+    from: &mut S,
+    asked: Asked<'_>,
+) -> Result<Answer, CommandError>
+    ensures answer { IfSome (S.remaining from.old) (λ input. GivesOrFails answer_seen result
+        (check_source (report_seen report.entry) (name_in asked.entry.name) asked.entry.control
+        input)) }
+    ensures cause { ToldBy (S.failures from.old) (S.failures from.new) result }
+{
+    let answer = check_read(alloc, report, from, asked);
+    or_faulted(alloc, report, answer)
+}
+
 /// What `check --map` answers to a source.
 ///
 /// # Errors
@@ -238,40 +273,7 @@ pub fn check_map_text(
     ensures { Gives answer_seen result (check_source (report_seen report.entry)
         (name_in asked.entry.name) asked.entry.control source.now) }
 {
-    let answer = check_limited(alloc, report, asked, source);
-    or_faulted(alloc, report, answer)
-}
-
-fn check_read<R: GivesBytes>(
-    alloc: Global,
-    report: Report<'_>,
-    reader: &mut R,
-    asked: Asked<'_>,
-) -> Result<Answer, CommandError>
-    ensures answer { IfSome (R.remaining reader.old) (λ input. GivesOrFails answer_seen result
-        (check_limited (report_seen report.entry) (name_in asked.entry.name) asked.entry.control
-        input)) }
-    ensures cause { ToldBy (R.failures reader.old) (R.failures reader.new) result }
-{
-    match read_text(alloc, reader) {
-        Ok(source) => check_limited(alloc, report, asked, source.as_slice()),
-        Err(error) => Err(error),
-    }
-}
-
-fn check_reported<R: GivesBytes>(
-    alloc: Global,
-    report: Report<'_>,
-    reader: &mut R,
-    asked: Asked<'_>,
-) -> Result<Answer, CommandError>
-    ensures answer { IfSome (R.remaining reader.old) (λ input. GivesOrFails answer_seen result
-        (check_source (report_seen report.entry) (name_in asked.entry.name) asked.entry.control
-        input)) }
-    ensures cause { ToldBy (R.failures reader.old) (R.failures reader.new) result }
-{
-    let answer = check_read(alloc, report, reader, asked);
-    or_faulted(alloc, report, answer)
+    check_reported(alloc, report, &mut Text(source), asked)
 }
 
 /// Reads the source of BMS maps, and prints for each map `NAME line N: yes`, or a line for each finding, with the status

@@ -1,7 +1,6 @@
 //! What is found of a map.
 
 ghost use Rattle.std.specs.Prelude.{◌≡◌, ◌++◌, map as all_of, IfOk, OnOk, [], ◌∷◌};
-ghost use Rattle.scr_check.specs.Findings.{answer_of};
 ghost use Rattle.bms_map.specs.Overlaps.{overlaps_of};
 ghost use Rattle.cli_commands.specs.Fault.{Gives};
 ghost use Rattle.cli_commands.specs.Held.{records_held};
@@ -10,9 +9,9 @@ ghost use Rattle.bms_map.specs.LayoutText.{layout_text};
 ghost use Rattle.cli_commands.specs.LayoutText.{layout_in};
 
 use bms_map::{Control, Map, Overlap, layout_text, overlaps_of, record_of};
-use cli_commands::{CommandError, Fault, Status, layout_in, lent};
+use cli_commands::{CommandError, Fault, Status, findings_of, layout_in};
 use ds_codec::Unwritable;
-use scr_check::{Finding, Verdict, check};
+use scr_check::Finding;
 use scr_layout::Layout;
 use std::alloc::{AllocError, Global};
 use std::marker::Model;
@@ -90,22 +89,6 @@ fn push_all(found: &mut Vec<MapFinding>, findings: &[Finding]) -> Result<(), All
         found.push(MapFinding::Found(*finding))?;
     }
     Ok(())
-}
-
-/// What `check` finds of records and a layout.
-fn findings_of(
-    alloc: Global,
-    layout: &Layout,
-    records: &[Vec<u8>],
-) -> Result<Vec<Finding>, AllocError>
-    ensures { IfOk result (λ findings. findings.items
-        ≡ answer_of layout.now (records_held records.now)) }
-{
-    let slices = lent(alloc, records)?;
-    match check(alloc, slices.as_slice(), layout)? {
-        Verdict::Yes => Ok(Vec::new(alloc)),
-        Verdict::No(findings) => Ok(findings),
-    }
 }
 
 fn all_found(

@@ -1,11 +1,10 @@
 //! What is found of maps as a log of SARIF 2.1.0.
 
-ghost use Rattle.std.specs.Prelude.{◌≡◌, ◌≤◌, ◌++◌, [], ◌∷◌, false, map as all_of, option_map, IfOk, OnOk};
+ghost use Rattle.std.specs.Prelude.{◌≡◌, ◌≤◌, ◌++◌, [], ◌∷◌, false, map as all_of, IfOk, OnOk};
 ghost use Rattle.std.specs.String.{string_bytes};
 ghost use Rattle.serde_json.specs.Data.{items_depth};
 ghost use Rattle.serde_json.specs.View.{view, items_of};
 ghost use Rattle.serde_json.specs.Written.{items_have_float};
-ghost use Rattle.cli_findings.specs.Sarif.{help_end};
 ghost use Rattle.cli_maps.specs.Sarif.{finding_result, log_line, message_of, refused_result, results_of};
 
 use crate::judged::{Judged, MapFinding};
@@ -14,23 +13,10 @@ use crate::mend::help_of;
 use crate::rules::{MapRule, all_values, id_of, index_of};
 use crate::source::macro_region;
 use bms_map::Map;
-use cli_findings::{Region, log_text, named_result};
+use cli_findings::{Region, log_text, named_result, push_help};
 use scr_layout::Entry;
 use serde_json::Value;
 use std::alloc::{AllocError, Global};
-
-fn push_help(out: &mut String, help: Option<String>) -> Result<(), AllocError>
-    ensures { OnOk result (string_bytes out.new
-        ≡ string_bytes out.old ++ help_end (option_map string_bytes help)) }
-{
-    match help {
-        Some(help) => {
-            out.push_str(": ")?;
-            out.push_str(help.as_str())
-        }
-        None => Ok(()),
-    }
-}
 
 /// What is found, and what to do.
 fn message_of(

@@ -14,12 +14,12 @@ ghost use Rattle.cli_pictures.specs.Annotated.{annotated_drawn, annotated_from, 
 use crate::html::push_annotated_page;
 use crate::list::push_annotated_svg;
 use cli_commands::{
-    Answer, CommandError, GivesBytes, SizeLine, Status, TakesBytes, finish, layout_in, lent,
-    read_layout, read_records, records_in, show_all,
+    Answer, CommandError, GivesBytes, SizeLine, Source, Status, TakesBytes, Text, findings_of,
+    finish, read_layout, read_records, show_all,
 };
 use ds_screen::{PlaneCells, Screen};
 use ds_terminal::Terminal;
-use scr_check::{Finding, Verdict, check};
+use scr_check::Finding;
 use scr_layout::{Entry, Layout};
 use std::alloc::{AllocError, Global};
 
@@ -49,22 +49,6 @@ fn drawn(
         Annotated::Html => push_annotated_page(alloc, &mut out, screen, entries, findings)?,
     }
     Ok(out)
-}
-
-/// What is found of records and a layout.
-fn findings_of(
-    alloc: Global,
-    layout: &Layout,
-    records: &[Vec<u8>],
-) -> Result<Vec<Finding>, AllocError>
-    ensures { IfOk result (λ findings. findings.items
-        ≡ answer_of layout.now (records_held records.now)) }
-{
-    let slices = lent(alloc, records)?;
-    match check(alloc, slices.as_slice(), layout)? {
-        Verdict::Yes => Ok(Vec::new(alloc)),
-        Verdict::No(findings) => Ok(findings),
-    }
 }
 
 /// The screen that records left, in a form, with a layout and what is found of both.
@@ -116,31 +100,37 @@ fn annotated_told(
     annotated_from(alloc, form, layout, &mut terminal, records)
 }
 
-fn annotated_records(
+/// The same of a layout and the records of a source.
+fn annotated_records<S: Source>(
     alloc: Global,
     form: Annotated,
     layout: &Layout,
-    records: &[u8],
+    source: &mut S,
 ) -> Result<Answer, CommandError>
-    ensures { Gives answer_seen result (annotated_records form layout.now records.now) }
+    ensures answer { IfSome (S.remaining source.old) (λ input. GivesOrFails answer_seen result
+        (annotated_records form layout.now input)) }
+    ensures cause { ToldBy (S.failures source.old) (S.failures source.new) result }
 {
-    let told = records_in(alloc, records, SizeLine::Refused)?;
+    let told = read_records(alloc, source, SizeLine::Refused)?;
     annotated_told(alloc, form, layout, told.records.as_slice())
 }
 
-/// The same of records that are read.
-fn annotated_read_records<R: GivesBytes>(
+/// The same of the sources of a layout and of records.
+fn annotated_read<L: Source, R: Source>(
     alloc: Global,
     form: Annotated,
-    layout: &Layout,
-    reader: &mut R,
+    layout: &mut L,
+    records: &mut R,
 ) -> Result<Answer, CommandError>
-    ensures answer { IfSome (R.remaining reader.old) (λ input. GivesOrFails answer_seen result
-        (annotated_records form layout.now input)) }
-    ensures cause { ToldBy (R.failures reader.old) (R.failures reader.new) result }
+    ensures answer { IfSome (L.remaining layout.old) (λ text. IfSome (R.remaining
+        records.old) (λ input. GivesOrFails answer_seen result (annotated form text input))) }
+    ensures cause { ToldBy (L.failures layout.old + R.failures records.old)
+        (L.failures layout.new + R.failures records.new) result }
+    ensures unread { IfSome (L.remaining layout.old) (λ text. IfErr (layout_in text) (λ fault.
+        records.new ≡ records.old)) }
 {
-    let told = read_records(alloc, reader, SizeLine::Refused)?;
-    annotated_told(alloc, form, layout, told.records.as_slice())
+    let layout = read_layout(alloc, layout)?;
+    annotated_records(alloc, form, &layout, records)
 }
 
 /// What is printed, in a form, of the screen that a text of records leaves on the terminal of a layout, with the names of the
@@ -157,25 +147,7 @@ pub fn annotated_text(
 ) -> Result<Answer, CommandError>
     ensures { Gives answer_seen result (annotated form layout.now records.now) }
 {
-    let layout = layout_in(alloc, layout)?;
-    annotated_records(alloc, form, &layout, records)
-}
-
-fn annotated_read<L: GivesBytes, R: GivesBytes>(
-    alloc: Global,
-    form: Annotated,
-    layout: &mut L,
-    reader: &mut R,
-) -> Result<Answer, CommandError>
-    ensures answer { IfSome (L.remaining layout.old) (λ text. IfSome (R.remaining
-        reader.old) (λ input. GivesOrFails answer_seen result (annotated form text input))) }
-    ensures cause { ToldBy (L.failures layout.old + R.failures reader.old)
-        (L.failures layout.new + R.failures reader.new) result }
-    ensures unread { IfSome (L.remaining layout.old) (λ text. IfErr (layout_in text) (λ fault.
-        reader.new ≡ reader.old)) }
-{
-    let layout = read_layout(alloc, layout)?;
-    annotated_read_records(alloc, form, &layout, reader)
+    annotated_read(alloc, form, &mut Text(layout), &mut Text(records))
 }
 
 /// Reads a layout and then records in hexadecimal, one a line, applies these to a new screen, and prints it in a form, with

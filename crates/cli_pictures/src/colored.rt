@@ -3,34 +3,15 @@
 ghost use Rattle.std.specs.Prelude.{◌≡◌, ◌<◌, ◌*◌, ◌+◌, ◌++◌, length, OnOk, string_bytes};
 ghost use Rattle.std.specs.List.{flat_map, range_with_len};
 ghost use Rattle.ds_screen.specs.Fields.{is_character};
-ghost use Rattle.ds_screen.specs.Shown.{printed_under, printed_cell};
+ghost use Rattle.ds_screen.specs.Shown.{printed_cell};
 ghost use Rattle.cli_pictures.specs.Colored.{look_at, begins_run, ends_run, before_cell, behind_cell, colored_cell, colored_column, colored_row, colored_line, colored_text};
 
 use crate::look::Look;
 use crate::seen::ruling;
 use cli_commands::{push_field_lines, push_screen_line};
-use ds_codec::{Attr, Cell};
-use ds_screen::{PlaneCells, Screen, text_of};
+use ds_codec::Cell;
+use ds_screen::{PlaneCells, Screen, printed_under};
 use std::alloc::AllocError;
-
-/// What is printed of a cell, by what rules it.
-fn printed_under(ruling: Attr, cell: &Cell) -> u8
-    ensures value { result ≡ printed_under ruling cell.now }
-    ensures ascii { result < 128 }
-{
-    match cell {
-        Cell::Field(_) => b'@',
-        Cell::Char(character) => {
-            if character.code() == 0 {
-                b'.'
-            } else if ruling.hidden() {
-                b'*'
-            } else {
-                text_of(*character)
-            }
-        }
-    }
-}
 
 /// Whether a cell holds a character.
 pub(crate) fn is_character(cell: &Cell) -> bool

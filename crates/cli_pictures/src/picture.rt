@@ -16,8 +16,8 @@ use crate::json::push_json;
 use crate::rows::push_rows;
 use crate::svg::push_svg;
 use cli_commands::{
-    Answer, CommandError, GivesBytes, Records, SizeLine, Status, TakesBytes, finish, read_records,
-    records_in, show_all,
+    Answer, CommandError, GivesBytes, Records, SizeLine, Source, Status, TakesBytes, Text, finish,
+    read_records, show_all,
 };
 use ds_screen::{PlaneCells, Screen};
 use ds_terminal::Terminal;
@@ -75,6 +75,20 @@ fn picture_told(alloc: Global, drawing: Drawing, told: &Records) -> Result<Answe
     picture_from(alloc, drawing, &mut terminal, told.records.as_slice())
 }
 
+/// What is printed, in a form, of the screen that the records of a source leave, or their first fault.
+fn picture_records<S: Source>(
+    alloc: Global,
+    drawing: Drawing,
+    source: &mut S,
+) -> Result<Answer, CommandError>
+    ensures answer { IfSome (S.remaining source.old) (λ input.
+        GivesOrFails answer_seen result (pictured drawing input)) }
+    ensures cause { ToldBy (S.failures source.old) (S.failures source.new) result }
+{
+    let told = read_records(alloc, source, SizeLine::Allowed)?;
+    picture_told(alloc, drawing, &told)
+}
+
 /// What is printed, in a form, of the screen that a text of records leaves, or its first fault.
 ///
 /// # Errors
@@ -83,21 +97,7 @@ fn picture_told(alloc: Global, drawing: Drawing, told: &Records) -> Result<Answe
 pub fn picture_text(alloc: Global, drawing: Drawing, records: &[u8]) -> Result<Answer, CommandError>
     ensures { Gives answer_seen result (pictured drawing records.now) }
 {
-    let told = records_in(alloc, records, SizeLine::Allowed)?;
-    picture_told(alloc, drawing, &told)
-}
-
-fn picture_records<R: GivesBytes>(
-    alloc: Global,
-    drawing: Drawing,
-    reader: &mut R,
-) -> Result<Answer, CommandError>
-    ensures answer { IfSome (R.remaining reader.old) (λ input.
-        GivesOrFails answer_seen result (pictured drawing input)) }
-    ensures cause { ToldBy (R.failures reader.old) (R.failures reader.new) result }
-{
-    let told = read_records(alloc, reader, SizeLine::Allowed)?;
-    picture_told(alloc, drawing, &told)
+    picture_records(alloc, drawing, &mut Text(records))
 }
 
 /// Reads records in hexadecimal, one a line, applies them to a new screen, and prints the screen in a form; or the first

@@ -1,7 +1,6 @@
 -- What an ear has heard of an input, and what it says of it.
-use Rattle.std.specs.Prelude.{◌≡◌, ◌≢◌, ◌⊎◌, ◌<◌, ◌≤◌, ℕ, ◌+◌, ◌-◌, ◌^◌, min, nat_eq, nat_lt, not, ◌&&◌, ◌||◌, Bool, true, false, List, [], ◌∷◌, ◌++◌, length, slice_index, codes, Option, Some, None, Result, Ok, Err, if◌then◌else◌}
+use Rattle.std.specs.Prelude.{◌≡◌, ◌≢◌, ◌⊎◌, ◌<◌, ◌≤◌, ℕ, ◌+◌, ◌-◌, ◌^◌, min, nat_eq, nat_lt, not, ◌&&◌, ◌||◌, Bool, true, false, List, [], ◌∷◌, ◌++◌, length, slice_index, Option, Some, None, Result, Ok, Err, if◌then◌else◌}
 use Rattle.std.specs.Option.{option_map}
-use Rattle.std.specs.Str.{bytes_eq}
 use Rattle.bstr.specs.Text.{lines_of}
 use Rattle.cli_characters.specs.Convert.{back_characters}
 use Rattle.cli_commands.specs.Back.{back}
@@ -11,6 +10,7 @@ use Rattle.cli_commands.specs.Lines.{lines_in}
 use Rattle.cli_commands.specs.LayoutText.{layout_in}
 use Rattle.cli_commands.specs.Printed.{Printed}
 use Rattle.cli_commands.specs.Show.{show}
+use Rattle.cli_commands.specs.TurnLines.{is_turn}
 use Rattle.cli_commands.specs.declared.fault.Fault.{Fault}
 use Rattle.cli_reasons.specs.declared.ear.Ear.{Ear}
 use Rattle.cli_reasons.specs.declared.flaw.Limit.TheVariants.{Bytes}
@@ -194,7 +194,7 @@ refusal_said lines name past =
 -- how many turns the lines have: one more than there are lines `turn`
 abbrev pub turns_in : List (List ℕ) → ℕ
 turns_in [] = 1
-turns_in (line ∷ lines) = if bytes_eq line (codes "turn") then turns_in lines + 1 else turns_in lines
+turns_in (line ∷ lines) = if is_turn line then turns_in lines + 1 else turns_in lines
 
 -- of answers, where there is a layout for each turn
 abbrev pub turns_said : List ℕ → List Declaration → List ℕ → Option (List ℕ)

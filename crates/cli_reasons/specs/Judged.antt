@@ -2,7 +2,7 @@
 use Rattle.std.specs.Prelude.{ℕ, ◌%◌, ◌/◌, nat_le, ◌==◌, ◌&&◌, not, Bool, List, [], ◌∷◌, length, is_none, is_some, codes, slice_index, nat_eq, ◌+◌, ◌||◌, drop, position, Option, Some, None, Result, Ok, Err, if◌then◌else◌}
 use Rattle.std.specs.List.{starts_with}
 use Rattle.std.specs.Option.{unwrap_or}
-use Rattle.std.specs.Str.{bytes_eq, is_utf8}
+use Rattle.std.specs.Str.{is_utf8}
 use Rattle.ds_codec.specs.Reading.{◌>>=◌}
 use Rattle.ds_keys.specs.Lines.{key_of}
 use Rattle.order_lines.specs.Told as orders
@@ -15,6 +15,7 @@ use Rattle.cli_commands.specs.Fault.{Gives}
 use Rattle.cli_commands.specs.Keys.{keys_in}
 use Rattle.cli_commands.specs.Records.{Records, records_in}
 use Rattle.cli_commands.specs.Strokes.{strokes_in}
+use Rattle.cli_commands.specs.TurnLines.{is_turn}
 use Rattle.cli_characters.specs.Orders.{plain_line}
 use Rattle.cli_characters.specs.Strokes.{string_of}
 use Rattle.cli_reasons.specs.declared.flaw.Flaw.{Flaw}
@@ -77,7 +78,7 @@ judged_record sizes line = if is_plain line then Record (length line / 2) else j
 
 -- the same of a line of several turns
 abbrev pub judged_turn : SizesBy → List ℕ → Judged
-judged_turn sizes line = if bytes_eq line (codes "turn") then Nothing else judged_record sizes line
+judged_turn sizes line = if is_turn line then Nothing else judged_record sizes line
 
 -- ---- keys and strokes
 

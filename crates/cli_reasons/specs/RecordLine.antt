@@ -1,7 +1,7 @@
 -- Why a line of records is refused.
 use Rattle.std.specs.Prelude.{ℕ, ◌+◌, ◌-◌, ◌==◌, ◌&&◌, ◌||◌, nat_eq, Bool, false, List, codes, length, slice_index, Option, Some, None, is_none, if◌then◌else◌}
 use Rattle.std.specs.List.{starts_with}
-use Rattle.std.specs.Str.{bytes_eq}
+use Rattle.cli_commands.specs.TurnLines.{is_turn}
 use Rattle.cli_reasons.specs.declared.flaw.Flaw.{Flaw}
 use Rattle.cli_reasons.specs.declared.flaw.Why.{Why}
 use Rattle.cli_reasons.specs.declared.flaw.Why.TheVariants.{NotDigit, OddDigits, ByteOrderMark, Utf16, Tab, Prefix, Comment, SizesOfLayout, SizesTooLate, NoSizes, Turn}
@@ -44,7 +44,7 @@ size_why Layout = SizesOfLayout
 abbrev pub text_flaw : SizesBy → List ℕ → Flaw
 text_flaw sizes line =
     if starts_with nat_eq line (codes "size") then flaw_at 1 (size_why sizes)
-    else if bytes_eq line (codes "turn") then flaw_at 1 Turn
+    else if is_turn line then flaw_at 1 Turn
     else flaw_of_digits line
 
 abbrev pub record_flaw : SizesBy → List ℕ → Flaw

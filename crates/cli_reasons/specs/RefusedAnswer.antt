@@ -1,6 +1,5 @@
 -- The sentences of answers that are refused, or that aren't those of a layout's screen.
 use Rattle.std.specs.Prelude.{ℕ, ◌+◌, min, List, [], ◌∷◌, ◌++◌, codes, Result, Ok, Err, if◌then◌else◌}
-use Rattle.std.specs.Str.{bytes_eq}
 use Rattle.ds_codec.specs.Geometry.{cells_of}
 use Rattle.ds_inbound.specs.Answer.{Answer}
 use Rattle.ds_inbound.specs.Reading.{read_of}
@@ -14,6 +13,7 @@ use Rattle.scr_check.specs.declared.binding.BindFault.TheVariants.{NotDeclared, 
 use Rattle.cli_commands.specs.declared.fault.Fault.{Fault}
 use Rattle.cli_commands.specs.declared.input.sizes.SizeLine.TheVariants as size_line
 use Rattle.cli_commands.specs.Records.{Records, records_in}
+use Rattle.cli_commands.specs.TurnLines.{is_turn}
 use Rattle.cli_reasons.specs.Head.{column_head, line_head}
 use Rattle.cli_reasons.specs.Refusal.{byte_column}
 
@@ -75,5 +75,5 @@ abbrev pub answers_said : List ℕ → ℕ → List Declaration → List (List �
 answers_said name number layouts [] = []
 answers_said name number [] (line ∷ lines) = []
 answers_said name number (layout ∷ layouts) (line ∷ lines) =
-    if bytes_eq line (codes "turn") then answers_said name (number + 1) layouts lines
+    if is_turn line then answers_said name (number + 1) layouts lines
     else line_said layout name number line ++ answers_said name (number + 1) (layout ∷ layouts) lines

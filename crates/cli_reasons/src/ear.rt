@@ -28,7 +28,9 @@ use crate::telling::sentence;
 use crate::walk::{Lines, Walk};
 use bstr::ByteSlice;
 use cli_characters::convert_back_characters_text;
-use cli_commands::{Answer, CommandError, convert_back_text, convert_text, layout_in, show_text};
+use cli_commands::{
+    Answer, CommandError, convert_back_text, convert_text, is_turn, layout_in, show_text,
+};
 use memchr::memchr;
 use std::alloc::{AllocError, Global};
 use std::mem::replace;
@@ -82,7 +84,7 @@ fn turn_count(text: &[u8]) -> usize
 {
     let mut count: usize = 1;
     'lines: for line in text.lines() {
-        if line == b"turn".as_slice() {
+        if is_turn(line) {
             count += 1;
         }
     }

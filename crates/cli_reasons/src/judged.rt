@@ -17,7 +17,9 @@ use crate::order_line::order_flaw;
 use crate::record_line::{SizesBy, record_flaw};
 use crate::text::checked;
 use cli_characters::{plain_line, string_of};
-use cli_commands::{CommandError, Fault, Records, SizeLine, keys_in, records_in, strokes_in};
+use cli_commands::{
+    CommandError, Fault, Records, SizeLine, is_turn, keys_in, records_in, strokes_in,
+};
 use ds_keys::key_of_line;
 use order_lines::{Told, read_line};
 use std::alloc::{AllocError, Global};
@@ -138,7 +140,7 @@ pub(crate) fn judged_turn(
     requires { BeginsWithDigits known line.now }
     ensures { JudgedAs result (judged_turn sizes line.now) }
 {
-    if line == b"turn".as_slice() {
+    if is_turn(line) {
         return Ok(Judged::Nothing);
     }
     judged_record(alloc, sizes, line, known)

@@ -6,6 +6,7 @@ ghost use Rattle.cli_reasons.specs.RecordLine.{byte_why, byte_before, size_why, 
 use crate::digits::{digit_count, first_other};
 use crate::flaw::{Flaw, Why};
 use crate::text::checked;
+use cli_commands::is_turn;
 
 /// What tells the sizes of the terminal.
 #[derive(Clone, Copy, Debug, PartialEq, Eq)]
@@ -70,7 +71,7 @@ fn text_flaw(sizes: SizesBy, line: &[u8]) -> Flaw
 {
     if line.starts_with(b"size".as_slice()) {
         Flaw::at(1, size_why(sizes))
-    } else if line == b"turn".as_slice() {
+    } else if is_turn(line) {
         Flaw::at(1, Why::Turn)
     } else {
         flaw_of_digits(line)

@@ -9,7 +9,7 @@ ghost use Rattle.cli_reasons.specs.RefusedAnswer.{answer_reason, answer_said, an
 use crate::head::{Place, push_head};
 use crate::refusal::byte_column;
 use bstr::ByteSlice;
-use cli_commands::{CommandError, SizeLine, records_in};
+use cli_commands::{CommandError, SizeLine, is_turn, records_in};
 use ds_inbound::{Inbound, Refused, Why};
 use scr_check::{BindError, BindFault, bind};
 use scr_layout::Layout;
@@ -160,7 +160,7 @@ pub fn answer_sentences(
         let [layout, later @ ..] = turns else {
             return Ok(out);
         };
-        if line == b"turn".as_slice() {
+        if is_turn(line) {
             turns = later;
         } else {
             push_line(alloc, &mut out, layout, Standing { name, number, line })?;

@@ -1,13 +1,9 @@
 -- The text of a dialogue as one of records: what is no record of it is a comment.
-use Rattle.std.specs.Prelude.{ℕ, ◌-◌, Bool, ◌==◌, List, [], ◌∷◌, ◌++◌, codes, if◌then◌else◌}
-use Rattle.std.specs.Str.{bytes_eq}
+use Rattle.std.specs.Prelude.{ℕ, ◌==◌, List, [], ◌∷◌, ◌++◌, codes, if◌then◌else◌}
 use Rattle.cli_commands.specs.Lines.{lines_in}
+use Rattle.cli_commands.specs.TurnLines.{is_turn, left_after}
 use Rattle.cli_reports.specs.declared.blanked.Kept.{Kept}
 use Rattle.cli_reports.specs.declared.blanked.Kept.TheVariants.{All, Own}
-
--- a line that stands between two turns
-abbrev pub is_turn : List ℕ → Bool
-is_turn line = bytes_eq line (codes "turn")
 
 -- a line of a turn that is kept, where so many turns before it aren't
 abbrev pub kept_line : Kept → ℕ → List ℕ → List ℕ
@@ -16,9 +12,6 @@ kept_line Own left line = if left == 0 then line else codes "#"
 
 abbrev pub line_shown : Kept → ℕ → List ℕ → List ℕ
 line_shown kept left line = if is_turn line then codes "#" else kept_line kept left line
-
-abbrev pub left_after : ℕ → List ℕ → ℕ
-left_after left line = if is_turn line then left - 1 else left
 
 abbrev pub shown_from : Kept → ℕ → List (List ℕ) → List ℕ
 shown_from kept left [] = []

@@ -1,9 +1,10 @@
 //! The text of a dialogue as one of records: what is no record of it is a comment.
 
-ghost use Rattle.std.specs.Prelude.{◌≡◌, ◌++◌, codes, IfOk, OnOk};
-ghost use Rattle.cli_reports.specs.Blanked.{is_turn, line_shown, left_after, turn_text};
+ghost use Rattle.std.specs.Prelude.{◌≡◌, IfOk};
+ghost use Rattle.cli_reports.specs.Blanked.{line_shown, turn_text};
 
 use bstr::ByteSlice;
+use cli_commands::{is_turn, left_after, push_line};
 use std::alloc::{AllocError, Global};
 
 /// Which records stay in the text.
@@ -13,13 +14,6 @@ pub(crate) enum Kept {
     All,
     /// Those of a turn, and of the turns after it.
     Own,
-}
-
-/// Whether a line stands between two turns.
-fn is_turn(line: &[u8]) -> bool
-    ensures { result ≡ is_turn line.now }
-{
-    line == b"turn".as_slice()
 }
 
 /// A line, or the comment in its place, before which so many turns are left that aren't kept.
@@ -33,24 +27,6 @@ fn line_shown<'a>(kept: Kept, left: usize, line: &'a [u8]) -> &'a [u8]
         Kept::All => line,
         Kept::Own => { if left == 0 { line } else { b"#".as_slice() } }
     }
-}
-
-fn left_after(left: usize, line: &[u8]) -> usize
-    ensures { result ≡ left_after left line.now }
-{
-    if is_turn(line) {
-        left.saturating_sub(1)
-    } else {
-        left
-    }
-}
-
-fn push_line(out: &mut Vec<u8>, line: &[u8]) -> Result<(), AllocError>
-    ensures { OnOk result (out.new.items ≡ out.old.items ++ (line.now ++ codes "\n")) }
-{
-    out.extend_from_slice(line)?;
-    out.push(b'\n')?;
-    Ok(())
 }
 
 /// The text of a dialogue of which a turn is told, with a comment in place of each line `turn`, and of each line of the turns before

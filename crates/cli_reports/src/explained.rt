@@ -10,8 +10,8 @@ ghost use Rattle.cli_reports.specs.Explained.{explained_findings, explained_told
 
 use crate::explain::push_findings;
 use cli_commands::{
-    Answer, CommandError, Demos, GivesBytes, SizeLine, Status, TakesBytes, demo_terminal, finish,
-    layout_in, read_layout, read_records, records_in,
+    Answer, CommandError, Demos, GivesBytes, SizeLine, Source, Status, TakesBytes, Text,
+    demo_terminal, finish, read_layout, read_records,
 };
 use cli_findings::{Pen, find};
 use ds_screen::PlaneCells;
@@ -59,16 +59,37 @@ fn explained_told(
     findings_answer(alloc, layout, terminal.as_ref(), found.as_slice())
 }
 
-fn explained_records(
+/// The same of a layout and the records of a source.
+fn explained_records<S: Source>(
     alloc: Global,
     pen: Pen,
     layout: &Layout,
-    records: &[u8],
+    source: &mut S,
 ) -> Result<Answer, CommandError>
-    ensures { Gives answer_seen result (explained_records pen layout.now records.now) }
+    ensures answer { IfSome (S.remaining source.old) (λ input. GivesOrFails answer_seen result
+        (explained_records pen layout.now input)) }
+    ensures cause { ToldBy (S.failures source.old) (S.failures source.new) result }
 {
-    let told = records_in(alloc, records, SizeLine::Refused)?;
+    let told = read_records(alloc, source, SizeLine::Refused)?;
     Ok(explained_told(alloc, pen, layout, told.records.as_slice())?)
+}
+
+/// The same of the sources of a layout and of records.
+fn explained_read<L: Source, R: Source>(
+    alloc: Global,
+    pen: Pen,
+    layout: &mut L,
+    records: &mut R,
+) -> Result<Answer, CommandError>
+    ensures answer { IfSome (L.remaining layout.old) (λ text. IfSome (R.remaining
+        records.old) (λ input. GivesOrFails answer_seen result (explained pen text input))) }
+    ensures cause { ToldBy (L.failures layout.old + R.failures records.old)
+        (L.failures layout.new + R.failures records.new) result }
+    ensures unread { IfSome (L.remaining layout.old) (λ text. IfErr (layout_in text) (λ fault.
+        records.new ≡ records.old)) }
+{
+    let layout = read_layout(alloc, layout)?;
+    explained_records(alloc, pen, &layout, records)
 }
 
 /// What `check --explain` answers to the texts of a layout and of records: `yes`, or the findings as `check` prints them, and
@@ -85,40 +106,7 @@ pub fn explained_texts(
 ) -> Result<Answer, CommandError>
     ensures { Gives answer_seen result (explained pen layout.now records.now) }
 {
-    let layout = layout_in(alloc, layout)?;
-    explained_records(alloc, pen, &layout, records)
-}
-
-/// The same of records that are read.
-fn explained_read_records<R: GivesBytes>(
-    alloc: Global,
-    pen: Pen,
-    layout: &Layout,
-    reader: &mut R,
-) -> Result<Answer, CommandError>
-    ensures answer { IfSome (R.remaining reader.old) (λ input. GivesOrFails answer_seen result
-        (explained_records pen layout.now input)) }
-    ensures cause { ToldBy (R.failures reader.old) (R.failures reader.new) result }
-{
-    let told = read_records(alloc, reader, SizeLine::Refused)?;
-    Ok(explained_told(alloc, pen, layout, told.records.as_slice())?)
-}
-
-fn explained_read<L: GivesBytes, R: GivesBytes>(
-    alloc: Global,
-    pen: Pen,
-    layout: &mut L,
-    reader: &mut R,
-) -> Result<Answer, CommandError>
-    ensures answer { IfSome (L.remaining layout.old) (λ text. IfSome (R.remaining
-        reader.old) (λ input. GivesOrFails answer_seen result (explained pen text input))) }
-    ensures cause { ToldBy (L.failures layout.old + R.failures reader.old)
-        (L.failures layout.new + R.failures reader.new) result }
-    ensures unread { IfSome (L.remaining layout.old) (λ text. IfErr (layout_in text) (λ fault.
-        reader.new ≡ reader.old)) }
-{
-    let layout = read_layout(alloc, layout)?;
-    explained_read_records(alloc, pen, &layout, reader)
+    explained_read(alloc, pen, &mut Text(layout), &mut Text(records))
 }
 
 /// Reads a layout and then records in hexadecimal, one a line, and prints `yes`, or the findings as `check` prints them, each with

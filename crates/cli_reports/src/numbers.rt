@@ -4,6 +4,7 @@ ghost use Rattle.std.specs.Prelude.{◌≡◌, IfOk};
 ghost use Rattle.cli_reports.specs.Numbers.{tells_record, turn_numbers};
 
 use bstr::ByteSlice;
+use cli_commands::is_turn;
 use cli_findings::is_silent;
 use std::alloc::{AllocError, Global};
 
@@ -11,7 +12,7 @@ use std::alloc::{AllocError, Global};
 fn tells_record(line: &[u8]) -> bool
     ensures { result ≡ tells_record line.now }
 {
-    !is_silent(line) && line != b"turn".as_slice()
+    !is_silent(line) && !is_turn(line)
 }
 
 /// The lines on which the records of all turns stand, in turn, counted from 1.

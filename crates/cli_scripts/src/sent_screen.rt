@@ -1,14 +1,13 @@
 //! Screens on which keys send.
 
-ghost use Rattle.std.specs.Prelude.{◌≡◌, ◌++◌, map, IfOk, OnOk, OnErr};
-ghost use Rattle.script_checks.specs.KnownView.{known_view, turns_seen};
-ghost use Rattle.tn_session.specs.KeptView.{kept_view};
+ghost use Rattle.std.specs.Prelude.{◌≡◌, ◌++◌, OnOk, OnErr};
 ghost use Rattle.tn_session.specs.TerminalTalk.{OfWaiting};
 ghost use Rattle.cli_scripts.specs.SentOn.{is_free, is_sending, sends_at, sent_on, collected};
 
 use ds_codec::Aid;
 use ds_keys::Key;
 use ds_screen::{Lock, PlaneCells, Screen};
+use script_checks::records_copied;
 use std::alloc::{AllocError, Global};
 use std::marker::Model;
 use tn_session::{KeptRecord, TerminalSession};
@@ -28,19 +27,6 @@ impl Model for SentScreen {
     ghost Value = { SentOn };
 
     ghost view = { λ s. record { picture = s.screen; turns = option_map known_view s.turns } };
-}
-
-fn records_copied(alloc: Global, kept: &[KeptRecord]) -> Result<Vec<KeptRecord>, AllocError>
-    ensures { IfOk result (λ copy. known_view copy ≡ map kept_view kept.now) }
-{
-    let mut copy = Vec::new(alloc);
-    for record in kept {
-        copy.push(KeptRecord {
-            begins_turn: record.begins_turn,
-            bytes: record.bytes.as_slice().to_vec(alloc)?,
-        })?;
-    }
-    Ok(copy)
 }
 
 impl SentScreen {

@@ -16,5 +16,6 @@ pub use fault::fault_number;
 pub use output::Output;
 pub use screen::{Prepared, Screen, prepare_serve};
 pub use serve::serve_on;
+pub use session::{push_answered, push_fault};
 pub use terminals::{Terminals, Visits};
 pub use tolerant::{Timed, attach_tolerant_on};

@@ -78,10 +78,15 @@ fn push_fields(
     Ok(())
 }
 
-fn push_answered(
+/// The key of the terminal of this number, and its fields.
+///
+/// # Errors
+///
+/// Where a request for memory was refused.
+pub fn push_answered(
     out: &mut String,
     layout: &Layout,
-    number: u16,
+    number: u64,
     outcome: &HostOutcome,
 ) -> Result<(), AllocError>
     ensures { OnOk result (string_bytes out.new ≡ string_bytes out.old
@@ -93,7 +98,12 @@ fn push_answered(
     push_fields(out, layout.entries(), outcome.fields.as_slice())
 }
 
-fn push_fault(out: &mut String, number: u16, why: RunFault) -> Result<(), AllocError>
+/// The fault of the session of the terminal of this number.
+///
+/// # Errors
+///
+/// Where a request for memory was refused.
+pub fn push_fault(out: &mut String, number: u64, why: RunFault) -> Result<(), AllocError>
     ensures { OnOk result
         (string_bytes out.new ≡ string_bytes out.old ++ fault_line number why) }
 {
@@ -112,6 +122,7 @@ pub(crate) fn session_text(
         ≡ session_lines layout.now.entries number (session_seen session.now)) }
 {
     let mut out = String::new(alloc);
+    let number = u64::from(number);
     match session {
         Ok(outcome) => push_answered(&mut out, layout, number, outcome)?,
         Err(why) => push_fault(&mut out, number, *why)?,

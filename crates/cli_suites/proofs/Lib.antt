@@ -1,7 +1,5 @@
-mod Keys
 mod Rows
 mod Loop
-mod Texts
 mod Plain
 mod Known
 mod Ruled

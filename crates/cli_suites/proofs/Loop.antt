@@ -1,38 +1,23 @@
 -- One more value of a list of tables, and of a list of texts.
-use Rattle.std.proofs.Common.{◌≡◌, ◌∙◌, ℕ, ◌+◌, ◌<◌, ap, sym, refl, ◌≤◌, drop, get_or, length, List, ◌∷◌, Some, None, Result, Ok}
+use Rattle.std.proofs.Common.{◌≡◌, ◌∙◌, ℕ, ◌+◌, ◌<◌, ap, sym, ◌≤◌, drop, get_or, length, List, Some, None, Result, Ok}
 use Rattle.std.proofs.lemmas.List.{drop_all}
-use Rattle.toml.specs.Data.{Data, string, integer, float, boolean, datetime, array, table, Items, item, Members, as_table}
+use Rattle.toml.specs.Data.{Members, as_table}
 use Rattle.toml.specs.View.{view, items_view}
 use Rattle.toml.specs.declared.value.Value.{Value}
 use Rattle.toml.proofs.Views.{items_view-drop}
 use Rattle.cli_suites.specs.declared.fault.ManifestFault.{ManifestFault}
 use Rattle.cli_suites.specs.declared.fault.ManifestError.{ManifestError}
 use Rattle.cli_suites.specs.declared.fault.ManifestError.TheVariants.{OutOfMemory, Refused}
-use Rattle.cli_suites.specs.Results.{◌>>=◌, in_table, Fails}
+use Rattle.manifest_tables.specs.Results.{◌>>=◌}
+use Rattle.manifest_tables.specs.Tables.{tables_in}
+use Rattle.manifest_tables.proofs.Rows.{tables_in-table, tables_in-other}
+use Rattle.cli_suites.specs.Results.{in_table, Fails}
 use Rattle.cli_suites.specs.declared.fault.ManifestKey.{ManifestKey}
 use Rattle.cli_suites.specs.declared.fault.ManifestKey.TheVariants.{Accepted}
 use Rattle.cli_suites.specs.declared.tables.JobTable.{JobTable}
 use Rattle.cli_suites.specs.Job.{Asked, Known}
 use Rattle.cli_suites.specs.Manifest.{with_job, jobs_from, with_accepted, accepted_from}
-use Rattle.cli_suites.specs.Tables.{key_of, tables_in, texts_of, with_text}
-
-tables_in-table : (d : Data) (rest : Items) (fields : Members) → as_table d ≡ Some fields → tables_in (item d rest) ≡ fields ∷ tables_in rest
-tables_in-table (table ms) rest fields h = cc
-tables_in-table (string s) rest fields h = cc
-tables_in-table (integer z) rest fields h = cc
-tables_in-table (float x) rest fields h = cc
-tables_in-table (boolean b) rest fields h = cc
-tables_in-table (datetime t) rest fields h = cc
-tables_in-table (array ds) rest fields h = cc
-
-tables_in-other : (d : Data) (rest : Items) → as_table d ≡ None → tables_in (item d rest) ≡ tables_in rest
-tables_in-other (table ms) rest h = cc
-tables_in-other (string s) rest h = refl
-tables_in-other (integer z) rest h = refl
-tables_in-other (float x) rest h = refl
-tables_in-other (boolean b) rest h = refl
-tables_in-other (datetime t) rest h = refl
-tables_in-other (array ds) rest h = refl
+use Rattle.cli_suites.specs.Tables.{key_of, texts_of, with_text}
 
 -- a value that is a table
 pub jobs_from-table : (kind : JobTable) (n : ℕ) (before : List Asked) (vs : List Value) (i : ℕ) (v : Value) (fields : Members) (r : Result (List Asked) ManifestFault)

@@ -1,42 +1,16 @@
 -- The tables among the values of a list.
-use Rattle.std.proofs.Common.{◌≡◌, ℕ, suc, Bool, true, ◌||◌, map, ◌&&◌, is_some, Some, Ok, Err, ◌<◌, ◌≤◌, le-leb, List, [], ◌∷◌, length, refl, ap, ◌∙◌}
+use Rattle.std.proofs.Common.{◌≡◌, Bool, true, ◌||◌, map, Some, Ok, Err, ◌<◌, ◌≤◌, le-leb, List, [], ◌∷◌, length, refl, ap}
 use Rattle.std.proofs.lemmas.Bool.{lt-leb}
-use Rattle.std.specs.List.{list_all, list_any}
-use Rattle.toml.specs.Data.{Data, string, integer, float, boolean, datetime, array, table, Items, item, as_table, as_array}
-use Rattle.toml.specs.View.{view, items_view}
+use Rattle.std.specs.List.{list_any}
+use Rattle.toml.specs.Data.{Data, as_array}
+use Rattle.toml.specs.View.{items_view}
 use Rattle.toml.specs.declared.value.Value.{Value}
-use Rattle.cli_suites.specs.Tables.{tables_in, are_tables, tables_of}
+use Rattle.manifest_tables.specs.Tables.{tables_in, are_tables}
+use Rattle.manifest_tables.proofs.Rows.{length-tables_in}
+use Rattle.cli_suites.specs.Tables.{tables_of}
 use Rattle.cli_suites.specs.declared.fault.ManifestKey.{ManifestKey}
 use Rattle.cli_suites.specs.declared.fault.Why.TheVariants.{BadCount}
 use Rattle.cli_suites.specs.Fault.{at_key}
-
-are_tables-item : (d : Data) (rest : Items) → (is_some (as_table d) && are_tables rest) ≡ are_tables (item d rest)
-are_tables-item (string s) rest = refl
-are_tables-item (integer z) rest = refl
-are_tables-item (float x) rest = refl
-are_tables-item (boolean b) rest = refl
-are_tables-item (datetime t) rest = refl
-are_tables-item (array ds) rest = refl
-are_tables-item (table ms) rest = refl
-
-pub are_tables-items_view : (vs : List Value) → list_all (λ v. is_some (as_table (view v))) vs ≡ are_tables (items_view vs)
-are_tables-items_view [] = refl
-are_tables-items_view (v ∷ vs) =
-    ap (λ b. is_some (as_table (view v)) && b) (are_tables-items_view vs) ∙ are_tables-item (view v) (items_view vs)
-
-length-item : (d : Data) (rest : Items) (n : ℕ) → are_tables (item d rest) ≡ true → (are_tables rest ≡ true → length (tables_in rest) ≡ n) → length (tables_in (item d rest)) ≡ suc n
-length-item (table ms) rest n h ih = ap suc (ih h)
-length-item (string s) rest n h ih = cc
-length-item (integer z) rest n h ih = cc
-length-item (float x) rest n h ih = cc
-length-item (boolean b) rest n h ih = cc
-length-item (datetime t) rest n h ih = cc
-length-item (array ds) rest n h ih = cc
-
--- where all are tables, none is passed over
-pub length-tables_in : (vs : List Value) → are_tables (items_view vs) ≡ true → length (tables_in (items_view vs)) ≡ length vs
-length-tables_in [] h = refl
-length-tables_in (v ∷ vs) h = length-item (view v) (items_view vs) (length vs) h (length-tables_in vs)
 
 -- a list of tables, and of how many
 pub tables_of-many : (key : ManifestKey) (d : Data) (vs : List Value) → as_array d ≡ Some (items_view vs) → are_tables (items_view vs) ≡ true → 10000 < length vs

@@ -1,5 +1,7 @@
 -- What is refused of a manifest, and the words that are printed of it.
 use Rattle.std.specs.Prelude.{codes, decimal, ℕ, List, [], ◌++◌, Option, Some, None}
+use Rattle.manifest_tables.specs.declared.key.Flaw.{Flaw}
+use Rattle.manifest_tables.specs.declared.key.Flaw.TheVariants as flaws
 use Rattle.cli_suites.specs.declared.fault.ManifestKey.{ManifestKey}
 use Rattle.cli_suites.specs.declared.fault.ManifestKey.TheVariants.{Unknown, Screen, Dialogue, Map, Accepted, Name, Records, Layout, Layouts, Source, Finding, Reason}
 use Rattle.cli_suites.specs.declared.fault.Why.{Why}
@@ -55,6 +57,17 @@ not_toml = record { place = None; which = None; why = NotToml }
 -- a key at fault
 abbrev pub at_key : ManifestKey → Why → ManifestFault
 at_key key why = record { place = None; which = Some key; why = why }
+
+-- why a manifest with a flaw at a key is refused
+abbrev pub why_of : Flaw → Why
+why_of flaws.MissingKey = MissingKey
+why_of flaws.WrongKind = WrongKind
+why_of flaws.UnknownKey = UnknownKey
+why_of flaws.BadText = BadText
+
+-- a key with this flaw
+abbrev pub flaw_at : ManifestKey → Flaw → ManifestFault
+flaw_at key flaw = at_key key (why_of flaw)
 
 -- the same in a table
 abbrev pub in_table : ManifestKey → ℕ → ManifestFault → ManifestFault

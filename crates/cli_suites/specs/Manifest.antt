@@ -19,7 +19,8 @@ use Rattle.cli_suites.specs.declared.tables.JobTable.{JobTable}
 use Rattle.cli_suites.specs.declared.tables.JobTable.TheVariants as tables
 use Rattle.cli_suites.specs.Fault.{at_key, not_toml}
 use Rattle.cli_suites.specs.Job.{Asked, Known}
-use Rattle.cli_suites.specs.Results.{◌>>=◌, tested, in_table}
+use Rattle.manifest_tables.specs.Results.{◌>>=◌, tested}
+use Rattle.cli_suites.specs.Results.{in_table}
 use Rattle.cli_suites.specs.Tables.{key_of, job_of, accepted_of, tables_at}
 use Rattle.cli_suites.specs.Values.{with_only}
 

@@ -1,6 +1,6 @@
 -- The tables of a manifest, each by itself.
-use Rattle.std.specs.Prelude.{ℕ, Bool, true, false, ◌&&◌, nat_le, List, [], ◌∷◌, ◌++◌, length, Option, Some, None, ok_or, Result, Ok}
-use Rattle.toml.specs.Data.{Data, table, Items, no_items, item, Members, as_array}
+use Rattle.std.specs.Prelude.{ℕ, ◌&&◌, nat_le, List, [], ◌∷◌, ◌++◌, length, Option, Some, None, ok_or, Result, Ok}
+use Rattle.toml.specs.Data.{Data, Items, no_items, item, Members, as_array}
 use Rattle.cli_suites.specs.declared.fault.ManifestKey.{ManifestKey}
 use Rattle.cli_suites.specs.declared.fault.ManifestKey.TheVariants.{Screen, Dialogue, Map, Name, Records, Layout, Layouts, Source, Finding, Reason}
 use Rattle.cli_suites.specs.declared.fault.ManifestFault.{ManifestFault}
@@ -10,7 +10,8 @@ use Rattle.cli_suites.specs.declared.tables.JobTable.{JobTable}
 use Rattle.cli_suites.specs.declared.tables.JobTable.TheVariants as tables
 use Rattle.cli_suites.specs.Fault.{at_key}
 use Rattle.cli_suites.specs.Job.{Asked, Known}
-use Rattle.cli_suites.specs.Results.{◌>>=◌, tested}
+use Rattle.manifest_tables.specs.Results.{◌>>=◌, tested}
+use Rattle.manifest_tables.specs.Tables.{tables_in, are_tables}
 use Rattle.cli_suites.specs.Values.{value_at, needed_at, text_of, needed_text, with_only}
 
 abbrev pub key_of : JobTable → ManifestKey
@@ -91,18 +92,6 @@ accepted_of fields = do
   Ok (record { screen = screen; finding = finding; reason = reason })
 
 -- ---- all tables of a key
-
--- the tables among the items, in order
-abbrev pub tables_in : Items → List Members
-tables_in no_items = []
-tables_in (item (table fields) rest) = fields ∷ tables_in rest
-tables_in (item _ rest) = tables_in rest
-
--- each item is a table
-abbrev pub are_tables : Items → Bool
-are_tables no_items = true
-are_tables (item (table fields) rest) = are_tables rest
-are_tables (item _ rest) = false
 
 -- the tables that the value is a list of, at most 10,000
 unfoldable pub tables_of : ManifestKey → Data → Result (List Members) ManifestFault

@@ -1,8 +1,9 @@
 //! What is refused of a manifest.
 
 ghost use Rattle.std.specs.Prelude.{◌≡◌, Some};
-ghost use Rattle.cli_suites.specs.Fault.{refusal_text, key_text, fault_text, at_key, in_table, not_toml};
+ghost use Rattle.cli_suites.specs.Fault.{refusal_text, key_text, fault_text, at_key, flaw_at, why_of, in_table, not_toml};
 
+use manifest_tables::{Flaw, Key};
 use std::alloc::{AllocError, AllocFailed};
 use std::fmt;
 use thiserror::Error;
@@ -47,6 +48,31 @@ impl ManifestKey {
     }
 }
 
+impl Key for ManifestKey {
+    ghost use Rattle.cli_suites.specs.declared.fault.ManifestKey.TheVariants.{Unknown};
+    ghost use Rattle.cli_suites.specs.Fault.{key_text, flaw_at};
+
+    type Fault = ManifestFault;
+
+    ghost spelling = { key_text };
+
+    ghost told = { flaw_at };
+
+    ghost other = { Unknown };
+
+    fn text(self) -> &'static str {
+        self.word()
+    }
+
+    fn fault(self, flaw: Flaw) -> ManifestFault {
+        ManifestFault::at_key(self, Why::of(flaw))
+    }
+
+    fn unknown() -> ManifestKey {
+        ManifestKey::Unknown
+    }
+}
+
 /// Why a manifest is refused.
 #[derive(Clone, Copy, Debug, PartialEq, Eq)]
 pub enum Why {
@@ -71,6 +97,18 @@ pub enum Why {
 }
 
 impl Why {
+    /// Why a manifest with a flaw at a key is refused.
+    fn of(flaw: Flaw) -> Why
+        ensures { result ≡ why_of flaw }
+    {
+        match flaw {
+            Flaw::MissingKey => Why::MissingKey,
+            Flaw::WrongKind => Why::WrongKind,
+            Flaw::UnknownKey => Why::UnknownKey,
+            Flaw::BadText => Why::BadText,
+        }
+    }
+
     fn words(self) -> &'static str
         ensures { result.now ≡ refusal_text self }
     {

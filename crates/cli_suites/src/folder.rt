@@ -5,8 +5,8 @@ ghost use Rattle.std.specs.List.{flat_map};
 ghost use Rattle.cli_suites.specs.Folder.{jobs_in, jobs_of_paths, layout_jobs, map_job, map_jobs, other_jobs, pair, plain_char, plain_name, records_job, stem_of};
 
 use crate::job::{Job, Kind};
-use crate::manifest::text_in;
 use crate::paths::Paths;
+use manifest_tables::text_in;
 use std::alloc::{AllocError, Global};
 
 /// A character of a name: what is no graphic is a question mark.

@@ -1,17 +1,17 @@
 //! The manifest of a suite, read from TOML.
 
-ghost use Rattle.std.specs.Prelude.{◌≡◌, ◌++◌, [], ◌∷◌, MatchOption, true, false};
-ghost use Rattle.std.specs.Str.{is_utf8};
+ghost use Rattle.std.specs.Prelude.{◌≡◌, ◌++◌, [], ◌∷◌};
 ghost use Rattle.toml.specs.View.{table_view, items_view};
 ghost use Rattle.cli_suites.specs.Results.{Gives, in_table};
-ghost use Rattle.cli_suites.specs.Tables.{key_of, tables_in};
+ghost use Rattle.manifest_tables.specs.Tables.{tables_in};
+ghost use Rattle.cli_suites.specs.Tables.{key_of};
 ghost use Rattle.cli_suites.specs.Manifest.{accepted_from, accepted_with, accepted_at, declaration_of, has_name, has_known, is_acceptable, is_known, is_screen, is_screen_of, jobs_from, jobs_at, manifest_of, manifest_in, manifest_seen, refused, table_of, with_accepted, with_job};
 
 use crate::fault::{ManifestError, ManifestFault, ManifestKey, Why};
 use crate::job::{Accepted, Job, Kind};
 use crate::named_jobs::NamedJobs;
 use crate::tables::{JobTable, accepted_of, job_of, tables_at};
-use crate::values::with_only;
+use manifest_tables::{text_in, with_only};
 use std::alloc::Global;
 use toml::{Table, Value};
 
@@ -284,17 +284,6 @@ fn manifest_of(alloc: Global, text: &str) -> Result<Manifest, ManifestError>
 {
     let table = table_of(alloc, text)?;
     declaration_of(alloc, &table)
-}
-
-/// The text that bytes are, if it is UTF-8.
-pub(crate) fn text_in(bytes: &[u8]) -> Option<&str>
-    ensures { MatchOption result (is_utf8 bytes.now ≡ false) (λ text. (text.now
-        ≡ bytes.now) × (is_utf8 bytes.now ≡ true)) }
-{
-    match str::from_utf8(bytes) {
-        Ok(text) => Some(text),
-        Err(_) => None,
-    }
 }
 
 /// The manifest that bytes are. First come the screens, then the dialogues, then the sources of maps, each kind in the order of

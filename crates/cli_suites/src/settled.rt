@@ -9,9 +9,10 @@ ghost use Rattle.cli_suites.specs.Settled.{came_from, came_in, came_line, comes,
 
 use crate::count::plus;
 use crate::job::Accepted;
-use crate::manifest::{is_accepted, text_in};
+use crate::manifest::is_accepted;
 use bstr::ByteSlice;
 use cli_commands::{Answer, Status};
+use manifest_tables::text_in;
 use std::alloc::{AllocError, Global};
 
 /// What is said of a screen.

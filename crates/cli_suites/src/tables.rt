@@ -2,13 +2,16 @@
 
 ghost use Rattle.std.specs.Prelude.{◌≡◌, ◌≤◌, ◌++◌, [], ◌∷◌, IfOk, map, length, string_bytes, option_map};
 ghost use Rattle.toml.specs.View.{view, table_view, items_view};
-ghost use Rattle.cli_suites.specs.Results.{Gives, Tells};
-ghost use Rattle.cli_suites.specs.Tables.{accepted_of, accepted_keys, are_tables, dialogue_keys, dialogue_of, job_of, key_of, list_of, map_keys, map_of, screen_keys, screen_of, tables_at, tables_in, tables_of, texts_of, with_text};
+ghost use Rattle.manifest_tables.specs.Results.{Tells};
+ghost use Rattle.manifest_tables.specs.Tables.{tables_in};
+ghost use Rattle.cli_suites.specs.Results.{Gives};
+ghost use Rattle.cli_suites.specs.Tables.{accepted_of, accepted_keys, dialogue_keys, dialogue_of, job_of, key_of, list_of, map_keys, map_of, screen_keys, screen_of, tables_at, tables_of, texts_of, with_text};
 ghost use Rattle.cli_suites.specs.Values.{with_only};
 
 use crate::fault::{ManifestError, ManifestFault, ManifestKey, Why};
 use crate::job::{Accepted, Job, Kind};
-use crate::values::{needed_at, needed_text, text_of, value_at, with_only};
+use crate::values::needed_text;
+use manifest_tables::{are_tables, needed_at, text_of, value_at, with_only};
 use std::alloc::{AllocError, Global};
 use toml::{Table, Value};
 
@@ -182,12 +185,6 @@ pub(crate) fn accepted_of(alloc: Global, table: &Table) -> Result<Accepted, Mani
         finding,
         reason,
     })
-}
-
-fn are_tables(values: &[Value]) -> bool
-    ensures { result ≡ are_tables (items_view values.now) }
-{
-    values.iter().all(|value| value.is_table())
 }
 
 #[tactic(auto, unfolding(crate::specs::Tables::tables_of))]

@@ -1,19 +1,12 @@
 -- The text of a dialogue as one of the records up to a turn: what is no record of them is a comment, so that lines keep their
 -- numbers.
-use Rattle.std.specs.Prelude.{ℕ, ◌+◌, ◌-◌, min, Bool, ◌==◌, ◌||◌, List, [], ◌∷◌, ◌++◌, codes, if◌then◌else◌}
-use Rattle.std.specs.Str.{bytes_eq}
+use Rattle.std.specs.Prelude.{ℕ, ◌+◌, ◌-◌, min, ◌==◌, ◌||◌, List, [], ◌∷◌, ◌++◌, codes, if◌then◌else◌}
 use Rattle.cli_commands.specs.Lines.{lines_in}
-
--- a line that stands between two turns
-abbrev pub is_turn : List ℕ → Bool
-is_turn line = bytes_eq line (codes "turn")
+use Rattle.cli_commands.specs.TurnLines.{is_turn, left_after}
 
 -- a line of the turns that are kept, of which so many are to come with the one at hand
 abbrev pub line_shown : ℕ → List ℕ → List ℕ
 line_shown left line = if is_turn line || left == 0 then codes "#" else line
-
-abbrev pub left_after : ℕ → List ℕ → ℕ
-left_after left line = if is_turn line then left - 1 else left
 
 abbrev pub shown_from : ℕ → List (List ℕ) → List ℕ
 shown_from left [] = []

@@ -12,11 +12,11 @@ ghost use Rattle.cli_turns.specs.Binds.{turn_line, bound_of, bound_from, bound_t
 ghost use Rattle.cli_turns.specs.Drafts.{worse};
 
 use crate::draft::worse;
-use crate::layouts::read_layouts;
 use crate::part::{count_of, records_of};
 use cli_binds::{Form, bind_answers};
 use cli_commands::{
-    Answer, CommandError, Fault, GivesBytes, Status, TakesBytes, finish, read_text, within_limit,
+    Answer, CommandError, Fault, GivesBytes, Status, TakesBytes, finish, read_layouts, read_text,
+    within_limit,
 };
 use scr_layout::Layout;
 use std::alloc::{AllocError, Global};

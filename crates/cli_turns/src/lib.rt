@@ -4,7 +4,6 @@
 mod bind;
 mod draft;
 mod law;
-mod layouts;
 mod part;
 
 pub use bind::run_bind_turns;

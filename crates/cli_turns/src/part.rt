@@ -1,20 +1,14 @@
 //! The text of a dialogue as one of the records up to a turn: what is no record of them is a comment, so that lines keep their
 //! numbers.
 
-ghost use Rattle.std.specs.Prelude.{◌≡◌, ◌++◌, ◌+◌, ◌≤◌, codes, IfOk, OnOk, length};
+ghost use Rattle.std.specs.Prelude.{◌≡◌, ◌+◌, ◌≤◌, IfOk, length};
 ghost use Rattle.std.specs.List.{filter};
 ghost use Rattle.cli_commands.specs.Lines.{lines_in};
-ghost use Rattle.cli_turns.specs.Part.{is_turn, line_shown, left_after, records_up_to, own_line, at_after, records_of, count_of};
+ghost use Rattle.cli_turns.specs.Part.{line_shown, records_up_to, own_line, at_after, records_of, count_of};
 
 use bstr::ByteSlice;
+use cli_commands::{is_turn, left_after, push_line};
 use std::alloc::{AllocError, Global};
-
-/// Whether a line stands between two turns.
-fn is_turn(line: &[u8]) -> bool
-    ensures { result ≡ is_turn line.now }
-{
-    line == b"turn".as_slice()
-}
 
 /// A line, or the comment in its place, where so many turns up to the last are to come, from this one on.
 fn line_shown(left: usize, line: &[u8]) -> &[u8]
@@ -25,24 +19,6 @@ fn line_shown(left: usize, line: &[u8]) -> &[u8]
     } else {
         line
     }
-}
-
-fn left_after(left: usize, line: &[u8]) -> usize
-    ensures { result ≡ left_after left line.now }
-{
-    if is_turn(line) {
-        left.saturating_sub(1)
-    } else {
-        left
-    }
-}
-
-fn push_line(out: &mut Vec<u8>, line: &[u8]) -> Result<(), AllocError>
-    ensures { OnOk result (out.new.items ≡ out.old.items ++ (line.now ++ codes "\n")) }
-{
-    out.extend_from_slice(line)?;
-    out.push(b'\n')?;
-    Ok(())
 }
 
 /// The text of a dialogue with the records of so many turns alone.

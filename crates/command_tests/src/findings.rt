@@ -1,8 +1,9 @@
-//! Each finding by itself: its name, as JSON and in a log, and what to do.
+//! Each finding by itself: its name, as JSON and in a log, what to do, and its row of the table.
 
 use crate::reports::{is_read_again, push_results};
 use cli_findings::{
-    Pen, finding_json, findings_log, found_log, help_text, line_of_record, name_of,
+    Pen, finding_json, findings_log, form_of_finding, found_log, help_text, line_of_record,
+    meaning_of_finding, mend_of_finding, name_of, rule_id_of,
 };
 use scr_check::{Demo, Finding, Origin, Overlong, Traced};
 use scr_layout::Layout;
@@ -155,6 +156,31 @@ fn push_traced(row: &mut Row) {
     }
 }
 
+/// A row of the table of findings: its number and name, what it means, how it is mended, and what is printed after its number.
+fn push_table_row(row: &mut Row, finding: &Finding) {
+    row.word("\n| `");
+    row.word(rule_id_of(finding));
+    row.word("` | `");
+    row.word(name_of(finding));
+    row.word("` | ");
+    row.word(meaning_of_finding(finding));
+    row.word(" | ");
+    row.word(mend_of_finding(finding));
+    row.word(" | `");
+    row.word(form_of_finding(finding));
+    row.word("` |");
+}
+
+/// The rows of the first table of docs/FINDINGS.md.
+fn push_table(row: &mut Row) {
+    if let Some(layout) = read_code(row) {
+        for finding in all_findings(&layout) {
+            push_table_row(row, &finding);
+        }
+        push_table_row(row, &Finding::Selectable(5));
+    }
+}
+
 /// The lines of the records of a text.
 fn push_lines(row: &mut Row) {
     let text = b"# A comment\n\nF5C2\r\n  # another\n   \n F1 C2\n";
@@ -175,6 +201,7 @@ pub(crate) fn push_answer(row: &mut Row, verb: &str) -> bool {
         "all-findings" => push_all(row),
         "traced" => push_traced(row),
         "lines" => push_lines(row),
+        "table" => push_table(row),
         _ => return false,
     }
     true

@@ -6,11 +6,11 @@
 //! `file TEXT` gives the layout or the keys of the lines below, or of `talk` the layouts, with `|` between two of them, and
 //! `many N TEXT` the same text so often as a file. `attach HEX` is a terminal that presses the file's keys on a host that
 //! sends these bytes, `attach-striking HEX` one that strikes the file's strokes, and `unflushed HEX` one whose line fails at each
-//! flush. `same FORM RECORDS` prints in a form, with the
-//! file as the layout, from streams and of texts, `next TEXT` reads lines, `told TEXT` prints what is told of the screen that
-//! records leave, and `all-findings`, `traced` and `lines` call what `check` reports with. A verb, a command and its input run
-//! this command, where `^` stands for the file. In texts `\n`, `\r` and `\xFF` are bytes; a line that is printed 32 times or
-//! more one after the other is printed once, as `[F2*32]`.
+//! flush. `same FORM RECORDS` prints in a form, with the file as the layout, from streams and of texts, `next TEXT` reads
+//! lines, `told TEXT` prints what is told of the screen that records leave, `all-findings`, `traced` and `lines` call what
+//! `check` reports with, and `table` prints the rows of the first table of docs/FINDINGS.md. A verb, a command and its input
+//! run this command, where `^` stands for the file. In texts `\n`, `\r` and `\xFF` are bytes; a line that is printed 32 times
+//! or more one after the other is printed once, as `[F2*32]`.
 //!
 //! `suite FORM TEXT` is the suite of a manifest, and `suite-folder FORM PATH..` that of paths, over the files that the line `file` gives,
 //! `PATH=TEXT` each, with `|` between two of them.

@@ -108,10 +108,8 @@ pub(crate) fn type_times<C: Cells>(
 }
 
 /// Presses Enter.
-#[tactic(auto, unfolding(ds_codec::specs::Aid::is_aid))]
 pub(crate) fn press_enter<C: Cells>(screen: &mut Screen<C>)
     ensures { screen.new ≡ after_key screen.old (Key.Attention 0x7D) }
 {
-    let enter = Aid::from_byte(0x7D).unwrap();
-    let _answer = press(screen, Key::Attention(enter));
+    let _answer = press(screen, Key::Attention(Aid::enter()));
 }

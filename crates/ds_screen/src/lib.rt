@@ -52,5 +52,5 @@ pub use probed::Probed;
 pub use records::Reset;
 pub use refused::{Refused, Why};
 pub use screen::Screen;
-pub use shown::text_of;
+pub use shown::{printed_under, text_of};
 pub use writes::Write;

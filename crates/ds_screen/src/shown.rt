@@ -52,7 +52,7 @@ pub fn text_of(character: Char) -> u8
 }
 
 /// What is printed of a cell, by what rules it.
-fn printed_cell_under(ruling: Attr, cell: &Cell) -> u8
+pub fn printed_under(ruling: Attr, cell: &Cell) -> u8
     ensures value { result ≡ printed_under ruling cell.now }
     ensures ascii { result < 128 }
 {
@@ -84,7 +84,7 @@ pub(crate) fn row_text<C: Cells>(
 {
     let mut text = String::with_capacity(alloc, columns as usize)?;
     'places: for found in RuledCells::new(cells, start, columns) {
-        text.push(char::from(printed_cell_under(found.ruling, &found.cell)))?;
+        text.push(char::from(printed_under(found.ruling, &found.cell)))?;
     }
     Ok(text)
 }

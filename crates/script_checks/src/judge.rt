@@ -122,7 +122,12 @@ fn room_after(room: usize, kept: &[KeptRecord]) -> Option<usize>
     Some(left)
 }
 
-fn copy_of(alloc: Global, kept: &[KeptRecord]) -> Result<Vec<KeptRecord>, AllocError>
+/// The records again.
+///
+/// # Errors
+///
+/// Where a request for memory was refused.
+pub fn records_copied(alloc: Global, kept: &[KeptRecord]) -> Result<Vec<KeptRecord>, AllocError>
     ensures { IfOk result (λ copy. known_view copy ≡ map kept_view kept.now) }
 {
     let mut copy = Vec::new(alloc);
@@ -193,7 +198,7 @@ impl Judge {
         let Some(room) = self.room_for(kept) else {
             return Ok(());
         };
-        self.known.push(copy_of(alloc, kept)?)?;
+        self.known.push(records_copied(alloc, kept)?)?;
         self.room = room;
         Ok(())
     }

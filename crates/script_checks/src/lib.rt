@@ -15,7 +15,7 @@ mod told;
 pub use check::push_check;
 pub use chosen::choose;
 pub use form::ReportFormat;
-pub use judge::Judge;
+pub use judge::{Judge, records_copied};
 pub use law::{chosen_law, lines_law, texts_law, yes_law};
 pub use layouts::{Layouts, Named};
 pub use read::{LayoutRefusal, LayoutText};

@@ -36,6 +36,7 @@ mod of_ds_strokes;
 mod of_ds_structured;
 mod of_ds_terminal;
 mod of_host_server;
+mod of_manifest_tables;
 mod of_order_lines;
 mod of_scr_check;
 mod of_scr_draft;

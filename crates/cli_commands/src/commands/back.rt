@@ -1,6 +1,6 @@
 //! The command `convert --back`: order lines as records.
 
-ghost use Rattle.std.specs.Prelude.{◌≡◌, ◌≤◌, ◌+◌, IfOk, IfSome, Ok, None, length};
+ghost use Rattle.std.specs.Prelude.{◌≡◌, ◌+◌, IfOk, IfSome, Ok, None};
 ghost use Rattle.std.specs.List.{flat_map};
 ghost use Rattle.ds_codec.specs.Geometry.{Sizes, IsGood, cells_of};
 ghost use Rattle.order_lines.specs.Draft.{begun as no_order};
@@ -9,8 +9,7 @@ ghost use Rattle.order_lines.specs.Told.{item_held, told_held};
 ghost use Rattle.cli_commands.specs.declared.input.sizes.SizeLine.TheVariants.{Refused};
 ghost use Rattle.cli_commands.specs.Held.{answer_seen, size_in_use, backward_seen, order_line_seen, written_line, written_printed};
 ghost use Rattle.cli_commands.specs.Drafts.{words as of_words};
-ghost use Rattle.cli_commands.specs.Lines.{lines_in};
-ghost use Rattle.cli_commands.specs.Taking.{taken, taken_in};
+ghost use Rattle.cli_commands.specs.Taking.{taken_in};
 ghost use Rattle.cli_commands.specs.Back.{size_after, back, printed_back};
 ghost use Rattle.cli_commands.specs.Backward.{nothing, with_line, ended, begun, added, after_line, take_line, text_after, answer_to};
 ghost use Rattle.cli_commands.specs.Causes.{EndsBy, ToldBy};
@@ -18,12 +17,11 @@ ghost use Rattle.cli_commands.specs.Streams.{Prints};
 
 use crate::commands::backward::{Backward, SizeInUse, WrittenRecord};
 use crate::fault::{CommandError, Fault};
-use crate::input::bytes::within_limit;
 use crate::input::drafts::{OrderLine, line_told};
-use crate::input::lines::{TakesLines, take_lines};
-use crate::input::reading::read_lines;
+use crate::input::lines::TakesLines;
 use crate::input::records::MOST_RECORDS;
 use crate::input::sizes::{SizeLine, usual_geometry};
+use crate::input::source::{Source, Text};
 use crate::output::answer::{Answer, finish};
 use crate::output::pieces::{PrintsLines, lines_of, write_lines};
 use crate::status::Status;
@@ -192,15 +190,6 @@ impl TakesLines for Backward {
     }
 }
 
-/// What the lines of a text add, or their first fault.
-fn take_text(alloc: Global, text: &[u8], none: Backward) -> Result<Backward, CommandError>
-    requires { length text.now ≤ 16777216 }
-    ensures { Gives backward_seen result
-        (taken take_line 1 (backward_seen none) (lines_in text.now)) }
-{
-    take_lines(alloc, text, none)
-}
-
 /// The records, or the first that cannot be written.
 fn records_of(told: Backward) -> Result<Vec<WrittenRecord>, CommandError>
     ensures { Finds (λ records. flat_map written_line records.items) result
@@ -236,42 +225,35 @@ fn nothing(alloc: Global) -> Backward
     }
 }
 
-/// The lines of the records that order lines tell, or the first fault of the lines, or the first record that cannot be
-/// written.
-fn written(alloc: Global, lines: &[u8]) -> Result<Answer, CommandError>
-    ensures { Gives answer_seen result (answer_to lines.now) }
-{
-    let text = within_limit(lines)?;
-    let records = all_written(take_text(alloc, text, nothing(alloc))?)?;
-    Ok(Answer {
-        text: lines_of(alloc, &records)?,
-        status: Status::Done,
-    })
-}
-
-/// What the lines of an input add, or their first fault.
-fn read_added<R: GivesBytes>(
+/// What the lines of a source add, or their first fault.
+fn take_added<S: Source>(
     alloc: Global,
-    reader: &mut R,
+    source: &mut S,
     none: Backward,
 ) -> Result<Backward, CommandError>
-    ensures added { IfSome (R.remaining reader.old) (λ input. GivesOrFails backward_seen result
+    ensures added { IfSome (S.remaining source.old) (λ input. GivesOrFails backward_seen result
         (taken_in take_line (backward_seen none) input)) }
-    ensures cause { ToldBy (R.failures reader.old) (R.failures reader.new) result }
+    ensures cause { ToldBy (S.failures source.old) (S.failures source.new) result }
 {
-    read_lines(alloc, reader, none)
+    source.take_lines(alloc, none)
 }
 
-/// The records that the order lines of an input tell, as it is read.
-fn read_held<R: GivesBytes>(
-    alloc: Global,
-    reader: &mut R,
-) -> Result<Vec<WrittenRecord>, CommandError>
-    ensures held { IfSome (R.remaining reader.old)
+/// The records that the order lines of a source tell, each written as it ends.
+fn held<S: Source>(alloc: Global, source: &mut S) -> Result<Vec<WrittenRecord>, CommandError>
+    ensures held { IfSome (S.remaining source.old)
         (λ input. GivesOrFails written_printed result (answer_to input)) }
-    ensures cause { ToldBy (R.failures reader.old) (R.failures reader.new) result }
+    ensures cause { ToldBy (S.failures source.old) (S.failures source.new) result }
 {
-    all_written(read_added(alloc, reader, nothing(alloc))?)
+    all_written(take_added(alloc, source, nothing(alloc))?)
+}
+
+/// The same, said of all lines together.
+fn back<S: Source>(alloc: Global, source: &mut S) -> Result<Vec<WrittenRecord>, CommandError>
+    ensures records { IfSome (S.remaining source.old)
+        (λ input. GivesOrFails written_printed result (back input)) }
+    ensures cause { ToldBy (S.failures source.old) (S.failures source.new) result }
+{
+    held(alloc, source)
 }
 
 /// What `convert --back` answers to a text of order lines.
@@ -282,15 +264,11 @@ fn read_held<R: GivesBytes>(
 pub fn convert_back_text(alloc: Global, lines: &[u8]) -> Result<Answer, CommandError>
     ensures { Gives answer_seen result (back lines.now) }
 {
-    written(alloc, lines)
-}
-
-fn back<R: GivesBytes>(alloc: Global, reader: &mut R) -> Result<Vec<WrittenRecord>, CommandError>
-    ensures records { IfSome (R.remaining reader.old)
-        (λ input. GivesOrFails written_printed result (back input)) }
-    ensures cause { ToldBy (R.failures reader.old) (R.failures reader.new) result }
-{
-    read_held(alloc, reader)
+    let records = back(alloc, &mut Text(lines))?;
+    Ok(Answer {
+        text: lines_of(alloc, &records)?,
+        status: Status::Done,
+    })
 }
 
 /// Reads order lines and prints the bytes of each record in hexadecimal, one a line; or the first fault

@@ -15,10 +15,11 @@ ghost use Rattle.cli_commands.specs.Printed.{printed};
 ghost use Rattle.cli_commands.specs.Streams.{Prints};
 
 use crate::fault::CommandError;
-use crate::input::checking::{read_verdict, verdict_in};
-use crate::input::layout::{layout_in, read_layout};
-use crate::input::records::{read_records, records_in};
+use crate::input::checking::verdict_of;
+use crate::input::layout::read_layout;
+use crate::input::records::read_records;
 use crate::input::sizes::SizeLine;
+use crate::input::source::{Source, Text};
 use crate::output::answer::{Answer, finish};
 use crate::output::demo::{Demos, demo_terminal};
 use crate::output::findings::push_findings;
@@ -125,80 +126,67 @@ pub fn check_answer(
     verdict_text(alloc, layout, records, demos, &verdict)
 }
 
-/// What `check` answers without demos to a layout and a text of records, each of which is checked as its line comes.
-fn check_lines(alloc: Global, layout: &Layout, records: &[u8]) -> Result<Answer, CommandError>
-    ensures { Gives answer_seen result (check_records Omitted layout.now records.now) }
-{
-    let verdict = verdict_in(alloc, layout, records)?;
-    Ok(verdict_text(alloc, layout, &[], Demos::Omitted, &verdict)?)
-}
-
-/// The same with demos, from a screen that the records are shown on once they are held.
-fn check_held(alloc: Global, layout: &Layout, records: &[u8]) -> Result<Answer, CommandError>
-    ensures { Gives answer_seen result (check_records Printed layout.now records.now) }
-{
-    let told = records_in(alloc, records, SizeLine::Refused)?;
-    Ok(check_answer(alloc, layout, told.records.as_slice(), Demos::Printed)?)
-}
-
-/// What `check` answers to a layout and a text of records.
-fn check_records(
+/// What `check` answers without demos to a layout and the records of a source, each of which is checked as its line comes.
+fn check_lines<S: Source>(
     alloc: Global,
     layout: &Layout,
-    records: &[u8],
-    demos: Demos,
+    source: &mut S,
 ) -> Result<Answer, CommandError>
-    ensures { Gives answer_seen result (check_records demos layout.now records.now) }
-{
-    match demos {
-        Demos::Omitted => check_lines(alloc, layout, records),
-        Demos::Printed => check_held(alloc, layout, records),
-    }
-}
-
-/// What `check` answers without demos to a layout and to records that are read, each of which is checked as its line comes.
-fn check_read_lines<R: GivesBytes>(
-    alloc: Global,
-    layout: &Layout,
-    reader: &mut R,
-) -> Result<Answer, CommandError>
-    ensures answer { IfSome (R.remaining reader.old)
+    ensures answer { IfSome (S.remaining source.old)
         (λ input. GivesOrFails answer_seen result (check_records Omitted layout.now input)) }
-    ensures cause { ToldBy (R.failures reader.old) (R.failures reader.new) result }
+    ensures cause { ToldBy (S.failures source.old) (S.failures source.new) result }
 {
-    let verdict = read_verdict(alloc, layout, reader)?;
+    let verdict = verdict_of(alloc, layout, source)?;
     Ok(verdict_text(alloc, layout, &[], Demos::Omitted, &verdict)?)
 }
 
 /// The same with demos, from a screen that the records are shown on once they are held.
-fn check_read_held<R: GivesBytes>(
+fn check_held<S: Source>(
     alloc: Global,
     layout: &Layout,
-    reader: &mut R,
+    source: &mut S,
 ) -> Result<Answer, CommandError>
-    ensures answer { IfSome (R.remaining reader.old)
+    ensures answer { IfSome (S.remaining source.old)
         (λ input. GivesOrFails answer_seen result (check_records Printed layout.now input)) }
-    ensures cause { ToldBy (R.failures reader.old) (R.failures reader.new) result }
+    ensures cause { ToldBy (S.failures source.old) (S.failures source.new) result }
 {
-    let told = read_records(alloc, reader, SizeLine::Refused)?;
+    let told = read_records(alloc, source, SizeLine::Refused)?;
     Ok(check_answer(alloc, layout, told.records.as_slice(), Demos::Printed)?)
 }
 
-/// What `check` answers to a layout and to records that are read.
-fn check_read_records<R: GivesBytes>(
+/// What `check` answers to a layout and the records of a source.
+fn check_records<S: Source>(
     alloc: Global,
     layout: &Layout,
-    reader: &mut R,
+    source: &mut S,
     demos: Demos,
 ) -> Result<Answer, CommandError>
-    ensures answer { IfSome (R.remaining reader.old)
+    ensures answer { IfSome (S.remaining source.old)
         (λ input. GivesOrFails answer_seen result (check_records demos layout.now input)) }
-    ensures cause { ToldBy (R.failures reader.old) (R.failures reader.new) result }
+    ensures cause { ToldBy (S.failures source.old) (S.failures source.new) result }
 {
     match demos {
-        Demos::Omitted => check_read_lines(alloc, layout, reader),
-        Demos::Printed => check_read_held(alloc, layout, reader),
+        Demos::Omitted => check_lines(alloc, layout, source),
+        Demos::Printed => check_held(alloc, layout, source),
     }
+}
+
+/// What `check` answers to the sources of a layout and of records.
+fn check_read<L: Source, R: Source>(
+    alloc: Global,
+    layout: &mut L,
+    records: &mut R,
+    demos: Demos,
+) -> Result<Answer, CommandError>
+    ensures answer { IfSome (L.remaining layout.old) (λ text. IfSome (R.remaining
+        records.old) (λ input. GivesOrFails answer_seen result (check demos text input))) }
+    ensures cause { ToldBy (L.failures layout.old + R.failures records.old)
+        (L.failures layout.new + R.failures records.new) result }
+    ensures unread { IfSome (L.remaining layout.old) (λ text. IfErr (layout_in text) (λ fault.
+        records.new ≡ records.old)) }
+{
+    let layout = read_layout(alloc, layout)?;
+    check_records(alloc, &layout, records, demos)
 }
 
 /// What `check` answers to the texts of a layout and of records.
@@ -214,25 +202,7 @@ pub fn check_texts(
 ) -> Result<Answer, CommandError>
     ensures { Gives answer_seen result (check demos layout.now records.now) }
 {
-    let layout = layout_in(alloc, layout)?;
-    check_records(alloc, &layout, records, demos)
-}
-
-fn check_read<L: GivesBytes, R: GivesBytes>(
-    alloc: Global,
-    layout: &mut L,
-    reader: &mut R,
-    demos: Demos,
-) -> Result<Answer, CommandError>
-    ensures answer { IfSome (L.remaining layout.old) (λ text. IfSome (R.remaining
-        reader.old) (λ input. GivesOrFails answer_seen result (check demos text input))) }
-    ensures cause { ToldBy (L.failures layout.old + R.failures reader.old)
-        (L.failures layout.new + R.failures reader.new) result }
-    ensures unread { IfSome (L.remaining layout.old) (λ text. IfErr (layout_in text) (λ fault.
-        reader.new ≡ reader.old)) }
-{
-    let layout = read_layout(alloc, layout)?;
-    check_read_records(alloc, &layout, reader, demos)
+    check_read(alloc, &mut Text(layout), &mut Text(records), demos)
 }
 
 /// Reads a layout and then records in hexadecimal, one a line, and prints `yes` or what stands against

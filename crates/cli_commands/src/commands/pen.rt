@@ -13,6 +13,7 @@ use crate::fault::CommandError;
 use crate::input::layout::read_layout;
 use crate::input::records::read_records;
 use crate::input::sizes::SizeLine;
+use crate::input::source::Source;
 use crate::output::answer::{Answer, finish};
 use crate::output::demo::Demos;
 use crate::status::Status;
@@ -40,36 +41,36 @@ fn check_pen_answer(
     verdict_text(alloc, layout, records, demos, &verdict)
 }
 
-/// The same of a layout and of records that are read.
-fn check_pen_read_records<R: GivesBytes>(
+/// The same of a layout and the records of a source.
+fn check_pen_records<S: Source>(
     alloc: Global,
     layout: &Layout,
-    reader: &mut R,
+    source: &mut S,
     demos: Demos,
 ) -> Result<Answer, CommandError>
-    ensures answer { IfSome (R.remaining reader.old)
+    ensures answer { IfSome (S.remaining source.old)
         (λ input. GivesOrFails answer_seen result (check_pen_records demos layout.now input)) }
-    ensures cause { ToldBy (R.failures reader.old) (R.failures reader.new) result }
+    ensures cause { ToldBy (S.failures source.old) (S.failures source.new) result }
 {
-    let told = read_records(alloc, reader, SizeLine::Refused)?;
+    let told = read_records(alloc, source, SizeLine::Refused)?;
     Ok(check_pen_answer(alloc, layout, told.records.as_slice(), demos)?)
 }
 
-fn check_pen_read<L: GivesBytes, R: GivesBytes>(
+fn check_pen_read<L: Source, R: Source>(
     alloc: Global,
     layout: &mut L,
-    reader: &mut R,
+    records: &mut R,
     demos: Demos,
 ) -> Result<Answer, CommandError>
     ensures answer { IfSome (L.remaining layout.old) (λ text. IfSome (R.remaining
-        reader.old) (λ input. GivesOrFails answer_seen result (check_pen demos text input))) }
-    ensures cause { ToldBy (L.failures layout.old + R.failures reader.old)
-        (L.failures layout.new + R.failures reader.new) result }
+        records.old) (λ input. GivesOrFails answer_seen result (check_pen demos text input))) }
+    ensures cause { ToldBy (L.failures layout.old + R.failures records.old)
+        (L.failures layout.new + R.failures records.new) result }
     ensures unread { IfSome (L.remaining layout.old) (λ text. IfErr (layout_in text) (λ fault.
-        reader.new ≡ reader.old)) }
+        records.new ≡ records.old)) }
 {
     let layout = read_layout(alloc, layout)?;
-    check_pen_read_records(alloc, &layout, reader, demos)
+    check_pen_records(alloc, &layout, records, demos)
 }
 
 /// Reads a layout and then records as `run_check` does, and prints `yes` or what stands against them, and after it the fields

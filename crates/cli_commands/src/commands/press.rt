@@ -14,9 +14,10 @@ ghost use Rattle.cli_commands.specs.Records.{records_in};
 ghost use Rattle.cli_commands.specs.Streams.{Prints};
 
 use crate::fault::CommandError;
-use crate::input::keys::{Keys, keys_in, read_keys};
-use crate::input::records::{Records, read_records, records_in};
+use crate::input::keys::{Keys, read_keys};
+use crate::input::records::{Records, read_records};
 use crate::input::sizes::SizeLine;
+use crate::input::source::{Source, Text};
 use crate::output::answer::{Answer, finish};
 use crate::output::bytes::push_sent;
 use crate::shown::show_all;
@@ -110,16 +111,8 @@ fn press_told(alloc: Global, told: &Records, named: &Keys) -> Result<Answer, Com
     press_from(alloc, &mut terminal, told.records.as_slice(), named)
 }
 
-/// What `press` answers to records and a text of keys.
-fn press_keys(alloc: Global, told: &Records, keys: &[u8]) -> Result<Answer, CommandError>
-    ensures { Gives answer_seen result (press_keys (records_seen told.now) keys.now) }
-{
-    let named = keys_in(alloc, keys)?;
-    press_told(alloc, told, &named)
-}
-
-/// What `press` answers to records and to keys that are read.
-fn press_read_keys<K: GivesBytes>(
+/// What `press` answers to records and the keys of a source.
+fn press_keys<K: Source>(
     alloc: Global,
     told: &Records,
     keys: &mut K,
@@ -132,6 +125,23 @@ fn press_read_keys<K: GivesBytes>(
     press_told(alloc, told, &named)
 }
 
+/// What `press` answers to the sources of records and of keys.
+fn press_read<R: Source, K: Source>(
+    alloc: Global,
+    records: &mut R,
+    keys: &mut K,
+) -> Result<Answer, CommandError>
+    ensures answer { IfSome (R.remaining records.old) (λ input. IfSome (K.remaining
+        keys.old) (λ lines. GivesOrFails answer_seen result (press input lines))) }
+    ensures cause { ToldBy (R.failures records.old + K.failures keys.old)
+        (R.failures records.new + K.failures keys.new) result }
+    ensures unread { IfSome (R.remaining records.old) (λ input.
+        IfErr (records_in Allowed input) (λ fault. keys.new ≡ keys.old)) }
+{
+    let told = read_records(alloc, records, SizeLine::Allowed)?;
+    press_keys(alloc, &told, keys)
+}
+
 /// What `press` answers to the texts of records and of keys.
 ///
 /// # Errors
@@ -140,24 +150,7 @@ fn press_read_keys<K: GivesBytes>(
 pub fn press_texts(alloc: Global, records: &[u8], keys: &[u8]) -> Result<Answer, CommandError>
     ensures { Gives answer_seen result (press records.now keys.now) }
 {
-    let told = records_in(alloc, records, SizeLine::Allowed)?;
-    press_keys(alloc, &told, keys)
-}
-
-fn press_read<R: GivesBytes, K: GivesBytes>(
-    alloc: Global,
-    reader: &mut R,
-    keys: &mut K,
-) -> Result<Answer, CommandError>
-    ensures answer { IfSome (R.remaining reader.old) (λ input. IfSome (K.remaining
-        keys.old) (λ lines. GivesOrFails answer_seen result (press input lines))) }
-    ensures cause { ToldBy (R.failures reader.old + K.failures keys.old)
-        (R.failures reader.new + K.failures keys.new) result }
-    ensures unread { IfSome (R.remaining reader.old) (λ input.
-        IfErr (records_in Allowed input) (λ fault. keys.new ≡ keys.old)) }
-{
-    let told = read_records(alloc, reader, SizeLine::Allowed)?;
-    press_read_keys(alloc, &told, keys)
+    press_read(alloc, &mut Text(records), &mut Text(keys))
 }
 
 /// Reads records in hexadecimal, one a line, and keys, one a line; applies the records to a new screen,

@@ -8,8 +8,9 @@ ghost use Rattle.cli_commands.specs.Show.{show_from, show_told, show, printed_sh
 ghost use Rattle.cli_commands.specs.Streams.{Prints};
 
 use crate::fault::CommandError;
-use crate::input::records::{Records, read_records, records_in};
+use crate::input::records::{Records, read_records};
 use crate::input::sizes::SizeLine;
+use crate::input::source::{Source, Text};
 use crate::output::answer::{Answer, finish};
 use crate::output::screen::screen_text;
 use crate::shown::show_all;
@@ -42,6 +43,16 @@ fn show_told(alloc: Global, told: &Records) -> Result<Answer, CommandError>
     show_from(alloc, &mut terminal, told.records.as_slice())
 }
 
+/// What `show` answers to the records of a source, or their first fault.
+fn show<S: Source>(alloc: Global, source: &mut S) -> Result<Answer, CommandError>
+    ensures answer { IfSome (S.remaining source.old)
+        (λ input. GivesOrFails answer_seen result (show input)) }
+    ensures cause { ToldBy (S.failures source.old) (S.failures source.new) result }
+{
+    let told = read_records(alloc, source, SizeLine::Allowed)?;
+    show_told(alloc, &told)
+}
+
 /// What `show` answers to a text of records, or its first fault.
 ///
 /// # Errors
@@ -50,17 +61,7 @@ fn show_told(alloc: Global, told: &Records) -> Result<Answer, CommandError>
 pub fn show_text(alloc: Global, records: &[u8]) -> Result<Answer, CommandError>
     ensures { Gives answer_seen result (show records.now) }
 {
-    let told = records_in(alloc, records, SizeLine::Allowed)?;
-    show_told(alloc, &told)
-}
-
-fn show<R: GivesBytes>(alloc: Global, reader: &mut R) -> Result<Answer, CommandError>
-    ensures answer { IfSome (R.remaining reader.old)
-        (λ input. GivesOrFails answer_seen result (show input)) }
-    ensures cause { ToldBy (R.failures reader.old) (R.failures reader.new) result }
-{
-    let told = read_records(alloc, reader, SizeLine::Allowed)?;
-    show_told(alloc, &told)
+    show(alloc, &mut Text(records))
 }
 
 /// Reads records in hexadecimal, one a line, applies them to a new screen, and prints the screen; or

@@ -19,9 +19,10 @@ ghost use Rattle.cli_commands.specs.Strike.{struck_text, strike_told, strike_lin
 
 use crate::commands::press::push_reply;
 use crate::fault::CommandError;
-use crate::input::records::{Records, read_records, records_in};
+use crate::input::records::{Records, read_records};
 use crate::input::sizes::SizeLine;
-use crate::input::strokes::{Strokes, read_strokes, strokes_in};
+use crate::input::source::{Source, Text};
+use crate::input::strokes::{Strokes, read_strokes};
 use crate::output::answer::{Answer, finish};
 use crate::shown::shown_on;
 use crate::status::Status;
@@ -109,16 +110,8 @@ fn strike_told(alloc: Global, told: &Records, named: &Strokes) -> Result<Answer,
     strike_all(alloc, &mut operator, named)
 }
 
-/// What `press --strokes` answers to records and a text of strokes.
-fn strike_lines(alloc: Global, told: &Records, strokes: &[u8]) -> Result<Answer, CommandError>
-    ensures { Gives answer_seen result (strike_lines (records_seen told.now) strokes.now) }
-{
-    let named = strokes_in(alloc, strokes)?;
-    strike_told(alloc, told, &named)
-}
-
-/// What `press --strokes` answers to records and to strokes that are read.
-fn strike_read_lines<K: GivesBytes>(
+/// What `press --strokes` answers to records and the strokes of a source.
+fn strike_lines<K: Source>(
     alloc: Global,
     told: &Records,
     strokes: &mut K,
@@ -129,6 +122,23 @@ fn strike_read_lines<K: GivesBytes>(
 {
     let named = read_strokes(alloc, strokes)?;
     strike_told(alloc, told, &named)
+}
+
+/// What `press --strokes` answers to the sources of records and of strokes.
+fn strike_read<R: Source, K: Source>(
+    alloc: Global,
+    records: &mut R,
+    strokes: &mut K,
+) -> Result<Answer, CommandError>
+    ensures answer { IfSome (R.remaining records.old) (λ input. IfSome (K.remaining
+        strokes.old) (λ lines. GivesOrFails answer_seen result (strike input lines))) }
+    ensures cause { ToldBy (R.failures records.old + K.failures strokes.old)
+        (R.failures records.new + K.failures strokes.new) result }
+    ensures unread { IfSome (R.remaining records.old) (λ input.
+        IfErr (records_in Allowed input) (λ fault. strokes.new ≡ strokes.old)) }
+{
+    let told = read_records(alloc, records, SizeLine::Allowed)?;
+    strike_lines(alloc, &told, strokes)
 }
 
 /// What `press --strokes` answers to the texts of records and of strokes.
@@ -143,24 +153,7 @@ pub fn press_strokes_texts(
 ) -> Result<Answer, CommandError>
     ensures { Gives answer_seen result (strike records.now strokes.now) }
 {
-    let told = records_in(alloc, records, SizeLine::Allowed)?;
-    strike_lines(alloc, &told, strokes)
-}
-
-fn strike_read<R: GivesBytes, K: GivesBytes>(
-    alloc: Global,
-    reader: &mut R,
-    strokes: &mut K,
-) -> Result<Answer, CommandError>
-    ensures answer { IfSome (R.remaining reader.old) (λ input. IfSome (K.remaining
-        strokes.old) (λ lines. GivesOrFails answer_seen result (strike input lines))) }
-    ensures cause { ToldBy (R.failures reader.old + K.failures strokes.old)
-        (R.failures reader.new + K.failures strokes.new) result }
-    ensures unread { IfSome (R.remaining reader.old) (λ input.
-        IfErr (records_in Allowed input) (λ fault. strokes.new ≡ strokes.old)) }
-{
-    let told = read_records(alloc, reader, SizeLine::Allowed)?;
-    strike_read_lines(alloc, &told, strokes)
+    strike_read(alloc, &mut Text(records), &mut Text(strokes))
 }
 
 /// Reads records in hexadecimal, one a line, and strokes, one a line; applies the records to a new screen,

@@ -18,7 +18,8 @@ ghost use Rattle.std.specs.Prelude.{[]};
 use crate::commands::check::lent;
 use crate::fault::{CommandError, Fault};
 use crate::input::layouts::{layouts_in, read_layouts};
-use crate::input::turns::{read_turns, turns_in};
+use crate::input::source::{Source, Text};
+use crate::input::turns::read_turns;
 use crate::output::answer::{Answer, finish};
 use crate::output::findings::push_findings;
 use crate::status::Status;
@@ -209,27 +210,18 @@ fn talk_told(
     Ok(turns_answer(alloc, layouts, turns)?)
 }
 
-/// What `talk` answers to layouts of one geometry and a text of turns.
-fn talk_turns(alloc: Global, layouts: &[Layout], records: &[u8]) -> Result<Answer, CommandError>
-    requires { first_other layouts.now ≡ None }
-    ensures { Gives answer_seen result (talk_turns layouts.now records.now) }
-{
-    let turns = turns_in(alloc, records)?;
-    talk_told(alloc, layouts, turns.as_slice())
-}
-
-/// What `talk` answers to layouts of one geometry and to turns that are read.
-fn talk_read_turns<R: GivesBytes>(
+/// What `talk` answers to layouts of one geometry and the turns of a source.
+fn talk_turns<S: Source>(
     alloc: Global,
     layouts: &[Layout],
-    reader: &mut R,
+    source: &mut S,
 ) -> Result<Answer, CommandError>
     requires { first_other layouts.now ≡ None }
-    ensures answer { IfSome (R.remaining reader.old)
+    ensures answer { IfSome (S.remaining source.old)
         (λ input. GivesOrFails answer_seen result (talk_turns layouts.now input)) }
-    ensures cause { ToldBy (R.failures reader.old) (R.failures reader.new) result }
+    ensures cause { ToldBy (S.failures source.old) (S.failures source.new) result }
 {
-    let turns = read_turns(alloc, reader)?;
+    let turns = read_turns(alloc, source)?;
     talk_told(alloc, layouts, turns.as_slice())
 }
 
@@ -244,25 +236,26 @@ pub fn talk_texts(alloc: Global, layouts: &[&[u8]], records: &[u8]) -> Result<An
 {
     let layouts = layouts_in(alloc, layouts)?;
     one_geometry(layouts.as_slice())?;
-    talk_turns(alloc, layouts.as_slice(), records)
+    talk_turns(alloc, layouts.as_slice(), &mut Text(records))
 }
 
-fn talk_read<L: GivesBytes, R: GivesBytes>(
+/// What `talk` answers to the sources of layouts and of turns.
+fn talk_read<L: Source, R: Source>(
     alloc: Global,
     layouts: &mut [L],
-    reader: &mut R,
+    records: &mut R,
 ) -> Result<Answer, CommandError>
     ensures answer { IfSome (all_remaining L.remaining layouts.old)
-        (λ texts. IfSome (R.remaining reader.old)
+        (λ texts. IfSome (R.remaining records.old)
         (λ input. GivesOrFails answer_seen result (talk texts input))) }
-    ensures cause { ToldBy (all_failures L.failures layouts.old + R.failures reader.old)
-        (all_failures L.failures layouts.new + R.failures reader.new) result }
+    ensures cause { ToldBy (all_failures L.failures layouts.old + R.failures records.old)
+        (all_failures L.failures layouts.new + R.failures records.new) result }
     ensures unread { IfSome (all_remaining L.remaining layouts.old)
-        (λ texts. IfErr (layouts_from 0 [] texts) (λ fault. reader.new ≡ reader.old)) }
+        (λ texts. IfErr (layouts_from 0 [] texts) (λ fault. records.new ≡ records.old)) }
 {
     let layouts = read_layouts(alloc, layouts)?;
     one_geometry(layouts.as_slice())?;
-    talk_read_turns(alloc, layouts.as_slice(), reader)
+    talk_turns(alloc, layouts.as_slice(), records)
 }
 
 /// Reads the layouts of the turns of a dialogue, and then records in hexadecimal, one a line, with a line

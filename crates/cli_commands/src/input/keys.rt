@@ -1,19 +1,16 @@
 //! Lines of keys.
 
-ghost use Rattle.std.specs.Prelude.{◌≡◌, IfSome, ◌≤◌, length};
+ghost use Rattle.std.specs.Prelude.{◌≡◌, IfSome};
 ghost use Rattle.ds_keys.specs.Lines.{key_of};
 ghost use Rattle.cli_commands.specs.Causes.{ToldBy};
 ghost use Rattle.cli_commands.specs.Fault.{Finds, Gives, GivesOrFails};
 ghost use Rattle.cli_commands.specs.Keys.{key_or_bad, key_told, one_more, after_key_line, take_key, keys_in};
-ghost use Rattle.cli_commands.specs.Lines.{lines_in};
-ghost use Rattle.cli_commands.specs.Taking.{taken, taken_in};
+ghost use Rattle.cli_commands.specs.Taking.{taken_in};
 ghost use Rattle.cli_commands.specs.Held.{key_line_seen, keys_seen};
 
 use crate::fault::{CommandError, Fault};
-use crate::input::bytes::within_limit;
-use crate::input::lines::{TakesLines, is_ignored, take_lines, text_of};
-use crate::input::reading::read_lines;
-use crate::streams::GivesBytes;
+use crate::input::lines::{TakesLines, is_ignored, text_of};
+use crate::input::source::{Source, Text};
 use ds_keys::{Key, key_of_line};
 use std::alloc::Global;
 
@@ -85,46 +82,30 @@ impl TakesLines for Keys {
     }
 }
 
-/// The keys that the lines of a text add, or their first fault.
-fn take_keys(alloc: Global, text: &[u8], none: Keys) -> Result<Keys, CommandError>
-    requires { length text.now ≤ 16777216 }
-    ensures { Gives keys_seen result (taken take_key 1 (keys_seen none) (lines_in text.now)) }
+/// The keys that the lines of a source add, or their first fault.
+fn take_keys<S: Source>(alloc: Global, source: &mut S, none: Keys) -> Result<Keys, CommandError>
+    ensures added { IfSome (S.remaining source.old) (λ input. GivesOrFails keys_seen result
+        (taken_in take_key (keys_seen none) input)) }
+    ensures cause { ToldBy (S.failures source.old) (S.failures source.new) result }
 {
-    take_lines(alloc, text, none)
+    source.take_lines(alloc, none)
+}
+
+/// The keys of an input, or the first fault of its lines.
+pub fn read_keys<S: Source>(alloc: Global, source: &mut S) -> Result<Keys, CommandError>
+    ensures keys { IfSome (S.remaining source.old)
+        (λ input. GivesOrFails keys_seen result (keys_in input)) }
+    ensures cause { ToldBy (S.failures source.old) (S.failures source.new) result }
+{
+    let none = Keys {
+        keys: Vec::new(alloc),
+    };
+    take_keys(alloc, source, none)
 }
 
 /// The keys of a text, or the first fault of its lines.
 pub fn keys_in(alloc: Global, text: &[u8]) -> Result<Keys, CommandError>
     ensures { Gives keys_seen result (keys_in text.now) }
 {
-    let lines = within_limit(text)?;
-    let none = Keys {
-        keys: Vec::new(alloc),
-    };
-    take_keys(alloc, lines, none)
-}
-
-/// The keys that the lines of an input add, or their first fault.
-fn read_added<R: GivesBytes>(
-    alloc: Global,
-    reader: &mut R,
-    none: Keys,
-) -> Result<Keys, CommandError>
-    ensures added { IfSome (R.remaining reader.old) (λ input. GivesOrFails keys_seen result
-        (taken_in take_key (keys_seen none) input)) }
-    ensures cause { ToldBy (R.failures reader.old) (R.failures reader.new) result }
-{
-    read_lines(alloc, reader, none)
-}
-
-/// The keys of an input, or the first fault of its lines.
-pub fn read_keys<R: GivesBytes>(alloc: Global, reader: &mut R) -> Result<Keys, CommandError>
-    ensures keys { IfSome (R.remaining reader.old)
-        (λ input. GivesOrFails keys_seen result (keys_in input)) }
-    ensures cause { ToldBy (R.failures reader.old) (R.failures reader.new) result }
-{
-    let none = Keys {
-        keys: Vec::new(alloc),
-    };
-    read_added(alloc, reader, none)
+    read_keys(alloc, &mut Text(text))
 }

@@ -7,9 +7,9 @@ ghost use Rattle.cli_commands.specs.Fault.{Gives, GivesOrFails};
 ghost use Rattle.cli_commands.specs.LayoutText.{layout_said, layout_in};
 
 use crate::fault::CommandError;
-use crate::input::bytes::{read_text, within_limit};
+use crate::input::bytes::within_limit;
 use crate::input::lines::text_of;
-use crate::streams::GivesBytes;
+use crate::input::source::{Source, Whole};
 use scr_layout::{Layout, LayoutError, LayoutFault, Why};
 use std::alloc::Global;
 
@@ -36,11 +36,11 @@ pub fn layout_in(alloc: Global, text: &[u8]) -> Result<Layout, CommandError>
 }
 
 /// The layout of an input, or its first fault.
-pub fn read_layout<R: GivesBytes>(alloc: Global, reader: &mut R) -> Result<Layout, CommandError>
-    ensures layout { IfSome (R.remaining reader.old)
+pub fn read_layout<S: Source>(alloc: Global, source: &mut S) -> Result<Layout, CommandError>
+    ensures layout { IfSome (S.remaining source.old)
         (λ input. GivesOrFails (λ l. l) result (layout_in input)) }
-    ensures cause { ToldBy (R.failures reader.old) (R.failures reader.new) result }
+    ensures cause { ToldBy (S.failures source.old) (S.failures source.new) result }
 {
-    let text = read_text(alloc, reader)?;
-    layout_in(alloc, text.as_slice())
+    let text = source.whole(alloc)?;
+    layout_in(alloc, text.bytes())
 }

@@ -8,9 +8,8 @@ ghost use Rattle.cli_commands.specs.Talk.{turn_layout_in, layouts_from};
 ghost use Rattle.cli_commands.specs.TurnsHeld.{all_remaining};
 
 use crate::fault::{CommandError, Fault};
-use crate::input::bytes::read_text;
 use crate::input::last_layout::LastLayout;
-use crate::streams::GivesBytes;
+use crate::input::source::{Source, Whole};
 use scr_layout::Layout;
 use std::alloc::Global;
 
@@ -67,34 +66,34 @@ pub fn layouts_in(alloc: Global, texts: &[&[u8]]) -> Result<Vec<Layout>, Command
     Ok(layouts)
 }
 
-fn read_turn_layout<L: GivesBytes>(
+fn read_turn_layout<S: Source>(
     alloc: Global,
     last: &mut Option<LastLayout>,
     turn: usize,
-    reader: &mut L,
+    source: &mut S,
 ) -> Result<Layout, CommandError>
-    ensures layout { IfSome (L.remaining reader.old)
+    ensures layout { IfSome (S.remaining source.old)
         (λ input. GivesOrFails (λ l. l) result (turn_layout_in turn input)) }
-    ensures cause { ToldBy (L.failures reader.old) (L.failures reader.new) result }
+    ensures cause { ToldBy (S.failures source.old) (S.failures source.new) result }
 {
-    let text = read_text(alloc, reader)?;
-    turn_layout_in(alloc, last, turn, text.as_slice())
+    let text = source.whole(alloc)?;
+    turn_layout_in(alloc, last, turn, text.bytes())
 }
 
 /// The layouts of the turns in order, or the first fault.
-pub fn read_layouts<L: GivesBytes>(
+pub fn read_layouts<L: Source>(
     alloc: Global,
-    readers: &mut [L],
+    sources: &mut [L],
 ) -> Result<Vec<Layout>, CommandError>
-    ensures layouts { IfSome (all_remaining L.remaining readers.old)
+    ensures layouts { IfSome (all_remaining L.remaining sources.old)
         (λ texts. GivesOrFails (λ v. v.items) result (layouts_from 0 [] texts)) }
-    ensures cause { ToldBy (all_failures L.failures readers.old)
-        (all_failures L.failures readers.new) result }
+    ensures cause { ToldBy (all_failures L.failures sources.old)
+        (all_failures L.failures sources.new) result }
 {
     let mut layouts = Vec::new(alloc);
     let mut last = None;
-    for turn in 0..readers.len() {
-        match read_turn_layout(alloc, &mut last, turn, &mut readers[turn]) {
+    for turn in 0..sources.len() {
+        match read_turn_layout(alloc, &mut last, turn, &mut sources[turn]) {
             Ok(layout) => layouts.push(layout)?,
             Err(error) => return Err(error),
         }

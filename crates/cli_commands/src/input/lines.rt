@@ -49,7 +49,8 @@ pub fn take_numbered<T: TakesLines>(
 /// Takes the lines of a text in turn, up to the first fault.
 pub fn take_lines<T: TakesLines>(alloc: Global, text: &[u8], none: T) -> Result<T, CommandError>
     requires { length text.now ≤ 16777216 }
-    ensures { TakesAll T.takes 1 none (lines_in text.now) result }
+    ensures takes { TakesAll T.takes 1 none (lines_in text.now) result }
+    ensures unread { IfErr result ReadsNothing }
 {
     let (told, _next) = take_numbered(alloc, text, 1, none)?;
     Ok(told)

@@ -1,21 +1,19 @@
 //! Lines of records in hexadecimal.
 
-ghost use Rattle.std.specs.Prelude.{◌≡◌, ◌==◌, not, IfOk, IfSome, OnOk, ◌≤◌, length, false};
+ghost use Rattle.std.specs.Prelude.{◌≡◌, ◌==◌, not, IfOk, IfSome, OnOk, false};
 ghost use Rattle.std.specs.List.{filter};
 ghost use Rattle.hex.specs.Hex.{decode_of};
 ghost use Rattle.cli_commands.specs.Causes.{ToldBy};
 ghost use Rattle.cli_commands.specs.Fault.{Gives, GivesOrFails};
 ghost use Rattle.cli_commands.specs.Records.{line_told, digits_told, record_told, without_spaces, no_records, one_more, after_line, take_record, records_in};
-ghost use Rattle.cli_commands.specs.Lines.{lines_in};
-ghost use Rattle.cli_commands.specs.Taking.{taken, taken_in};
+ghost use Rattle.cli_commands.specs.Taking.{taken_in};
 ghost use Rattle.cli_commands.specs.Held.{line_seen, records_seen};
 
 use crate::fault::{CommandError, Fault};
-use crate::input::bytes::{at_most, within_limit};
-use crate::input::lines::{TakesLines, is_ignored, take_lines, text_of};
-use crate::input::reading::read_lines;
+use crate::input::bytes::at_most;
+use crate::input::lines::{TakesLines, is_ignored, text_of};
 use crate::input::sizes::{SizeLine, told_sizes, usual_geometry};
-use crate::streams::GivesBytes;
+use crate::input::source::{Source, Text};
 use ds_codec::{Geometry, bytes_of_digits};
 use memchr::memchr;
 use std::alloc::{AllocError, Global};
@@ -179,13 +177,31 @@ fn no_records(alloc: Global, size_line: SizeLine) -> Records
     }
 }
 
-/// The sizes and the records that the lines of a text add, or their first fault.
-fn take_records(alloc: Global, text: &[u8], none: Records) -> Result<Records, CommandError>
-    requires { length text.now ≤ 16777216 }
-    ensures { Gives records_seen result
-        (taken take_record 1 (records_seen none) (lines_in text.now)) }
+/// The sizes and the records that the lines of a source add, or their first fault.
+fn take_records<S: Source>(
+    alloc: Global,
+    source: &mut S,
+    none: Records,
+) -> Result<Records, CommandError>
+    ensures added { IfSome (S.remaining source.old) (λ input. GivesOrFails records_seen result
+        (taken_in take_record (records_seen none) input)) }
+    ensures cause { ToldBy (S.failures source.old) (S.failures source.new) result }
 {
-    take_lines(alloc, text, none)
+    source.take_lines(alloc, none)
+}
+
+/// The sizes and the records of an input, or the first fault of its lines. Where a line of sizes is
+/// refused, they are told elsewhere.
+pub fn read_records<S: Source>(
+    alloc: Global,
+    source: &mut S,
+    size_line: SizeLine,
+) -> Result<Records, CommandError>
+    ensures records { IfSome (S.remaining source.old) (λ input. GivesOrFails records_seen result
+        (records_in size_line input)) }
+    ensures cause { ToldBy (S.failures source.old) (S.failures source.new) result }
+{
+    take_records(alloc, source, no_records(alloc, size_line))
 }
 
 /// The sizes and the records of a text, or the first fault of its lines. Where a line of sizes is
@@ -193,33 +209,5 @@ fn take_records(alloc: Global, text: &[u8], none: Records) -> Result<Records, Co
 pub fn records_in(alloc: Global, text: &[u8], size_line: SizeLine) -> Result<Records, CommandError>
     ensures { Gives records_seen result (records_in size_line text.now) }
 {
-    let lines = within_limit(text)?;
-    take_records(alloc, lines, no_records(alloc, size_line))
-}
-
-/// The sizes and the records that the lines of an input add, or their first fault.
-fn read_added<R: GivesBytes>(
-    alloc: Global,
-    reader: &mut R,
-    none: Records,
-) -> Result<Records, CommandError>
-    ensures added { IfSome (R.remaining reader.old) (λ input. GivesOrFails records_seen result
-        (taken_in take_record (records_seen none) input)) }
-    ensures cause { ToldBy (R.failures reader.old) (R.failures reader.new) result }
-{
-    read_lines(alloc, reader, none)
-}
-
-/// The sizes and the records of an input, or the first fault of its lines. Where a line of sizes is
-/// refused, they are told elsewhere.
-pub fn read_records<R: GivesBytes>(
-    alloc: Global,
-    reader: &mut R,
-    size_line: SizeLine,
-) -> Result<Records, CommandError>
-    ensures records { IfSome (R.remaining reader.old) (λ input. GivesOrFails records_seen result
-        (records_in size_line input)) }
-    ensures cause { ToldBy (R.failures reader.old) (R.failures reader.new) result }
-{
-    read_added(alloc, reader, no_records(alloc, size_line))
+    read_records(alloc, &mut Text(text), size_line)
 }

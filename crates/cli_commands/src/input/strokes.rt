@@ -1,19 +1,16 @@
 //! Lines of strokes.
 
-ghost use Rattle.std.specs.Prelude.{◌≡◌, IfSome, ◌≤◌, length};
+ghost use Rattle.std.specs.Prelude.{◌≡◌, IfSome};
 ghost use Rattle.ds_strokes.specs.Lines.{stroke_of};
 ghost use Rattle.cli_commands.specs.Causes.{ToldBy};
 ghost use Rattle.cli_commands.specs.Fault.{Finds, Gives, GivesOrFails};
 ghost use Rattle.cli_commands.specs.Strokes.{stroke_or_bad, stroke_told, one_more, after_stroke_line, take_stroke, strokes_in};
-ghost use Rattle.cli_commands.specs.Lines.{lines_in};
-ghost use Rattle.cli_commands.specs.Taking.{taken, taken_in};
+ghost use Rattle.cli_commands.specs.Taking.{taken_in};
 ghost use Rattle.cli_commands.specs.Held.{stroke_line_seen, strokes_seen};
 
 use crate::fault::{CommandError, Fault};
-use crate::input::bytes::within_limit;
-use crate::input::lines::{TakesLines, is_ignored, take_lines, text_of};
-use crate::input::reading::read_lines;
-use crate::streams::GivesBytes;
+use crate::input::lines::{TakesLines, is_ignored, text_of};
+use crate::input::source::{Source, Text};
 use ds_strokes::{Stroke, stroke_of_line};
 use std::alloc::Global;
 
@@ -92,47 +89,34 @@ impl TakesLines for Strokes {
     }
 }
 
-/// The strokes that the lines of a text add, or their first fault.
-fn take_strokes(alloc: Global, text: &[u8], none: Strokes) -> Result<Strokes, CommandError>
-    requires { length text.now ≤ 16777216 }
-    ensures { Gives strokes_seen result
-        (taken take_stroke 1 (strokes_seen none) (lines_in text.now)) }
+/// The strokes that the lines of a source add, or their first fault.
+fn take_strokes<S: Source>(
+    alloc: Global,
+    source: &mut S,
+    none: Strokes,
+) -> Result<Strokes, CommandError>
+    ensures added { IfSome (S.remaining source.old) (λ input. GivesOrFails strokes_seen result
+        (taken_in take_stroke (strokes_seen none) input)) }
+    ensures cause { ToldBy (S.failures source.old) (S.failures source.new) result }
 {
-    take_lines(alloc, text, none)
+    source.take_lines(alloc, none)
+}
+
+/// The strokes of an input, or the first fault of its lines.
+pub fn read_strokes<S: Source>(alloc: Global, source: &mut S) -> Result<Strokes, CommandError>
+    ensures strokes { IfSome (S.remaining source.old)
+        (λ input. GivesOrFails strokes_seen result (strokes_in input)) }
+    ensures cause { ToldBy (S.failures source.old) (S.failures source.new) result }
+{
+    let none = Strokes {
+        strokes: Vec::new(alloc),
+    };
+    take_strokes(alloc, source, none)
 }
 
 /// The strokes of a text, or the first fault of its lines.
 pub fn strokes_in(alloc: Global, text: &[u8]) -> Result<Strokes, CommandError>
     ensures { Gives strokes_seen result (strokes_in text.now) }
 {
-    let lines = within_limit(text)?;
-    let none = Strokes {
-        strokes: Vec::new(alloc),
-    };
-    take_strokes(alloc, lines, none)
-}
-
-/// The strokes that the lines of an input add, or their first fault.
-fn read_added<R: GivesBytes>(
-    alloc: Global,
-    reader: &mut R,
-    none: Strokes,
-) -> Result<Strokes, CommandError>
-    ensures added { IfSome (R.remaining reader.old) (λ input. GivesOrFails strokes_seen result
-        (taken_in take_stroke (strokes_seen none) input)) }
-    ensures cause { ToldBy (R.failures reader.old) (R.failures reader.new) result }
-{
-    read_lines(alloc, reader, none)
-}
-
-/// The strokes of an input, or the first fault of its lines.
-pub fn read_strokes<R: GivesBytes>(alloc: Global, reader: &mut R) -> Result<Strokes, CommandError>
-    ensures strokes { IfSome (R.remaining reader.old)
-        (λ input. GivesOrFails strokes_seen result (strokes_in input)) }
-    ensures cause { ToldBy (R.failures reader.old) (R.failures reader.new) result }
-{
-    let none = Strokes {
-        strokes: Vec::new(alloc),
-    };
-    read_added(alloc, reader, none)
+    read_strokes(alloc, &mut Text(text))
 }

@@ -1,21 +1,20 @@
 //! Lines of records in hexadecimal, with a line `turn` between the turns of a dialogue.
 
-ghost use Rattle.std.specs.Prelude.{◌≡◌, IfSome, Ok, ◌≤◌, length};
+ghost use Rattle.std.specs.Prelude.{◌≡◌, IfSome, Ok};
 ghost use Rattle.cli_commands.specs.Causes.{ToldBy};
 ghost use Rattle.cli_commands.specs.Fault.{Gives, GivesOrFails};
 ghost use Rattle.cli_commands.specs.Held.{line_seen};
 ghost use Rattle.cli_commands.specs.TurnsHeld.{turns_seen, records_of};
-ghost use Rattle.cli_commands.specs.Lines.{lines_in};
-ghost use Rattle.cli_commands.specs.Taking.{taken, taken_in};
+ghost use Rattle.cli_commands.specs.Taking.{taken_in};
 ghost use Rattle.cli_commands.specs.Turns.{no_turns, one_more, after_record, next_turn, take_turn_line, turns_told, turns_in};
 
 use crate::fault::{CommandError, Fault};
-use crate::input::bytes::{at_most, within_limit};
-use crate::input::lines::{TakesLines, take_lines};
-use crate::input::reading::read_lines;
+use crate::input::bytes::at_most;
+use crate::input::lines::TakesLines;
 use crate::input::records::{Line, MOST_RECORD_BYTES, MOST_RECORDS, line_told};
 use crate::input::sizes::SizeLine;
-use crate::streams::GivesBytes;
+use crate::input::source::{Source, Text};
+use crate::input::turn_lines::is_turn;
 use std::alloc::Global;
 use std::mem::replace;
 
@@ -70,7 +69,7 @@ impl TakesLines for Turns {
     ghost takes = { λ number told line result. Gives turns_seen result (take_turn_line number (turns_seen told) line) };
 
     fn take(&mut self, alloc: Global, number: usize, line: &[u8]) -> Result<(), CommandError> {
-        if line == b"turn".as_slice() {
+        if is_turn(line) {
             return end_turn(alloc, self);
         }
         let told = line_told(alloc, SizeLine::Refused, line, &mut self.digits)?;
@@ -90,15 +89,6 @@ fn no_turns(alloc: Global) -> Turns
     }
 }
 
-/// The turns that the lines of a text tell, or their first fault.
-fn take_turns(alloc: Global, text: &[u8], none: Turns) -> Result<Turns, CommandError>
-    requires { length text.now ≤ 16777216 }
-    ensures { Gives turns_seen result
-        (taken take_turn_line 1 (turns_seen none) (lines_in text.now)) }
-{
-    take_lines(alloc, text, none)
-}
-
 /// The turns with the one at hand.
 fn all_turns(told: Turns) -> Result<Vec<Vec<Vec<u8>>>, CommandError>
     ensures { Gives records_of result (Ok (turns_told (turns_seen told))) }
@@ -108,35 +98,30 @@ fn all_turns(told: Turns) -> Result<Vec<Vec<Vec<u8>>>, CommandError>
     Ok(turns)
 }
 
+/// The turns that the lines of a source tell, or their first fault.
+fn take_turns<S: Source>(alloc: Global, source: &mut S, none: Turns) -> Result<Turns, CommandError>
+    ensures added { IfSome (S.remaining source.old) (λ input. GivesOrFails turns_seen result
+        (taken_in take_turn_line (turns_seen none) input)) }
+    ensures cause { ToldBy (S.failures source.old) (S.failures source.new) result }
+{
+    source.take_lines(alloc, none)
+}
+
+/// The records of each turn of an input, or the first fault of its lines.
+pub fn read_turns<S: Source>(
+    alloc: Global,
+    source: &mut S,
+) -> Result<Vec<Vec<Vec<u8>>>, CommandError>
+    ensures turns { IfSome (S.remaining source.old)
+        (λ input. GivesOrFails records_of result (turns_in input)) }
+    ensures cause { ToldBy (S.failures source.old) (S.failures source.new) result }
+{
+    all_turns(take_turns(alloc, source, no_turns(alloc))?)
+}
+
 /// The records of each turn of a text, or the first fault of its lines. A line `turn` stands between two turns.
 pub fn turns_in(alloc: Global, text: &[u8]) -> Result<Vec<Vec<Vec<u8>>>, CommandError>
     ensures { Gives records_of result (turns_in text.now) }
 {
-    let lines = within_limit(text)?;
-    all_turns(take_turns(alloc, lines, no_turns(alloc))?)
-}
-
-/// The turns that the lines of an input tell, or their first fault.
-fn read_added<R: GivesBytes>(
-    alloc: Global,
-    reader: &mut R,
-    none: Turns,
-) -> Result<Turns, CommandError>
-    ensures added { IfSome (R.remaining reader.old) (λ input. GivesOrFails turns_seen result
-        (taken_in take_turn_line (turns_seen none) input)) }
-    ensures cause { ToldBy (R.failures reader.old) (R.failures reader.new) result }
-{
-    read_lines(alloc, reader, none)
-}
-
-/// The records of each turn of an input, or the first fault of its lines.
-pub fn read_turns<R: GivesBytes>(
-    alloc: Global,
-    reader: &mut R,
-) -> Result<Vec<Vec<Vec<u8>>>, CommandError>
-    ensures turns { IfSome (R.remaining reader.old)
-        (λ input. GivesOrFails records_of result (turns_in input)) }
-    ensures cause { ToldBy (R.failures reader.old) (R.failures reader.new) result }
-{
-    all_turns(read_added(alloc, reader, no_turns(alloc))?)
+    read_turns(alloc, &mut Text(text))
 }

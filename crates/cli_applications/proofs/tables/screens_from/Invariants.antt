@@ -1,6 +1,7 @@
 use Rattle.std.proofs.Common.{◌≡◌, ◌≤◌, [], drop}
 use Rattle.toml.specs.View.{items_view}
-use Rattle.cli_applications.specs.Manifest.{screens_from, tables_in}
+use Rattle.manifest_tables.specs.Tables.{tables_in}
+use Rattle.cli_applications.specs.Manifest.{screens_from}
 use Rattle.cli_applications.proofs.tables.screens_from.Given as goal
 
 -- the screens so far, with those of the values that are left, are those of all

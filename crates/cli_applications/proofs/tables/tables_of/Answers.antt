@@ -1,6 +1,6 @@
 use Rattle.std.proofs.Common.{◌≡◌, ◌∙◌, ap, sym, true, length, arith}
 use Rattle.toml.specs.View.{items_view}
-use Rattle.cli_applications.specs.Manifest.{are_tables}
+use Rattle.manifest_tables.specs.Tables.{are_tables}
 use Rattle.cli_applications.proofs.Rows.{tables_of-many, tables_of-none, tables_of-few}
 use Rattle.cli_applications.proofs.tables.tables_of.Goals as goal
 

@@ -7,7 +7,7 @@ use Rattle.cli_findings.proofs.report.report_lines.Goals as goal
 
 pub returns-clause-answer : goal.returns-clause-answer
 returns-clause-answer g c =
-    under (g.L.GivesBytes.remaining c.args.layout.now) (g.R.GivesBytes.remaining c.args.reader.now) (λ text input. GivesOrFails answer_seen c.report_read-answer.result (report c.args.pen text input))
+    under (g.L.Source.remaining c.args.layout.now) (g.R.Source.remaining c.args.records.now) (λ text input. GivesOrFails answer_seen c.report_read-answer.result (report c.args.pen text input))
     (λ text input. GivesOrFails answer_seen c.or_refusal.result (Ok (or_refusal (report c.args.pen text input)))) (λ text input is. c.or_refusal.ensures.readers (report c.args.pen text input) is)
     c.report_read-answer.ensures.answer
 

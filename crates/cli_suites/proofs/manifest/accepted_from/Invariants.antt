@@ -1,7 +1,7 @@
 use Rattle.std.proofs.Common.{◌≡◌, ◌≤◌, drop, []}
 use Rattle.toml.specs.View.{items_view}
 use Rattle.cli_suites.specs.Manifest.{accepted_from}
-use Rattle.cli_suites.specs.Tables.{tables_in}
+use Rattle.manifest_tables.specs.Tables.{tables_in}
 use Rattle.cli_suites.proofs.manifest.accepted_from.Given as goal
 
 -- the findings so far, with those of the values that are left, are those of all

@@ -16,9 +16,9 @@ places-init g c =
 pub places-preserved : goal.places-preserved
 places-preserved g c =
     let cells : List Cell = g.C.Cells.content c.args.cells.now in
-    let small : c.from.result < 128 = omega (arith, c.from.ensures, c.printed_cell_under.ensures.ascii) in
+    let small : c.from.result < 128 = omega (arith, c.from.ensures, c.printed_under.ensures.ascii) in
     let one : encode_utf8 c.from.result ≡ printed_ruled c.in-Some.found ∷ [] =
-    c.push.ensures.ascii small ∙ ap (λ x. x ∷ []) (c.from.ensures ∙ c.printed_cell_under.ensures.value) in
+    c.push.ensures.ascii small ∙ ap (λ x. x ∷ []) (c.from.ensures ∙ c.printed_under.ensures.value) in
     ap (λ t. t ++ map printed_ruled c.next.new.self) c.in_ok-push.ensures.bytes
     ∙ row_goes (string_bytes c.places.text) (encode_utf8 c.from.result) (map (printed_cell cells) (range_with_len c.args.start c.args.columns))
     c.places.found-iterator c.next.new.self c.in-Some.found c.in-Some.ensures.steps one c.places.invariant

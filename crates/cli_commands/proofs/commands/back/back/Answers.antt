@@ -6,4 +6,4 @@ use Rattle.cli_commands.proofs.InTurn.{due_by}
 use Rattle.cli_commands.proofs.commands.back.back.Goals as goal
 
 pub returns-clause-records : goal.returns-clause-records
-returns-clause-records g c = due_by written_printed (g.R.GivesBytes.remaining c.args.reader.now) answer_to back c.read_held.result written_as_they_end c.read_held.ensures.held
+returns-clause-records g c = due_by written_printed (g.S.Source.remaining c.args.source.now) answer_to back c.held.result written_as_they_end c.held.ensures.held

@@ -7,9 +7,9 @@ use Rattle.cli_commands.proofs.input.layouts.read_layouts.Given as goal
 abbrev pub invariant-loop-turn : goal.invariant-loop-turn
 invariant-loop-turn g l =
     record {
-      cause : all_failures g.L.GivesBytes.failures l.readers ≡ all_failures g.L.GivesBytes.failures l.fn.readers;
+      cause : all_failures g.L.Source.failures l.sources ≡ all_failures g.L.Source.failures l.fn.sources;
       turn : length l.layouts.items ≡ l.turn;
-      so_far : (texts : List (List ℕ)) → all_remaining g.L.GivesBytes.remaining l.fn.readers ≡ Some texts
-          → (rest : List (List ℕ)) × (all_remaining g.L.GivesBytes.remaining (drop l.turn l.readers) ≡ Some rest)
+      so_far : (texts : List (List ℕ)) → all_remaining g.L.Source.remaining l.fn.sources ≡ Some texts
+          → (rest : List (List ℕ)) × (all_remaining g.L.Source.remaining (drop l.turn l.sources) ≡ Some rest)
           × (layouts_from (length l.layouts.items) l.layouts.items rest ≡ layouts_from 0 [] texts);
     }

@@ -1,7 +1,7 @@
 use Rattle.cli_commands.specs.Turns.{take_turn_line}
 use Rattle.cli_commands.specs.TurnsHeld.{turns_seen}
-use Rattle.cli_commands.proofs.Taking.{gives_taken}
+use Rattle.cli_commands.proofs.InTurn.{gives_known}
 use Rattle.cli_commands.proofs.input.turns.take_turns.Goals as goal
 
-pub returns : goal.returns
-returns c = gives_taken turns_seen take_turn_line 1 c.args.none _ c.take_lines.result c.take_lines.ensures
+pub returns-clause-added : goal.returns-clause-added
+returns-clause-added g c = gives_known turns_seen take_turn_line c.args.none (g.S.Source.remaining c.args.source.now) c.take_lines.result c.take_lines.ensures.takes

@@ -1,7 +1,0 @@
-use Rattle.cli_commands.specs.Keys.{take_key}
-use Rattle.cli_commands.specs.Held.{keys_seen}
-use Rattle.cli_commands.proofs.InTurn.{gives_known}
-use Rattle.cli_commands.proofs.input.keys.read_added.Goals as goal
-
-pub returns-clause-added : goal.returns-clause-added
-returns-clause-added g c = gives_known keys_seen take_key c.args.none (g.R.GivesBytes.remaining c.args.reader.now) c.read_lines.result c.read_lines.ensures.takes

@@ -1,0 +1,3 @@
+mod Keys
+mod Texts
+pub mod Rows
