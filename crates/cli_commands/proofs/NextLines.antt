@@ -5,7 +5,8 @@ use Rattle.std.specs.Io.KnownBytes.{Consumes, IsAtEnd}
 use Rattle.std.specs.Io.BufRead.{take_through, drop_through, DropsThrough}
 use Rattle.std.proofs.BufReadLemmas.{take_through-append, Consumes_through, IsAtEnd-of_take_through}
 use Rattle.std.proofs.lemmas.Bool.{cond_both, eqb-true}
-use Rattle.std.proofs.lemmas.List.Elements.{All-append}
+use Rattle.std.specs.Io.{StopsAt}
+use Rattle.std.proofs.lemmas.List.Elements.{All-append, All-cons, All-head, All-nil, All-tail, All-take}
 use Rattle.bstr.specs.Text.{line_len, lines_of, no_cr, without_terminator}
 use Rattle.bstr.proofs.lemmas.LineLemmas.{lines-nil, lines-step}
 use Rattle.cli_commands.specs.Lines.{lines_in}
@@ -30,7 +31,7 @@ counted_line : (bytes : List ℕ) → length (take_through 10 bytes) + length (d
 counted_line [] = refl
 counted_line (b ∷ rest) = by_bool (b == 10) (λ e. rw e (omega arith)) (λ e. rw e (omega (arith, counted_line rest)))
 
-one_line : (bytes : List ℕ) → 0 < length bytes → lines_in bytes ≡ without_terminator (take_through 10 bytes) ∷ lines_in (drop_through 10 bytes)
+pub one_line : (bytes : List ℕ) → 0 < length bytes → lines_in bytes ≡ without_terminator (take_through 10 bytes) ∷ lines_in (drop_through 10 bytes)
 one_line bytes some =
     ap (map without_terminator) (lines-step bytes some)
     ∙ ap (λ z. without_terminator z ∷ map without_terminator (lines_of (drop (line_len bytes) bytes))) (taken_line bytes)
@@ -86,7 +87,7 @@ no_cr_long xs =
     cond_both (nat_lt 0 (length xs) && slice_index xs (length xs - 1) == 13) (take (length xs - 1) xs) xs (λ (ys : List ℕ). length xs ≤ length ys + 1)
     (λ is. omega (arith, length-take-le (length xs - 1) xs (omega arith))) (λ other. omega arith)
 
-without_long : (xs : List ℕ) → length xs ≤ length (without_terminator xs) + 2
+pub without_long : (xs : List ℕ) → length xs ≤ length (without_terminator xs) + 2
 without_long xs =
     cond_both (nat_lt 0 (length xs) && slice_index xs (length xs - 1) == 10) (no_cr (take (length xs - 1) xs)) xs (λ (ys : List ℕ). length xs ≤ length ys + 2)
     (λ is. omega (arith, length-take-le (length xs - 1) xs (omega arith), no_cr_long (take (length xs - 1) xs)))
@@ -125,3 +126,27 @@ pub reads_more : (a b c : Option (List ℕ)) (done part line : List ℕ) → lin
 reads_more a b c done part line joined first none last more long =
     reads_long a c line (subst (Consumes a c) (sym joined) (takes_more a b c done part first last))
     (subst (All (λ x. x ≢ 10)) (sym joined) (none_more (λ x. x ≢ 10) done part none more)) long
+
+-- ---- no LF is within a line
+
+stops_behind : (b : ℕ) (bytes : List ℕ) → b ≢ 10 → StopsAt bytes 10 → StopsAt (b ∷ bytes) 10
+stops_behind b [] is stop = All-nil (λ x. x ≢ 10)
+stops_behind b (next ∷ bytes) is stop =
+    let one : length (next ∷ bytes) - 1 ≡ length bytes = omega arith in
+    let two : length (b ∷ next ∷ bytes) - 1 ≡ suc (length bytes) = omega arith in
+    let here : All (λ x. x ≢ 10) (take (length bytes) (next ∷ bytes)) = subst (λ n. All (λ x. x ≢ 10) (take n (next ∷ bytes))) one stop in
+    subst (λ n. All (λ x. x ≢ 10) (take n (b ∷ next ∷ bytes))) (sym two) (All-cons (λ x. x ≢ 10) b (take (length bytes) (next ∷ bytes)) is here)
+
+stops_joined : (done part : List ℕ) → All (λ b. b ≢ 10) done → StopsAt part 10 → StopsAt (done ++ part) 10
+stops_joined [] part none stop = stop
+stops_joined (b ∷ done) part none stop =
+    stops_behind b (done ++ part) (All-head (λ x. x ≢ 10) b done none) (stops_joined done part (All-tail (λ x. x ≢ 10) b done none) stop)
+
+pub stops_ended : (old new : Option (List ℕ)) (done part line : List ℕ) → line ≡ done ++ part → All (λ b. b ≢ 10) done → EndsPart true part old new
+    → StopsAt line 10
+stops_ended old new done part line is none ends = subst (λ z. StopsAt z 10) (sym is) (stops_joined done part none ends.0)
+
+pub stops_long : (old new : Option (List ℕ)) (done part line : List ℕ) → line ≡ done ++ part → All (λ b. b ≢ 10) done → EndsPart false part old new
+    → StopsAt line 10
+stops_long old new done part line is none without =
+    subst (λ z. StopsAt z 10) (sym is) (stops_joined done part none (All-take (λ x. x ≢ 10) (length part - 1) part without))

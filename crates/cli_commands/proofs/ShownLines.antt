@@ -7,7 +7,7 @@ use Rattle.std.proofs.lemmas.List.{append-nil, map-append, nil_from_length, get_
 use Rattle.bstr.specs.Text.{lines_of, without_terminator}
 use Rattle.bstr.proofs.lemmas.LineLemmas.{EndsLine, lines-append, lines-nil}
 use Rattle.cli_commands.specs.Lines.{lines_in}
-use Rattle.cli_commands.specs.NextLine.{ReadsFront, ReadsSome}
+use Rattle.cli_commands.specs.NextLine.{EndsOrLong, ReadsFront, ReadsSome}
 
 -- lines break behind an LF, and at the end
 lines_apart : (xs ys : List ℕ) → EndsLine xs → lines_in (xs ++ ys) ≡ lines_in xs ++ lines_in ys
@@ -59,6 +59,24 @@ lines_long (Some xs) None c done part lines joined first last long = absurd firs
 lines_long (Some xs) (Some ys) None done part lines joined first last long = absurd last
 lines_long (Some xs) (Some ys) (Some zs) done part lines joined first last long =
     (omega (arith, long), (zs, refl, first ∙ ap (λ l. done ++ l) last ∙ sym (append_assoc done part zs) ∙ ap (λ l. l ++ zs) (sym joined), inr (omega (arith, long))))
+
+-- a line's last part ends it, or nothing is left
+pub ends_so : (a b c : Option (List ℕ)) (done part line : List ℕ) → line ≡ done ++ part → Consumes a b done → Consumes b c part
+    → (0 < length part → slice_index part (length part - 1) ≡ 10) → (length part ≡ 0 → OnSome b (IsAtEnd c)) → IfSome a (λ xs. EndsOrLong line c)
+ends_so None b c done part line joined first last ends end = tt
+ends_so (Some xs) None c done part line joined first last ends end = absurd first
+ends_so (Some xs) (Some ys) None done part line joined first last ends end = absurd last
+ends_so (Some xs) (Some ys) (Some zs) done part line joined first last ends end = by_length (length part) refl
+  where
+    by_length : (n : ℕ) → length part ≡ n → EndsOrLong line (Some zs)
+    by_length zero none = inr (inl (ap Some (end none)))
+    by_length (suc n) some =
+        let more : 0 < length part = omega (arith, some) in
+        inl (ap (λ z. slice_index z (length z - 1)) joined ∙ last_of done part more ∙ ends more)
+
+pub ends_long : (a c : Option (List ℕ)) (line : List ℕ) → 16777219 ≤ length line → IfSome a (λ xs. EndsOrLong line c)
+ends_long None c line long = tt
+ends_long (Some xs) c line long = inr (inr (omega (arith, long)))
 
 -- whole lines that were shown are read from the front, or nothing is
 pub shown_front : (a c : Option (List ℕ)) (front : List ℕ) → Consumes a c front → (0 < length front → slice_index front (length front - 1) ≡ 10)

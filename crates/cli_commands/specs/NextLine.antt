@@ -1,5 +1,5 @@
 -- The next line of a reader, as it is read.
-use Rattle.std.specs.Prelude.{◌≡◌, ◌≢◌, ◌⊎◌, ◌<◌, ◌≤◌, ◌+◌, ℕ, Bool, true, false, List, [], ◌∷◌, ◌++◌, All, length, Option, Some, OnSome}
+use Rattle.std.specs.Prelude.{◌≡◌, ◌≢◌, ◌⊎◌, ◌<◌, ◌≤◌, ◌+◌, ◌-◌, ℕ, Bool, true, false, List, [], ◌∷◌, ◌++◌, All, length, slice_index, Option, Some, OnSome}
 use Rattle.std.specs.Io.{StopsAt, IsEmptyOrEndsWith}
 use Rattle.std.specs.Io.KnownBytes.{IsAtEnd}
 use Rattle.bstr.specs.Text.{without_terminator}
@@ -29,6 +29,10 @@ ReadsFront bytes front left =
 abbrev pub ReadsSome : List ℕ → Bool → List ℕ → Option (List ℕ) → Type 0
 ReadsSome bytes true front left = (0 < length front) × ReadsFront bytes front left
 ReadsSome bytes false front left = bytes ≡ []
+
+-- what was read ends with an LF, or nothing is left, or it is too long
+abbrev pub EndsOrLong : List ℕ → Option (List ℕ) → Type 0
+EndsOrLong line left = (slice_index line (length line - 1) ≡ 10) ⊎ ((left ≡ Some []) ⊎ (16777216 < length line))
 
 -- ---- for the code's own proofs: a part of a line that a reader showed
 

@@ -1,11 +1,12 @@
 //! The next line of a reader.
 
-ghost use Rattle.std.specs.Prelude.{◌≡◌, ◌≢◌, ◌↔◌, ◌++◌, ◌<◌, ◌≤◌, ◌-◌, ◌+◌, List, ℕ, All, length, take, slice_index, true, false, min, IfErr, IfOk, IfSome};
+ghost use Rattle.std.specs.Prelude.{◌≡◌, ◌≢◌, ◌↔◌, ◌++◌, ◌<◌, ◌≤◌, ◌-◌, ◌+◌, [], List, ℕ, All, length, take, slice_index, true, false, min, IfErr, IfOk, IfSome};
+ghost use Rattle.std.specs.Io.{StopsAt};
 ghost use Rattle.std.specs.Io.KnownBytes.{Consumes, prepend_known};
 ghost use Rattle.bstr.specs.Text.{no_cr, without_terminator};
 ghost use Rattle.cli_commands.specs.Causes.{ToldBy};
 ghost use Rattle.cli_commands.specs.Fault.{IsNoFault};
-ghost use Rattle.cli_commands.specs.NextLine.{ReadsLine, ReadsSome, EndsPart};
+ghost use Rattle.cli_commands.specs.NextLine.{EndsOrLong, ReadsLine, ReadsSome, EndsPart};
 
 use crate::fault::CommandError;
 use crate::input::ahead::ReadAhead;
@@ -102,6 +103,11 @@ pub fn next_line<R: GivesBytes>(
         (λ bytes. IfOk result (λ more. ReadsSome bytes more line.new.items
         (prepend_known ahead.new (R.remaining reader.new)))) }
     ensures some { IfOk result (λ more. more ≡ true → 0 < length line.new.items) }
+    ensures none { IfOk result (λ more. more ≡ false → line.new.items ≡ []) }
+    ensures inside { IfOk result (λ more. StopsAt line.new.items 10) }
+    ensures ends { IfSome (prepend_known ahead.old (R.remaining reader.old))
+        (λ bytes. IfOk result (λ more. EndsOrLong line.new.items
+        (prepend_known ahead.new (R.remaining reader.new)))) }
     ensures cause { ToldBy (R.failures reader.old) (R.failures reader.new) result }
     ensures failed { IfErr result IsNoFault }
 {
