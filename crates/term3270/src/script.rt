@@ -23,8 +23,8 @@ use tn_session::{Device, History, RunFault};
 /// The port of a host that names none (RFC 854).
 const TELNET: u16 = 23;
 
-/// How a socket waits.
-#[derive(Clone, Copy, PartialEq, Eq)]
+/// How a read waits.
+#[derive(Clone, Copy)]
 enum Manner {
     /// Not at all.
     Never,
@@ -32,11 +32,13 @@ enum Manner {
     For(Option<Duration>),
 }
 
-/// A connected socket, and how it waits.
+/// A connected socket, and how it waits: each that is set is a call of the system.
 #[derive(Drop)]
 struct Socket {
     stream: TcpStream,
-    manner: Manner,
+    waits: bool,
+    /// For how long a read does, where it waits.
+    limit: Option<Duration>,
 }
 
 impl Socket {
@@ -45,33 +47,40 @@ impl Socket {
         let _ = stream.set_nodelay(true);
         Socket {
             stream,
-            manner: Manner::For(None),
+            waits: true,
+            limit: None,
         }
     }
 
-    /// Sets how it waits, where that isn't how it does.
-    fn set(&mut self, manner: Manner) -> io::Result<()> {
-        if self.manner == manner {
-            return Ok(());
+    fn set_waits(&mut self, waits: bool) -> io::Result<()> {
+        if self.waits != waits {
+            self.stream.set_nonblocking(!waits)?;
+            self.waits = waits;
         }
-        match manner {
-            Manner::Never => self.stream.set_nonblocking(true)?,
-            Manner::For(limit) => {
-                self.stream.set_nonblocking(false)?;
-                self.stream.set_read_timeout(limit)?;
-            }
+        Ok(())
+    }
+
+    fn set_limit(&mut self, limit: Option<Duration>) -> io::Result<()> {
+        if self.limit != limit {
+            self.stream.set_read_timeout(limit)?;
+            self.limit = limit;
         }
-        self.manner = manner;
         Ok(())
     }
 
     fn read(&mut self, piece: &mut [u8], manner: Manner) -> io::Result<usize> {
-        self.set(manner)?;
+        match manner {
+            Manner::Never => self.set_waits(false)?,
+            Manner::For(limit) => {
+                self.set_waits(true)?;
+                self.set_limit(limit)?;
+            }
+        }
         self.stream.read(piece)
     }
 
     fn write(&mut self, bytes: &[u8]) -> io::Result<()> {
-        self.set(Manner::For(None))?;
+        self.set_waits(true)?;
         self.stream.write_all(bytes)?;
         self.stream.flush()
     }
