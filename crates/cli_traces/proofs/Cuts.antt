@@ -20,8 +20,8 @@ module _ (act : Reading → Told → Log Reading) where
       → HasLog act b s (x ++ y) (due ++ d) standing
   log_after b x y due d c s m (waits next left) first second = goes-goes act b x y due d c left s m next first second
   log_after b x y due d c s m (is_over end) first second = goes-ends act b x y due d c s m (finishes end) first second
-  log_after b x y due d c s m (has_failed why) first second = goes-ends act b x y due d c s m (fails why) first second
-  log_after b x y due d c s m (is_at_fault fault) first second = goes-fault act b x y due d c s m fault first second
+  log_after b x y due d c s m (has_failed why last) first second = goes-ends act b x y due d c s m (fails why last) first second
+  log_after b x y due d c s m (is_at_fault fault last) first second = goes-fault act b x y due d c s m last fault first second
 
 -- what is open tells nothing by itself
 abbrev pub IsOpenAt : Side → Following → Type 0
@@ -72,13 +72,13 @@ module _ (asked : Asked) (number : ℕ) (side : Side) (f : Following) where
     log = subst (λ z. HasLog (act_of asked side number) (open_of side f) f.reading x z (waits r left)) (sym adds.0) log;
     same = same_following adds.1;
   }
-  waiting x text due mid (is_at_fault fault) log adds = never adds.1
-  waiting x text due mid (has_failed (Header fault)) log adds = never adds.1
-  waiting x text due mid (has_failed (Wire fault)) log adds = absurd adds
-  waiting x text due mid (has_failed (Session fault)) log adds = never adds.1
-  waiting x text due mid (has_failed (Inbound fault)) log adds = absurd adds
-  waiting x text due mid (has_failed (Bind fault)) log adds = absurd adds
-  waiting x text due mid (has_failed OutOfMemory) log adds = absurd adds
+  waiting x text due mid (is_at_fault fault last) log adds = never adds.1
+  waiting x text due mid (has_failed (Header fault) last) log adds = never adds.1
+  waiting x text due mid (has_failed (Wire fault) last) log adds = absurd adds
+  waiting x text due mid (has_failed (Session fault) last) log adds = never adds.1
+  waiting x text due mid (has_failed (Inbound fault) last) log adds = absurd adds
+  waiting x text due mid (has_failed (Bind fault) last) log adds = absurd adds
+  waiting x text due mid (has_failed OutOfMemory last) log adds = absurd adds
   waiting x text due mid (is_over end) log adds = absurd adds
 
   pub waits_in : (x text : List ℕ) (mid : Following) → AddsPiece asked number side f x text (goes mid) → Waits asked number side f x text mid
@@ -88,16 +88,16 @@ module _ (asked : Asked) (number : ℕ) (side : Side) (f : Following) where
   adds_after : (text d more c : List ℕ) (m : Reading) (course : Course) (standing : Standing Reading)
       → AddsLog number side (with_open side f c m) d standing more course → AddsLog number side f (text ++ d) standing (text ++ more) course
   adds_after text d more c m course (waits r left) adds = (ap (λ z. text ++ z) adds.0, adds.1 ∙ ap goes (opens_again side f c left m r))
-  adds_after text d more c m course (is_at_fault fault) adds =
+  adds_after text d more c m course (is_at_fault fault last) adds =
       (ap (λ z. text ++ z) adds.0 ∙ sym (append_assoc text d (fault_text number (wire_name fault))), adds.1)
-  adds_after text d more c m course (has_failed (Header fault)) adds =
+  adds_after text d more c m course (has_failed (Header fault) last) adds =
       (ap (λ z. text ++ z) adds.0 ∙ sym (append_assoc text d (fault_text number (header_name fault))), adds.1)
-  adds_after text d more c m course (has_failed (Wire fault)) adds = absurd adds
-  adds_after text d more c m course (has_failed (Session fault)) adds =
+  adds_after text d more c m course (has_failed (Wire fault) last) adds = absurd adds
+  adds_after text d more c m course (has_failed (Session fault) last) adds =
       (ap (λ z. text ++ z) adds.0 ∙ sym (append_assoc text d (fault_text number other_size_name)), adds.1)
-  adds_after text d more c m course (has_failed (Inbound fault)) adds = absurd adds
-  adds_after text d more c m course (has_failed (Bind fault)) adds = absurd adds
-  adds_after text d more c m course (has_failed OutOfMemory) adds = absurd adds
+  adds_after text d more c m course (has_failed (Inbound fault) last) adds = absurd adds
+  adds_after text d more c m course (has_failed (Bind fault) last) adds = absurd adds
+  adds_after text d more c m course (has_failed OutOfMemory last) adds = absurd adds
   adds_after text d more c m course (is_over end) adds = absurd adds
 
   both_at : (x y text more c : List ℕ) (m : Reading) (course : Course)
@@ -125,16 +125,15 @@ module _ (asked : Asked) (number : ℕ) (side : Side) (f : Following) where
       → HasLog (act_of asked side number) (open_of side f) f.reading x due standing → AddsLog number side f due standing text stops
       → HasLog (act_of asked side number) (open_of side f) f.reading (x ++ y) due standing
   longer x y due (waits r left) text log adds = never (sym adds.1)
-  longer x y due (is_at_fault fault) text log adds = record {
+  longer x y due (is_at_fault fault last) text log adds = record {
     used = log.used;
     more = log.more ++ y;
     events = log.events;
-    next = log.next;
     front = ap (λ z. z ++ y) log.front ∙ append_assoc log.used log.more y;
     faults = log.faults;
     log = log.log;
   }
-  longer x y due (has_failed why) text log adds = record {
+  longer x y due (has_failed why last) text log adds = record {
     used = log.used;
     more = log.more ++ y;
     events = log.events;
@@ -159,13 +158,13 @@ module _ (asked : Asked) (number : ℕ) (side : Side) (f : Following) where
 one_end : (number : ℕ) (side : Side) (f : Following) (due text other : List ℕ) (standing : Standing Reading) (course course' : Course)
     → AddsLog number side f due standing text course → AddsLog number side f due standing other course' → (text ≡ other) × (course ≡ course')
 one_end number side f due text other (waits r left) course course' a b = (a.0 ∙ sym b.0, a.1 ∙ sym b.1)
-one_end number side f due text other (is_at_fault fault) course course' a b = (a.0 ∙ sym b.0, a.1 ∙ sym b.1)
-one_end number side f due text other (has_failed (Header fault)) course course' a b = (a.0 ∙ sym b.0, a.1 ∙ sym b.1)
-one_end number side f due text other (has_failed (Wire fault)) course course' a b = absurd a
-one_end number side f due text other (has_failed (Session fault)) course course' a b = (a.0 ∙ sym b.0, a.1 ∙ sym b.1)
-one_end number side f due text other (has_failed (Inbound fault)) course course' a b = absurd a
-one_end number side f due text other (has_failed (Bind fault)) course course' a b = absurd a
-one_end number side f due text other (has_failed OutOfMemory) course course' a b = absurd a
+one_end number side f due text other (is_at_fault fault last) course course' a b = (a.0 ∙ sym b.0, a.1 ∙ sym b.1)
+one_end number side f due text other (has_failed (Header fault) last) course course' a b = (a.0 ∙ sym b.0, a.1 ∙ sym b.1)
+one_end number side f due text other (has_failed (Wire fault) last) course course' a b = absurd a
+one_end number side f due text other (has_failed (Session fault) last) course course' a b = (a.0 ∙ sym b.0, a.1 ∙ sym b.1)
+one_end number side f due text other (has_failed (Inbound fault) last) course course' a b = absurd a
+one_end number side f due text other (has_failed (Bind fault) last) course course' a b = absurd a
+one_end number side f due text other (has_failed OutOfMemory last) course course' a b = absurd a
 one_end number side f due text other (is_over end) course course' a b = absurd a
 
 -- a piece of the stream adds one text, and leads to one place

@@ -31,17 +31,17 @@ module _ (asked : Asked) (number : ℕ) (side : Side) (old : Following) (piece t
   adds_fault (Wire fault) new mid added w more = (
     w.0.0 ++ fault_text number (wire_name fault),
     more ∙ ap (λ z. z ++ fault_text number (wire_name fault)) w.0.2 ∙ append_assoc text w.0.0 (fault_text number (wire_name fault)),
-    record { due = w.0.0; standing = is_at_fault fault; log = w.0.1; adds = (refl, refl) },
+    record { due = w.0.0; standing = is_at_fault fault new.reading; log = w.0.1; adds = (refl, refl) },
   )
   adds_fault (Header fault) new mid added w more = (
     w.0.0 ++ fault_text number (header_name fault),
     more ∙ ap (λ z. z ++ fault_text number (header_name fault)) w.0.2 ∙ append_assoc text w.0.0 (fault_text number (header_name fault)),
-    record { due = w.0.0; standing = has_failed (Header fault); log = w.0.1; adds = (refl, refl) },
+    record { due = w.0.0; standing = has_failed (Header fault) new.reading; log = w.0.1; adds = (refl, refl) },
   )
   adds_fault (Session fault) new mid added w more = (
     w.0.0 ++ fault_text number other_size_name,
     more ∙ ap (λ z. z ++ fault_text number other_size_name) w.0.2 ∙ append_assoc text w.0.0 (fault_text number other_size_name),
-    record { due = w.0.0; standing = has_failed (Session fault); log = w.0.1; adds = (refl, refl) },
+    record { due = w.0.0; standing = has_failed (Session fault) new.reading; log = w.0.1; adds = (refl, refl) },
   )
   adds_fault (Inbound fault) new mid added w more = absurd more
   adds_fault (Bind fault) new mid added w more = absurd more

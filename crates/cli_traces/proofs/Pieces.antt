@@ -87,12 +87,12 @@ module _ (act : Reading → Told → Log Reading) where
     pub piece_at_fault : (fault : WireFault) → Moves held rest (Err fault) new after → TakesPiece act before first piece old (Err (Wire fault)) new.content now text
     piece_at_fault fault m =
         let p = m.fresh so.fresh in
-        let end : EndsAtFault act before first (so.taken ++ (p.0 ++ after)) (so.due ++ []) fault =
-        goes-fault act before so.taken (p.0 ++ after) so.due [] held.content first now fault so.log
+        let end : EndsAtFault act before first (so.taken ++ (p.0 ++ after)) (so.due ++ []) fault now =
+        goes-fault act before so.taken (p.0 ++ after) so.due [] held.content first now now fault so.log
         (one_fault act held.content p.0 after now fault p.2.answer) in
-        let exact : EndsAtFault act before first (so.taken ++ (p.0 ++ after)) so.due fault =
-        subst (λ z. EndsAtFault act before first (so.taken ++ (p.0 ++ after)) z fault) (append-nil so.due) end in
-        (so.due, subst (λ z. EndsAtFault act before first z so.due fault) (sym (whole p.0 p.1)) exact, so.went)
+        let exact : EndsAtFault act before first (so.taken ++ (p.0 ++ after)) so.due fault now =
+        subst (λ z. EndsAtFault act before first (so.taken ++ (p.0 ++ after)) z fault now) (append-nil so.due) end in
+        (so.due, subst (λ z. EndsAtFault act before first z so.due fault now) (sym (whole p.0 p.1)) exact, so.went)
 
     module _ (event : Told) (next : Reading) (added : List ℕ) (m : Moves held rest (Ok (event ∷ [])) new after) where
       pub piece_goes : (later : ℕ) → later ≡ length new.content → TakesEvent (act now event) text (Ok tt) next added
@@ -113,20 +113,20 @@ module _ (act : Reading → Told → Log Reading) where
       pub piece_fails : (why : RunFault) → TakesEvent (act now event) text (Err why) next added → TakesPiece act before first piece old (Err why) new.content next added
       piece_fails (Header fault) went =
           let p = m.fresh so.fresh in
-          let end : EndsBy act before first (so.taken ++ (p.0 ++ after)) (so.due ++ []) (fails (Header fault)) =
-          goes-ends act before so.taken (p.0 ++ after) so.due [] held.content first now (fails (Header fault)) so.log
-          (one_fails act held.content p.0 after new.content now (Header fault) event p.2.answer went.0) in
-          let exact : EndsBy act before first (so.taken ++ (p.0 ++ after)) so.due (fails (Header fault)) =
-          subst (λ z. EndsBy act before first (so.taken ++ (p.0 ++ after)) z (fails (Header fault))) (append-nil so.due) end in
-          (so.due, subst (λ z. EndsBy act before first z so.due (fails (Header fault))) (sym (whole p.0 p.1)) exact, went.1 ∙ so.went)
+          let end : EndsBy act before first (so.taken ++ (p.0 ++ after)) (so.due ++ []) (fails (Header fault) next) =
+          goes-ends act before so.taken (p.0 ++ after) so.due [] held.content first now (fails (Header fault) next) so.log
+          (one_fails act held.content p.0 after new.content now next (Header fault) event p.2.answer went.0) in
+          let exact : EndsBy act before first (so.taken ++ (p.0 ++ after)) so.due (fails (Header fault) next) =
+          subst (λ z. EndsBy act before first (so.taken ++ (p.0 ++ after)) z (fails (Header fault) next)) (append-nil so.due) end in
+          (so.due, subst (λ z. EndsBy act before first z so.due (fails (Header fault) next)) (sym (whole p.0 p.1)) exact, went.1 ∙ so.went)
       piece_fails (Session fault) went =
           let p = m.fresh so.fresh in
-          let end : EndsBy act before first (so.taken ++ (p.0 ++ after)) (so.due ++ []) (fails (Session fault)) =
-          goes-ends act before so.taken (p.0 ++ after) so.due [] held.content first now (fails (Session fault)) so.log
-          (one_fails act held.content p.0 after new.content now (Session fault) event p.2.answer went.0) in
-          let exact : EndsBy act before first (so.taken ++ (p.0 ++ after)) so.due (fails (Session fault)) =
-          subst (λ z. EndsBy act before first (so.taken ++ (p.0 ++ after)) z (fails (Session fault))) (append-nil so.due) end in
-          (so.due, subst (λ z. EndsBy act before first z so.due (fails (Session fault))) (sym (whole p.0 p.1)) exact, went.1 ∙ so.went)
+          let end : EndsBy act before first (so.taken ++ (p.0 ++ after)) (so.due ++ []) (fails (Session fault) next) =
+          goes-ends act before so.taken (p.0 ++ after) so.due [] held.content first now (fails (Session fault) next) so.log
+          (one_fails act held.content p.0 after new.content now next (Session fault) event p.2.answer went.0) in
+          let exact : EndsBy act before first (so.taken ++ (p.0 ++ after)) so.due (fails (Session fault) next) =
+          subst (λ z. EndsBy act before first (so.taken ++ (p.0 ++ after)) z (fails (Session fault) next)) (append-nil so.due) end in
+          (so.due, subst (λ z. EndsBy act before first z so.due (fails (Session fault) next)) (sym (whole p.0 p.1)) exact, went.1 ∙ so.went)
       piece_fails OutOfMemory went = tt
       piece_fails (Wire fault) went = absurd went
       piece_fails (Inbound fault) went = absurd went

@@ -65,21 +65,21 @@ module _ (asked : Asked) (side : Side) where
       next_is : runs r ≡ runs next → r ≡ next
       next_is e = cc
 
-  sized_start : (test : Bool) (log : Log Reading) (start : Start) → GoesWith start log → GoesWith start (if_sized test log)
-  sized_start true log start on next same = absurd cc
-  sized_start false log start on next same = on next same
+  sized_start : (test : Bool) (r : Reading) (log : Log Reading) (start : Start) → GoesWith start log → GoesWith start (if_sized test r log)
+  sized_start true r log start on next same = absurd cc
+  sized_start false r log start on next same = on next same
 
   shaped_start : (line : ℕ) (r : Reading) (kept : Kept) (shape : Shape) → GoesWith r.start (shaped_log asked side line r kept shape)
   shaped_start line r kept Comment = goes_with r r.start refl
-  shaped_start line r kept Line = sized_start (ends_size asked side r) (going (body_text asked side line kept.header r kept.body) (body_after asked side r kept.body)) r.start (goes_with (body_after asked side r kept.body) r.start (body_start r kept.body))
+  shaped_start line r kept Line = sized_start (ends_size asked side r) r (going (body_text asked side line kept.header r kept.body) (body_after asked side r kept.body)) r.start (goes_with (body_after asked side r kept.body) r.start (body_start r kept.body))
   shaped_start line r kept Fields =
-      sized_start (ends_size asked side r)
+      sized_start (ends_size asked side r) r
       (going (head_text asked side line r kept ++ bodies_text asked side line kept.header (head_after asked side r) (drawn_by side kept.body))
       (bodies_after asked side (head_after asked side r) (drawn_by side kept.body))) r.start
       (goes_with (bodies_after asked side (head_after asked side r) (drawn_by side kept.body)) r.start
       (bodies_start (head_after asked side r) (drawn_by side kept.body) ∙ head_start r))
 
-  failed_start : (test : Bool) (why : RunFault) (r : Reading) → GoesWith r.start (cond test (failed why) (going [] r))
+  failed_start : (test : Bool) (why : RunFault) (r : Reading) → GoesWith r.start (cond test (failed why r) (going [] r))
   failed_start true why r next same = absurd cc
   failed_start false why r next same = goes_with r r.start refl next same
 
@@ -118,7 +118,7 @@ module _ (asked : Asked) (line : ℕ) where
       ap (λ (c : Ends Reading). record { due = inner.due; course = c }) (ap (λ (l : Log Reading). l.course) is) in
       later m inner.due (here m refl) at
   course_start (finishes m) d es due next here later is = let clash : finishes m ≡ runs next = ap (λ (l : Log Reading). l.course) is in absurd cc
-  course_start (fails why) d es due next here later is = let clash : fails why ≡ runs next = ap (λ (l : Log Reading). l.course) is in absurd cc
+  course_start (fails why last) d es due next here later is = let clash : fails why last ≡ runs next = ap (λ (l : Log Reading). l.course) is in absurd cc
 
   log_start : (es : List Told) (r : Reading) (due : List ℕ) (next : Reading) → r.start ≡ Begun → log_of (event_log asked Host line) r es ≡ going due next → next.start ≡ Begun
   log_start [] r due next begun is = goes_with asked Host r Begun begun next (ap (λ (l : Log Reading). l.course) is)

@@ -96,11 +96,11 @@ act_of asked side number = event_log asked side number
 abbrev pub AddsLog : ℕ → Side → Following → List ℕ → Standing Reading → List ℕ → Course → Type 0
 AddsLog number side following due (waits reading left) text course =
     (text ≡ due) × (course ≡ goes (with_open side following left reading))
-AddsLog number side following due (is_at_fault fault) text course =
+AddsLog number side following due (is_at_fault fault last) text course =
     (text ≡ due ++ fault_text number (wire_name fault)) × (course ≡ stops)
-AddsLog number side following due (has_failed (HeaderFails fault)) text course =
+AddsLog number side following due (has_failed (HeaderFails fault) last) text course =
     (text ≡ due ++ fault_text number (header_name fault)) × (course ≡ stops)
-AddsLog number side following due (has_failed (SessionFails fault)) text course =
+AddsLog number side following due (has_failed (SessionFails fault) last) text course =
     (text ≡ due ++ fault_text number other_size_name) × (course ≡ stops)
 AddsLog number side following due standing text course = ⊥
 

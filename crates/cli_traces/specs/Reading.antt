@@ -161,24 +161,24 @@ unfoldable pub ends_size : Asked → Side → Reading → Bool
 ends_size asked side reading =
     is_printed asked side (turn_after side reading.stage reading.turn) && has_other_size asked.size reading
 
-abbrev pub if_sized : Bool → Log Reading → Log Reading
-if_sized ends log = if ends then failed other_size else log
+abbrev pub if_sized : Bool → Reading → Log Reading → Log Reading
+if_sized ends reading log = if ends then failed other_size reading else log
 
 abbrev pub shaped_log : Asked → Side → ℕ → Reading → Kept → Shape → Log Reading
 shaped_log asked side line reading kept Comment =
     going (if is_printed asked side reading.turn then record_text reading.count line kept else []) reading
 shaped_log asked side line reading kept Line =
-    if_sized (ends_size asked side reading)
+    if_sized (ends_size asked side reading) reading
     (going (body_text asked side line kept.header reading kept.body) (body_after asked side reading kept.body))
 shaped_log asked side line reading kept Fields =
-    if_sized (ends_size asked side reading)
+    if_sized (ends_size asked side reading) reading
     (going (head_text asked side line reading kept ++ bodies_text asked side line kept.header (head_after asked side reading) (drawn_by side kept.body))
     (bodies_after asked side (head_after asked side reading) (drawn_by side kept.body)))
 
 -- a fault of a header is one of the side that is asked for
 abbrev pub kept_log : Asked → Side → ℕ → Reading → Result Kept HeaderFault → Log Reading
 kept_log asked side line reading (Ok kept) = shaped_log asked side line reading kept (shape_of asked.all side kept)
-kept_log asked side line reading (Err fault) = if same_side side asked.side then failed (HeaderFails fault) else going [] reading
+kept_log asked side line reading (Err fault) = if same_side side asked.side then failed (HeaderFails fault) reading else going [] reading
 
 -- one more byte of the host's, before its first record
 abbrev pub scanned : ℕ → Reading → Reading

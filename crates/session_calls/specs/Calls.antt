@@ -17,7 +17,7 @@ use Rattle.tn_session.specs.declared.pressed.Pressed.{Pressed}
 use Rattle.tn_session.specs.declared.pressed.Pressed.TheVariants as keyed
 use Rattle.tn_session.specs.declared.progress.Progress.{Progress}
 use Rattle.tn_session.specs.Strikes.{by_key}
-use Rattle.tn_session.specs.TerminalTalk.{Worked, OfWaiting, Presses, TerminalTakes, agreed_in, new_worked, takes_input_in, tolerant_worked}
+use Rattle.tn_session.specs.TerminalTalk.{Worked, OfStanding, Presses, TerminalTakes, agreed_in, new_worked, takes_input_in, tolerant_worked}
 use Rattle.session_calls.specs.declared.agreed.SessionStatus.{SessionStatus}
 use Rattle.session_calls.specs.Lines.{Line}
 
@@ -133,10 +133,10 @@ TellsAgreed held was now status =
     ((v : Line) × (held ≡ Some v) × (status ≡ pos 0) × (now ≡ agreed_told (agreed_in v.worked.talk) (takes_input_in v.worked.talk)))
     ⊎ ((status ≡ pos 2) × (now ≡ was) × (held ≡ None))
 
--- the session's screen, which a session that waits has
+-- the session's screen, also that of one which failed; where memory was refused to it, it is left open
 abbrev pub TellsScreen : Option Line → Option Picture → Option Picture → ℤ → Type 0
 TellsScreen held old new status =
-    ((v : Line) × (screen : Picture) × (held ≡ Some v) × OfWaiting (λ state. state.terminal) v.worked.talk screen × (status ≡ pos 0)
+    ((v : Line) × (screen : Picture) × (held ≡ Some v) × OfStanding (λ state. state.terminal) v.worked.talk screen × (status ≡ pos 0)
     × (new ≡ Some screen))
     ⊎ (((status ≡ pos 2) × (new ≡ old) × (held ≡ None))
     ⊎ ((status ≡ pos 4) × (new ≡ old)))

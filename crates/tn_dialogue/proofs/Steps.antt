@@ -96,10 +96,11 @@ host_means running now core new_core event told out due end result new other sam
     subst (λ l. Does l result new end) (words ∙ sym acts) does
 
 -- what fails gives nothing
-pub event_fails : {State : Type 0} (log : Log State) (why : RunFault) (cause : Cause) → FailsAs log why cause → EventFails log why [] cause
-event_fails log why of_memory fails = (fails, refl)
-event_fails log why of_events fails = (fails, refl)
-event_fails log why (of_stream fault) fails = absurd fails
-event_fails log why of_line fails = absurd fails
-event_fails log why of_reads fails = absurd fails
-event_fails log why of_end fails = absurd fails
+pub event_fails : {State : Type 0} (log : Log State) (why : RunFault) (new : State) (cause : Cause) → FailsAs log why new cause
+    → EventFails log why [] new cause
+event_fails log why new of_memory fails = (fails, refl)
+event_fails log why new of_events fails = (fails, refl)
+event_fails log why new (of_stream fault) fails = absurd fails
+event_fails log why new of_line fails = absurd fails
+event_fails log why new of_reads fails = absurd fails
+event_fails log why new of_end fails = absurd fails

@@ -22,20 +22,20 @@ use Rattle.tn_dialogue.specs.Dialogue.{Running, dialogue_start, dialogue_act}
 abbrev pub Does : {State : Type 0} → Log State → Result Turn RunFault → State → List ℕ → Type 0
 Does log (Ok turns.Goes) new due = log ≡ going due new
 Does log (Ok turns.Finishes) new due = log ≡ finished due new
-Does log (Err why) new due = FailsAs log why (cause_of why)
+Does log (Err why) new due = FailsAs log why new (cause_of why)
 
 -- what the event makes due was given, and nothing where it fails
 abbrev pub TakesEvent : {State : Type 0} → Log State → Result Turn RunFault → List ℕ → State → Type 0
 TakesEvent log (Ok turns.Goes) given end = log ≡ going given end
 TakesEvent log (Ok turns.Finishes) given end = log ≡ finished given end
-TakesEvent log (Err why) given end = EventFails log why given (cause_of why)
+TakesEvent log (Err why) given end = EventFails log why given end (cause_of why)
 
 -- the state and what is open are then these, and so much of the piece was not taken
 abbrev pub TakesPiece : {State : Type 0} → (State → Told → Log State) → List ℕ → State → List ℕ → Result Turn RunFault → List ℕ → State → List ℕ → List ℕ → Type 0
 TakesPiece act before state piece (Ok turns.Goes) given end left rest = GoesOn act before state piece given end left
 TakesPiece act before state piece (Ok turns.Finishes) given end left rest =
     (used : List ℕ) × (piece ≡ used ++ rest) × EndsWith act before state used given end
-TakesPiece act before state piece (Err why) given end left rest = PieceFails act before state piece why given (cause_of why)
+TakesPiece act before state piece (Err why) given end left rest = PieceFails act before state piece why given end (cause_of why)
 
 -- a session at its beginning
 abbrev pub dialogue_talk : List Screen → ℕ → Sizes → Talk Running
@@ -56,8 +56,8 @@ answers_in talk = []
 abbrev pub fault_in : Talk Running → Option RunFault
 fault_in (stands (waits running left)) = None
 fault_in (stands (is_over end)) = end.fault
-fault_in (stands (has_failed why)) = Some why
-fault_in (stands (is_at_fault fault)) = Some (Wire fault)
+fault_in (stands (has_failed why end)) = Some why
+fault_in (stands (is_at_fault fault end)) = Some (Wire fault)
 fault_in starved = Some OutOfMemory
 
 -- a key led to its end

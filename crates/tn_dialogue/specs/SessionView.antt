@@ -10,7 +10,7 @@ use Rattle.tn_dialogue.specs.declared.dialogue.End.TheVariants.{Over, Failed}
 abbrev pub talk_of : {State : Type 0} → Option End → State → List ℕ → Talk State
 talk_of None state left = stands (waits state left)
 talk_of (Some Over) state left = stands (is_over state)
-talk_of (Some (Failed why)) state left = failed_talk why
+talk_of (Some (Failed why)) state left = failed_talk why state
 
 -- while it takes more, its stream has no fault, and what is open tells no event
 abbrev pub IsListening : Option End → Held → Type 0

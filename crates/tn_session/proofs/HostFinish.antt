@@ -48,18 +48,18 @@ Tells log = (end : HostRunning) → log.course ≡ finishes end → HasOutcome e
 going_tells : (due : List ℕ) (running : HostRunning) → Tells (going due running)
 going_tells due running end is = absurd cc
 
-failed_tells : (why : RunFault) → Tells (failed why)
-failed_tells why end is = absurd cc
+failed_tells : (why : RunFault) (state : HostRunning) → Tells (failed why state)
+failed_tells why state end is = absurd cc
 
 by_test : (t : Bool) (first second : Log HostRunning) → Tells first → Tells second → Tells (cond t first second)
 by_test true first second a b = a
 by_test false first second a b = b
 
 responded_tells : (running : HostRunning) (flag : ℕ) (bytes : List ℕ) → Tells (responded running flag bytes)
-responded_tells running flag [] = failed_tells _
+responded_tells running flag [] = failed_tells _ running
 responded_tells running flag (code ∷ []) =
-    by_test (nat_eq flag 0 && nat_eq code 0) _ _ (going_tells [] _) (by_test (nat_eq flag 1 && nat_le code 3) _ _ (failed_tells _) (failed_tells _))
-responded_tells running flag (code ∷ more ∷ bytes) = failed_tells _
+    by_test (nat_eq flag 0 && nat_eq code 0) _ _ (going_tells [] _) (by_test (nat_eq flag 1 && nat_le code 3) _ _ (failed_tells _ running) (failed_tells _ running))
+responded_tells running flag (code ∷ more ∷ bytes) = failed_tells _ running
 
 bound_tells : (running : HostRunning) (agreed : Agreed) (aid : ℕ) (pairs : Result (List Pair) BindFault) → Tells (bound_answer running agreed aid pairs)
 bound_tells running agreed aid (Ok pairs) end is =
@@ -68,14 +68,14 @@ bound_tells running agreed aid (Err why) end is = absurd cc
 
 read_tells : (running : HostRunning) (agreed : Agreed) (answer : Result Answer Refused) → Tells (read_answer running agreed answer)
 read_tells running agreed (Ok answer) = bound_tells running agreed answer.aid (bound_of running.layout.entries answer)
-read_tells running agreed (Err why) = failed_tells _
+read_tells running agreed (Err why) = failed_tells _ running
 
 answer_tells : (agreed : Agreed) (running : HostRunning) (bytes : List ℕ) → Tells (taken_answer agreed running bytes)
 answer_tells agreed running bytes = read_tells running agreed (read_of running.layout.geometry.mode (cells_of running.layout.size) bytes)
 
 typed_tells : (agreed : Agreed) (running : HostRunning) (header : Head) (bytes : List ℕ) (data_type : DataType) → Tells (taken_typed agreed running header bytes data_type)
 typed_tells agreed running header bytes Data3270 = answer_tells agreed running bytes
-typed_tells agreed running header bytes Response = by_test (is_awaited agreed running header.seq) _ _ (responded_tells running header.response bytes) (failed_tells _)
+typed_tells agreed running header bytes Response = by_test (is_awaited agreed running header.seq) _ _ (responded_tells running header.response bytes) (failed_tells _ running)
 typed_tells agreed running header bytes ScsData = going_tells [] running
 typed_tells agreed running header bytes BindImage = going_tells [] running
 typed_tells agreed running header bytes Unbind = going_tells [] running
@@ -86,7 +86,7 @@ typed_tells agreed running header bytes PrintEoj = going_tells [] running
 
 headed_tells : (agreed : Agreed) (running : HostRunning) (headed : Result Headed HeaderFault) → Tells (taken_headed agreed running headed)
 headed_tells agreed running (Ok headed) = typed_tells agreed running headed.header headed.rest headed.header.data_type
-headed_tells agreed running (Err why) = failed_tells _
+headed_tells agreed running (Err why) = failed_tells _ running
 
 record_tells : (running : HostRunning) (agreed : Option Agreed) (bytes : List ℕ) → Tells (taken_record running agreed bytes)
 record_tells running None bytes = going_tells [] running
@@ -100,13 +100,13 @@ stepped_tells running (told_passed byte) step = going_tells (bytes_of step.reply
 
 core_tells : (running : HostRunning) (event : Told) (step : Result (Stepped HostCore) SessionFault) → Tells (host_by_core running event step)
 core_tells running event (Ok step) = stepped_tells running event step
-core_tells running event (Err why) = failed_tells _
+core_tells running event (Err why) = failed_tells _ running
 
 on_tells : (due : List ℕ) (course : Course HostRunning) (later : HostRunning → Log HostRunning) → ((end : HostRunning) → course ≡ finishes end → HasOutcome end) → ((next : HostRunning) → Tells (later next))
     → Tells (log_on due course later)
 on_tells due (goes next) later here there = there next
 on_tells due (finishes end) later here there = here
-on_tells due (fails why) later here there = λ end is. absurd cc
+on_tells due (fails why last) later here there = λ end is. absurd cc
 
 log_tells : (events : List Told) (running : HostRunning) → Tells (log_of host_act running events)
 log_tells [] running = going_tells [] running
@@ -180,13 +180,13 @@ module _ (layout : Declaration) (records : List (List ℕ)) (enhanced responses 
 
 -- ---- a session that is over has its outcome
 
-failed_come : (why : RunFault) → HasCome (failed_talk why)
-failed_come OutOfMemory = tt
-failed_come (Session why) = tt
-failed_come (Wire fault) = tt
-failed_come (Header fault) = tt
-failed_come (Inbound why) = tt
-failed_come (Bind why) = tt
+failed_come : (why : RunFault) (state : HostRunning) → HasCome (failed_talk why state)
+failed_come OutOfMemory state = tt
+failed_come (Session why) state = tt
+failed_come (Wire fault) state = tt
+failed_come (Header fault) state = tt
+failed_come (Inbound why) state = tt
+failed_come (Bind why) state = tt
 
 some_told : (o : Option Outcome) (x : Outcome) → o ≡ Some x → IsSome o
 some_told o x is = subst IsSome (sym is) refl
@@ -197,12 +197,12 @@ hears_come left state piece (Ok More) given new (next, rest, log, is) = subst Ha
 hears_come left state piece (Ok (Done taken)) given new (end, few, e, is) =
     let has : HasOutcome end = log_tells e.ends.events state end (ap (λ (log : Log HostRunning). log.course) e.ends.log) in
     subst HasCome (sym is) (some_told end.outcome has.0 has.1)
-hears_come left state piece (Err why) given new (went, is) = subst HasCome (sym is) (failed_come why)
+hears_come left state piece (Err why) given new (end, went, is) = subst HasCome (sym is) (failed_come why end)
 
 pub has_come : (old : Talk HostRunning) (piece : List ℕ) (result : Result Progress RunFault) (given : List ℕ) (new : Talk HostRunning)
     → HasCome old → Takes host_act old piece result given new → HasCome new
 has_come (stands (waits state left)) piece result given new has takes = hears_come left state piece result given new takes
 has_come (stands (is_over end)) piece result given new has takes = subst HasCome (sym takes.2) has
-has_come (stands (has_failed why)) piece result given new has takes = subst HasCome (sym takes.2) tt
-has_come (stands (is_at_fault fault)) piece result given new has takes = subst HasCome (sym takes.2) tt
+has_come (stands (has_failed why state)) piece result given new has takes = subst HasCome (sym takes.2) tt
+has_come (stands (is_at_fault fault state)) piece result given new has takes = subst HasCome (sym takes.2) tt
 has_come starved piece result given new has takes = subst HasCome (sym takes.2) tt

@@ -31,19 +31,29 @@ taken : {Core : Type 0} (step : Result (Stepped Core) SessionFault) (old new : C
 taken (Ok s) old new told out (is, core, reply) = record { stepped = s; is = refl; tells = cc; core = core }
 taken (Err w) old new told out (is, core, reply) = absurd cc
 
-of_this : {State : Type 0} (log : Log State) (why : RunFault) (cause : Cause) → IsOfEvents cause → log ≡ failed why → FailsAs log why cause
-of_this log why of_events is same = same
-of_this log why of_memory is same = absurd is
-of_this log why (of_stream fault) is same = absurd is
-of_this log why of_line is same = absurd is
-of_this log why of_reads is same = absurd is
-of_this log why of_end is same = absurd is
+-- a core that refused is as before
+as_before : {Core : Type 0} (step : Result (Stepped Core) SessionFault) (old new : Core) (why : SessionFault) (out : List ℕ) → Takes step old (Err why) new out
+    → new ≡ old
+as_before (Ok s) old new why out (is, core, reply) = absurd cc
+as_before (Err w) old new why out (is, core, reply) = core
 
-pub host_fails : (running : HostRunning) (core : HostCore) (event : Told) (new : HostCore) (why : SessionFault) (out : List ℕ) → running.core ≡ core → Takes (host_step core event) core (Err why) new out
-    → FailsAs (host_act running event) (faults.Session why) (session_cause why)
-host_fails running core event new why out same takes =
+of_this : {State : Type 0} (log : Log State) (why : RunFault) (new : State) (cause : Cause) → IsOfEvents cause → log ≡ failed why new → FailsAs log why new cause
+of_this log why new of_events is same = same
+of_this log why new of_memory is same = absurd is
+of_this log why new (of_stream fault) is same = absurd is
+of_this log why new of_line is same = absurd is
+of_this log why new of_reads is same = absurd is
+of_this log why new of_end is same = absurd is
+
+pub host_fails : (running now : HostRunning) (core : HostCore) (event : Told) (new : HostCore) (why : SessionFault) (out : List ℕ) → running.core ≡ core
+    → Takes (host_step core event) core (Err why) new out → now ≡ record running { core = new }
+    → FailsAs (host_act running event) (faults.Session why) now (session_cause why)
+host_fails running now core event new why out same takes left =
     let is : host_step core event ≡ Err why = refused (host_step core event) core new why out takes in
-    of_this (host_act running event) (faults.Session why) (session_cause why) (of_event why (host_refuses core event why is)) (rw (same, is) refl)
+    let act : host_act running event ≡ failed (faults.Session why) running = rw (same, is) refl in
+    let unchanged : running.core ≡ new = same ∙ sym (as_before (host_step core event) core new why out takes) in
+    of_this (host_act running event) (faults.Session why) now (session_cause why) (of_event why (host_refuses core event why is))
+    (act ∙ ap (λ (c : HostCore). failed (faults.Session why) (record running { core = c })) unchanged ∙ ap (failed (faults.Session why)) (sym left))
 
 -- a record that the core takes
 record_act : (running now : HostRunning) (bytes : List ℕ) (stepped : Stepped HostCore) → host_step running.core (told_record bytes) ≡ Ok stepped → now ≡ record running { core = stepped.core }

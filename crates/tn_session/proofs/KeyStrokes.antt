@@ -144,7 +144,7 @@ record IsPressing (running : TerminalRunning) : Type 0 where
 abbrev IsPressingCourse : Course TerminalRunning → Type 0
 IsPressingCourse (goes running) = IsPressing running
 IsPressingCourse (finishes running) = IsPressing running
-IsPressingCourse (fails why) = Unit {0}
+IsPressingCourse (fails why running) = Unit {0}
 
 abbrev striking_typing : Typing → Typing
 striking_typing typed = record { due = typed.due; running = striking typed.running }
@@ -181,8 +181,8 @@ record SameLog (x y : Log TerminalRunning) : Type 0 where
   is : x ≡ striking_log y
   goes_on : IsPressingCourse y.course
 
-failed_same : (why : RunFault) → SameLog (failed why) (failed why)
-failed_same why = record { is = refl; goes_on = tt }
+failed_same : (why : RunFault) (running : TerminalRunning) → SameLog (failed why (striking running)) (failed why running)
+failed_same why running = record { is = refl; goes_on = tt }
 
 going_same : (due : List ℕ) (running : TerminalRunning) → IsPressing running → SameLog (going due (striking running)) (going due running)
 going_same due running pressing = record { is = refl; goes_on = pressing }
@@ -235,7 +235,7 @@ data_type_same agreed header running bytes PrintEoj pressing = passed_same runni
 headed_same : (agreed : Agreed) (running : TerminalRunning) (headed : Result Headed HeaderFault) → IsPressing running
     → SameLog (taken_headed agreed (striking running) headed) (taken_headed agreed running headed)
 headed_same agreed running (Ok headed) pressing = data_type_same agreed headed.header running headed.rest headed.header.data_type pressing
-headed_same agreed running (Err why) pressing = failed_same (faults.Header why)
+headed_same agreed running (Err why) pressing = failed_same (faults.Header why) running
 
 -- the same at a tolerant terminal
 
@@ -334,7 +334,7 @@ stepped_same running (told_passed byte) step pressing = state_same _ running (he
 core_same : (running : TerminalRunning) (event : Told) (step : Result (Stepped EndCore) SessionFault) → IsPressing running
     → SameLog (by_core (striking running) event step) (by_core running event step)
 core_same running event (Ok step) pressing = stepped_same running event step pressing
-core_same running event (Err why) pressing = failed_same (faults.Session why)
+core_same running event (Err why) pressing = failed_same (faults.Session why) running
 
 act_same : (running : TerminalRunning) (event : Told) → IsPressing running → SameLog (terminal_act (striking running) event) (terminal_act running event)
 act_same running event pressing = core_same running event (core_step running.state.core event) pressing
@@ -347,7 +347,7 @@ on_same : (course : Course TerminalRunning) (due : List ℕ) (events : List Told
 on_same (goes next) due events pressing later =
     ap (λ (l : Log TerminalRunning). log_on due (goes (striking next)) (λ _. l)) (later next pressing)
 on_same (finishes end) due events pressing later = refl
-on_same (fails why) due events pressing later = refl
+on_same (fails why end) due events pressing later = refl
 
 log_same : (running : TerminalRunning) (events : List Told) → IsPressing running
     → log_of terminal_act (striking running) events ≡ striking_log (log_of terminal_act running events)

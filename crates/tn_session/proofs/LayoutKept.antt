@@ -27,13 +27,13 @@ use Rattle.tn_session.specs.Runs.{Course, goes, finishes, fails, Log, going, fai
 abbrev Keeps : HostRunning → Course HostRunning → Type 0
 Keeps running (goes next) = next.layout ≡ running.layout
 Keeps running (finishes end) = Unit {0}
-Keeps running (fails why) = Unit {0}
+Keeps running (fails why state) = Unit {0}
 
 either : (running : HostRunning) (test : Bool) (a b : Log HostRunning) → Keeps running a.course → Keeps running b.course → Keeps running (cond test a b).course
 either running true a b first second = first
 either running false a b first second = second
 
-refused_kept : (r : HostRunning) (test : Bool) (why other : SessionFault) → Keeps r (cond test (failed (faults.Session why)) (failed (faults.Session other))).course
+refused_kept : (r : HostRunning) (test : Bool) (why other : SessionFault) → Keeps r (cond test (failed (faults.Session why) r) (failed (faults.Session other) r)).course
 refused_kept r true why other = tt
 refused_kept r false why other = tt
 
@@ -42,7 +42,7 @@ response_kept r flag [] = tt
 response_kept r flag (code ∷ []) =
     let other = (flag == 1) && nat_le code 3 in
     either r ((flag == 0) && (code == 0)) (going [] (after_response r))
-    (if other then failed (faults.Session (TerminalRefused code)) else failed (faults.Session BadResponse))
+    (if other then failed (faults.Session (TerminalRefused code)) r else failed (faults.Session BadResponse) r)
     refl (refused_kept r other (TerminalRefused code) BadResponse)
 response_kept r flag (code ∷ other ∷ more) = tt
 
@@ -60,7 +60,7 @@ reading r bytes = read_of r.layout.geometry.mode (cells_of r.layout.size) bytes
 typed_kept : (r : HostRunning) (agreed : Agreed) (header : Header) (bytes : List ℕ) (data_type : DataType) → Keeps r (taken_typed agreed r header bytes data_type).course
 typed_kept r agreed header bytes Data3270 = answer_kept r agreed (reading r bytes)
 typed_kept r agreed header bytes Response =
-    either r (is_awaited agreed r header.seq) (responded r header.response bytes) (failed (faults.Session BadResponse))
+    either r (is_awaited agreed r header.seq) (responded r header.response bytes) (failed (faults.Session BadResponse) r)
     (response_kept r header.response bytes) tt
 typed_kept r agreed header bytes data_type = refl
 
@@ -78,7 +78,7 @@ record_kept r (Some agreed) bytes =
 of_core : (r : HostRunning) (core : HostCore) (course : Course HostRunning) → Keeps (record r { core = core }) course → Keeps r course
 of_core r core (goes next) kept = kept
 of_core r core (finishes end) kept = tt
-of_core r core (fails why) kept = tt
+of_core r core (fails why last) kept = tt
 
 stepped_kept : (r : HostRunning) (event : Told) (step : Result (Stepped HostCore) SessionFault) → Keeps r (host_by_core r event step).course
 stepped_kept r event (Err why) = tt
@@ -98,7 +98,7 @@ goes_kept : (r : HostRunning) (course : Course HostRunning) (d : List ℕ) (es :
 goes_kept r (goes m) d es due next kept later is =
     later m (log_of host_act m es).due (ap (λ (c : Course HostRunning). record { due = (log_of host_act m es).due; course = c }) (ap (λ (l : Log HostRunning). l.course) is)) ∙ kept
 goes_kept r (finishes end) d es due next kept later is = let clash : finishes end ≡ goes next = ap (λ (l : Log HostRunning). l.course) is in absurd cc
-goes_kept r (fails why) d es due next kept later is = let clash : fails why ≡ goes next = ap (λ (l : Log HostRunning). l.course) is in absurd cc
+goes_kept r (fails why last) d es due next kept later is = let clash : fails why last ≡ goes next = ap (λ (l : Log HostRunning). l.course) is in absurd cc
 
 pub layout_kept : (events : List Told) (r : HostRunning) (due : List ℕ) (next : HostRunning) → log_of host_act r events ≡ going due next → next.layout ≡ r.layout
 layout_kept [] r due next is = ap (λ (s : HostRunning). s.layout) (sym (goes_same (ap (λ (l : Log HostRunning). l.course) is)))

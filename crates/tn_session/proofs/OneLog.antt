@@ -13,15 +13,15 @@ use Rattle.tn_session.proofs.RunLaws.{log-append}
 abbrev HasEnded : {State : Type 0} → Course State → Type 0
 HasEnded (goes state) = ⊥
 HasEnded (finishes state) = Unit {0}
-HasEnded (fails why) = Unit {0}
+HasEnded (fails why state) = Unit {0}
 
 pub finishes_same : {State : Type 0} {s t : State} → finishes s ≡ finishes t → s ≡ t
 finishes_same e = cc
 
-fails_same : {State : Type 0} {v w : RunFault} → ◌≡◌ {A = Course State} (fails v) (fails w) → v ≡ w
-fails_same e = cc
+fails_same : {State : Type 0} {v w : RunFault} {s t : State} → ◌≡◌ {A = Course State} (fails v s) (fails w t) → (v ≡ w) × (s ≡ t)
+fails_same e = (cc, cc)
 
-finishes≢fails : {State : Type 0} {s : State} {w : RunFault} → finishes s ≡ fails w → ⊥
+finishes≢fails : {State : Type 0} {s t : State} {w : RunFault} → finishes s ≡ fails w t → ⊥
 finishes≢fails e = cc
 
 goes_same : {State : Type 0} {s t : State} → goes s ≡ goes t → s ≡ t
@@ -38,7 +38,7 @@ module _ {State : Type 0} (act : State → Told → Log State) where
       → HasEnded (log_on d c (λ n. log_of act n es)).course → log_on d c (λ n. log_of act n (es ++ fs)) ≡ log_on d c (λ n. log_of act n es)
   ended_on (goes m) d es fs later over = ap (λ (l : Log State). record { due = d ++ l.due; course = l.course }) (later m over)
   ended_on (finishes m) d es fs later over = refl
-  ended_on (fails why) d es fs later over = refl
+  ended_on (fails why m) d es fs later over = refl
 
   ended-append : (es fs : List Told) (s : State) → HasEnded (log_of act s es).course → log_of act s (es ++ fs) ≡ log_of act s es
   ended-append [] fs s over = absurd over
@@ -65,8 +65,8 @@ module _ {State : Type 0} (act : State → Told → Log State) where
       let rest = tells_rest (b ++ q.used) q.more q.left l q.events p.events q.tells whole in
       going_on s m e d c (log_of act s p.events) over (ended_log q.events rest.0 p.events s e c over q.log rest.1) p.log
 
-  goes_not_faults : (b x d e l : List ℕ) (s m : State) (w : WireFault) → GoesOn act b s x d m l → EndsAtFault act b s x e w → ⊥
-  goes_not_faults b x d e l s m w p q =
+  goes_not_faults : (b x d e l : List ℕ) (s m n : State) (w : WireFault) → GoesOn act b s x d m l → EndsAtFault act b s x e w n → ⊥
+  goes_not_faults b x d e l s m n w p q =
       none_after_fault (b ++ q.used) q.more l p.events q.events w q.faults
       (subst (λ z. Tells z p.events l) (later_part b q.used q.more q.front) p.tells)
 
@@ -88,31 +88,34 @@ module _ {State : Type 0} (act : State → Told → Log State) where
       (append_split p.used p.more q.used q.more (sym p.front ∙ q.front)) in
       (ap (λ (l : Log State). l.due) logs, ap (λ (l : Log State). l.course) logs)
 
-  ends_not_faults : (b x d e : List ℕ) (s : State) (c : Course State) (w : WireFault) → HasEnded c → EndsBy act b s x d c → EndsAtFault act b s x e w → ⊥
-  ends_not_faults b x d e s c w over p q =
+  ends_not_faults : (b x d e : List ℕ) (s n : State) (c : Course State) (w : WireFault) → HasEnded c → EndsBy act b s x d c → EndsAtFault act b s x e w n
+      → ⊥
+  ends_not_faults b x d e s n c w over p q =
       ⊎_elim
       (λ (r : (k : List ℕ) × (q.used ≡ p.used ++ k) × (p.more ≡ k ++ q.more)).
       let rest = faults_rest (b ++ p.used) r.0 p.left p.events q.events w p.tells
       (subst (λ z. Faults z q.events w) (later_part b p.used r.0 r.1) q.faults) in
-      going_on s q.next d e c (log_of act s q.events) over (ended_log p.events rest.0 q.events s d c over p.log rest.1) q.log)
+      going_on s n d e c (log_of act s q.events) over (ended_log p.events rest.0 q.events s d c over p.log rest.1) q.log)
       (λ (r : (k : List ℕ) × (0 < length k) × (p.used ≡ q.used ++ k) × (q.more ≡ k ++ p.more)).
       none_after_fault (b ++ q.used) r.0 p.left p.events q.events w q.faults
       (subst (λ z. Tells z p.events p.left) (later_part b q.used r.0 r.2) p.tells))
       (append_split p.used p.more q.used q.more (sym p.front ∙ q.front))
 
-  faults_before : (b x d e k : List ℕ) (s : State) (v w : WireFault) (p : EndsAtFault act b s x d v) (q : EndsAtFault act b s x e w)
-      → q.used ≡ p.used ++ k → (d ≡ e) × (v ≡ w)
-  faults_before b x d e k s v w p q longer =
+  faults_before : (b x d e k : List ℕ) (s m n : State) (v w : WireFault) (p : EndsAtFault act b s x d v m) (q : EndsAtFault act b s x e w n)
+      → q.used ≡ p.used ++ k → (d ≡ e) × (v ≡ w) × (m ≡ n)
+  faults_before b x d e k s m n v w p q longer =
       let one = has_one_fault (b ++ p.used) k p.events q.events v w p.faults
       (subst (λ z. Faults z q.events w) (later_part b p.used k longer) q.faults) in
-      (ap (λ (l : Log State). l.due) (sym p.log ∙ ap (log_of act s) one.1 ∙ q.log), one.2)
+      let logs : going d m ≡ going e n = sym p.log ∙ ap (log_of act s) one.1 ∙ q.log in
+      (ap (λ (l : Log State). l.due) logs, one.2, goes_same (ap (λ (l : Log State). l.course) logs))
 
-  faults_once : (b x d e : List ℕ) (s : State) (v w : WireFault) → EndsAtFault act b s x d v → EndsAtFault act b s x e w → (d ≡ e) × (v ≡ w)
-  faults_once b x d e s v w p q =
+  faults_once : (b x d e : List ℕ) (s m n : State) (v w : WireFault) → EndsAtFault act b s x d v m → EndsAtFault act b s x e w n
+      → (d ≡ e) × (v ≡ w) × (m ≡ n)
+  faults_once b x d e s m n v w p q =
       ⊎_elim
-      (λ (r : (k : List ℕ) × (q.used ≡ p.used ++ k) × (p.more ≡ k ++ q.more)). faults_before b x d e r.0 s v w p q r.1)
+      (λ (r : (k : List ℕ) × (q.used ≡ p.used ++ k) × (p.more ≡ k ++ q.more)). faults_before b x d e r.0 s m n v w p q r.1)
       (λ (r : (k : List ℕ) × (0 < length k) × (p.used ≡ q.used ++ k) × (q.more ≡ k ++ p.more)).
-      let other = faults_before b x e d r.0 s w v q p r.2 in (sym other.0, sym other.1))
+      let other = faults_before b x e d r.0 s n m w v q p r.2 in (sym other.0, sym other.1, sym other.2))
       (append_split p.used p.more q.used q.more (sym p.front ∙ q.front))
 
   -- ---- a log that goes on, and the log of the whole
@@ -151,21 +154,21 @@ module _ {State : Type 0} (act : State → Told → Log State) where
       (record { used = q.used; more = r.0; events = q.events; left = q.left; front = r.2; tells = q.tells; log = q.log })))
       (append_split x y q.used q.more q.front)
 
-  goes_then_faults : (b x y d w l : List ℕ) (s n : State) (v : WireFault) → GoesOn act b s x d n l → EndsAtFault act b s (x ++ y) w v
-      → (rest : List ℕ) × (w ≡ d ++ rest) × EndsAtFault act l n y rest v
-  goes_then_faults b x y d w l s n v p q =
+  goes_then_faults : (b x y d w l : List ℕ) (s n m : State) (v : WireFault) → GoesOn act b s x d n l → EndsAtFault act b s (x ++ y) w v m
+      → (rest : List ℕ) × (w ≡ d ++ rest) × EndsAtFault act l n y rest v m
+  goes_then_faults b x y d w l s n m v p q =
       ⊎_elim
       (λ (r : (k : List ℕ) × (q.used ≡ x ++ k) × (y ≡ k ++ q.more)).
       let rest = faults_rest (b ++ x) r.0 l p.events q.events v p.tells
       (subst (λ z. Faults z q.events v) (later_part b x r.0 r.1) q.faults) in
-      let log = log_rest p.events rest.0 q.events s n d w (goes q.next) p.log rest.1 q.log in (
+      let log = log_rest p.events rest.0 q.events s n d w (goes m) p.log rest.1 q.log in (
         (log_of act n rest.0).due,
         log.0,
-        record { used = r.0; more = q.more; events = rest.0; next = q.next; front = r.2; faults = rest.2; log = log.1 },
+        record { used = r.0; more = q.more; events = rest.0; front = r.2; faults = rest.2; log = log.1 },
       ))
       (λ (r : (k : List ℕ) × (0 < length k) × (x ≡ q.used ++ k) × (q.more ≡ k ++ y)).
-      absurd (goes_not_faults b x d w l s n v p
-      (record { used = q.used; more = r.0; events = q.events; next = q.next; front = r.2; faults = q.faults; log = q.log })))
+      absurd (goes_not_faults b x d w l s n m v p
+      (record { used = q.used; more = r.0; events = q.events; front = r.2; faults = q.faults; log = q.log })))
       (append_split x y q.used q.more q.front)
 
   -- ---- one that ended ends the whole so too
@@ -180,12 +183,11 @@ module _ {State : Type 0} (act : State → Told → Log State) where
     log = p.log;
   }
 
-  pub still_faults : (b x y d : List ℕ) (s : State) (v : WireFault) → EndsAtFault act b s x d v → EndsAtFault act b s (x ++ y) d v
-  still_faults b x y d s v p = record {
+  pub still_faults : (b x y d : List ℕ) (s m : State) (v : WireFault) → EndsAtFault act b s x d v m → EndsAtFault act b s (x ++ y) d v m
+  still_faults b x y d s m v p = record {
     used = p.used;
     more = p.more ++ y;
     events = p.events;
-    next = p.next;
     front = ap (λ z. z ++ y) p.front ∙ append_assoc p.used p.more y;
     faults = p.faults;
     log = p.log;
@@ -195,23 +197,28 @@ pub have_one_log : {State : Type 0} → HaveOneLog State
 have_one_log act b s x d e (waits m l) (waits n k) p q =
     let same = goes_once act b x d e l k s m n p q in (same.0, ap (λ z. waits z l) same.1 ∙ ap (waits n) same.2)
 have_one_log act b s x d e (waits m l) (is_over n) p q = absurd (goes_not_ends act b x d e l s m (finishes n) tt p q)
-have_one_log act b s x d e (waits m l) (has_failed w) p q = absurd (goes_not_ends act b x d e l s m (fails w) tt p q)
-have_one_log act b s x d e (waits m l) (is_at_fault w) p q = absurd (goes_not_faults act b x d e l s m w p q)
+have_one_log act b s x d e (waits m l) (has_failed w n) p q = absurd (goes_not_ends act b x d e l s m (fails w n) tt p q)
+have_one_log act b s x d e (waits m l) (is_at_fault w n) p q = absurd (goes_not_faults act b x d e l s m n w p q)
 have_one_log act b s x d e (is_over m) (waits n k) p q = absurd (goes_not_ends act b x e d k s n (finishes m) tt q p)
 have_one_log act b s x d e (is_over m) (is_over n) p q =
     let same = ends_once act b x d e s (finishes m) (finishes n) tt tt p q in (same.0, ap is_over (finishes_same same.1))
-have_one_log act b s x d e (is_over m) (has_failed w) p q = absurd (finishes≢fails (ends_once act b x d e s (finishes m) (fails w) tt tt p q).1)
-have_one_log act b s x d e (is_over m) (is_at_fault w) p q = absurd (ends_not_faults act b x d e s (finishes m) w tt p q)
-have_one_log act b s x d e (has_failed v) (waits n k) p q = absurd (goes_not_ends act b x e d k s n (fails v) tt q p)
-have_one_log act b s x d e (has_failed v) (is_over n) p q = absurd (finishes≢fails (ends_once act b x e d s (finishes n) (fails v) tt tt q p).1)
-have_one_log act b s x d e (has_failed v) (has_failed w) p q =
-    let same = ends_once act b x d e s (fails v) (fails w) tt tt p q in (same.0, ap has_failed (fails_same same.1))
-have_one_log act b s x d e (has_failed v) (is_at_fault w) p q = absurd (ends_not_faults act b x d e s (fails v) w tt p q)
-have_one_log act b s x d e (is_at_fault v) (waits n k) p q = absurd (goes_not_faults act b x e d k s n v q p)
-have_one_log act b s x d e (is_at_fault v) (is_over n) p q = absurd (ends_not_faults act b x e d s (finishes n) v tt q p)
-have_one_log act b s x d e (is_at_fault v) (has_failed w) p q = absurd (ends_not_faults act b x e d s (fails w) v tt q p)
-have_one_log act b s x d e (is_at_fault v) (is_at_fault w) p q =
-    let same = faults_once act b x d e s v w p q in (same.0, ap is_at_fault same.1)
+have_one_log act b s x d e (is_over m) (has_failed w n) p q =
+    absurd (finishes≢fails (ends_once act b x d e s (finishes m) (fails w n) tt tt p q).1)
+have_one_log act b s x d e (is_over m) (is_at_fault w n) p q = absurd (ends_not_faults act b x d e s n (finishes m) w tt p q)
+have_one_log act b s x d e (has_failed v m) (waits n k) p q = absurd (goes_not_ends act b x e d k s n (fails v m) tt q p)
+have_one_log act b s x d e (has_failed v m) (is_over n) p q =
+    absurd (finishes≢fails (ends_once act b x e d s (finishes n) (fails v m) tt tt q p).1)
+have_one_log act b s x d e (has_failed v m) (has_failed w n) p q =
+    let same = ends_once act b x d e s (fails v m) (fails w n) tt tt p q in
+    let alike : (v ≡ w) × (m ≡ n) = fails_same same.1 in
+    (same.0, ap (λ z. has_failed z m) alike.0 ∙ ap (has_failed w) alike.1)
+have_one_log act b s x d e (has_failed v m) (is_at_fault w n) p q = absurd (ends_not_faults act b x d e s n (fails v m) w tt p q)
+have_one_log act b s x d e (is_at_fault v m) (waits n k) p q = absurd (goes_not_faults act b x e d k s n m v q p)
+have_one_log act b s x d e (is_at_fault v m) (is_over n) p q = absurd (ends_not_faults act b x e d s m (finishes n) v tt q p)
+have_one_log act b s x d e (is_at_fault v m) (has_failed w n) p q = absurd (ends_not_faults act b x e d s m (fails w n) v tt q p)
+have_one_log act b s x d e (is_at_fault v m) (is_at_fault w n) p q =
+    let same = faults_once act b x d e s m n v w p q in
+    (same.0, ap (λ z. is_at_fault z m) same.1 ∙ ap (is_at_fault w) same.2)
 
 -- a log that ended, and the whole's
 stays : {State : Type 0} (act : State → Told → Log State) (b z d w : List ℕ) (s : State) (standing later : Standing State)
@@ -221,8 +228,10 @@ stays act b z d w s standing later p q = have_one_log act b s z w d later standi
 pub logs_go_on : {State : Type 0} → LogsGoOn State
 logs_go_on act b s x y d w (waits n l) (waits m k) p q = goes_then_goes act b x y d w l k s n m p q
 logs_go_on act b s x y d w (waits n l) (is_over m) p q = goes_then_ends act b x y d w l s n (finishes m) tt p q
-logs_go_on act b s x y d w (waits n l) (has_failed v) p q = goes_then_ends act b x y d w l s n (fails v) tt p q
-logs_go_on act b s x y d w (waits n l) (is_at_fault v) p q = goes_then_faults act b x y d w l s n v p q
+logs_go_on act b s x y d w (waits n l) (has_failed v m) p q = goes_then_ends act b x y d w l s n (fails v m) tt p q
+logs_go_on act b s x y d w (waits n l) (is_at_fault v m) p q = goes_then_faults act b x y d w l s n m v p q
 logs_go_on act b s x y d w (is_over m) later p q = stays act b (x ++ y) d w s (is_over m) later (still_ends act b x y d s (finishes m) p) q
-logs_go_on act b s x y d w (has_failed v) later p q = stays act b (x ++ y) d w s (has_failed v) later (still_ends act b x y d s (fails v) p) q
-logs_go_on act b s x y d w (is_at_fault v) later p q = stays act b (x ++ y) d w s (is_at_fault v) later (still_faults act b x y d s v p) q
+logs_go_on act b s x y d w (has_failed v m) later p q =
+    stays act b (x ++ y) d w s (has_failed v m) later (still_ends act b x y d s (fails v m) p) q
+logs_go_on act b s x y d w (is_at_fault v m) later p q =
+    stays act b (x ++ y) d w s (is_at_fault v m) later (still_faults act b x y d s m v p) q

@@ -59,15 +59,15 @@ module _ {State : Type 0} (act : State → Told → Log State) where
         (so.given, so.adds, subst (λ z. GoesOn act before first z so.given now new.content) all exact)
 
     pub piece_at_fault : (fault : WireFault) → Moves held rest (Err fault) new after
-        → Adds old due (λ given. EndsAtFault act before first piece given fault × IsDueBefore act before first piece given)
+        → Adds old due (λ given. EndsAtFault act before first piece given fault now × IsDueBefore act before first piece given)
     piece_at_fault fault m =
         let p = m.fresh so.fresh in
-        let end : EndsAtFault act before first (so.taken ++ (p.0 ++ after)) (so.given ++ []) fault =
-        goes-fault act before so.taken (p.0 ++ after) so.given [] held.content first now fault so.log
+        let end : EndsAtFault act before first (so.taken ++ (p.0 ++ after)) (so.given ++ []) fault now =
+        goes-fault act before so.taken (p.0 ++ after) so.given [] held.content first now now fault so.log
         (one_fault act held.content p.0 after now fault p.2.answer) in
-        let exact : EndsAtFault act before first (so.taken ++ (p.0 ++ after)) so.given fault =
-        subst (λ z. EndsAtFault act before first (so.taken ++ (p.0 ++ after)) z fault) (append-nil so.given) end in
-        (so.given, so.adds, (subst (λ z. EndsAtFault act before first z so.given fault) (sym (whole p.0 p.1)) exact, due_before))
+        let exact : EndsAtFault act before first (so.taken ++ (p.0 ++ after)) so.given fault now =
+        subst (λ z. EndsAtFault act before first (so.taken ++ (p.0 ++ after)) z fault now) (append-nil so.given) end in
+        (so.given, so.adds, (subst (λ z. EndsAtFault act before first z so.given fault now) (sym (whole p.0 p.1)) exact, due_before))
 
     module _ (event : Told) (next : State) (then_due part : List ℕ) (added : then_due ≡ due ++ part) (m : Moves held rest (Ok (event ∷ [])) new after) where
       pub piece_goes : act now event ≡ going part next → PieceSoFar act before first old piece new next after then_due
@@ -124,8 +124,8 @@ module _ {State : Type 0} (act : State → Told → Log State) where
             ),
           )
 
-      pub piece_fails : (why : RunFault) (cause : Cause) → EventFails (act now event) why part cause
-          → Adds old then_due (λ given. PieceFails act before first piece why given cause)
+      pub piece_fails : (why : RunFault) (cause : Cause) → EventFails (act now event) why part next cause
+          → Adds old then_due (λ given. PieceFails act before first piece why given next cause)
       piece_fails why of_memory went =
           let p = took held new rest after (event ∷ []) so.fresh m in
           let opens : Tells held.content [] held.content = open_tells (before ++ so.taken) held.content so.log.events so.log.tells in
@@ -137,12 +137,12 @@ module _ {State : Type 0} (act : State → Told → Log State) where
           (so.given, nothing_added old due then_due so.given part so.adds added went.1, subst (λ z. LacksMemory act before first z so.given) (sym (whole p.0 p.1)) exact)
       piece_fails why of_events went =
           let p = took held new rest after (event ∷ []) so.fresh m in
-          let end : EndsBy act before first (so.taken ++ (p.0 ++ after)) (so.given ++ []) (fails why) =
-          goes-ends act before so.taken (p.0 ++ after) so.given [] held.content first now (fails why) so.log
-          (one_fails act held.content p.0 after new.content now why event p.2.answer went.0) in
-          let exact : EndsBy act before first (so.taken ++ (p.0 ++ after)) so.given (fails why) =
-          subst (λ z. EndsBy act before first (so.taken ++ (p.0 ++ after)) z (fails why)) (append-nil so.given) end in
-          (so.given, nothing_added old due then_due so.given part so.adds added went.1, (subst (λ z. EndsBy act before first z so.given (fails why)) (sym (whole p.0 p.1)) exact, due_before))
+          let end : EndsBy act before first (so.taken ++ (p.0 ++ after)) (so.given ++ []) (fails why next) =
+          goes-ends act before so.taken (p.0 ++ after) so.given [] held.content first now (fails why next) so.log
+          (one_fails act held.content p.0 after new.content now next why event p.2.answer went.0) in
+          let exact : EndsBy act before first (so.taken ++ (p.0 ++ after)) so.given (fails why next) =
+          subst (λ z. EndsBy act before first (so.taken ++ (p.0 ++ after)) z (fails why next)) (append-nil so.given) end in
+          (so.given, nothing_added old due then_due so.given part so.adds added went.1, (subst (λ z. EndsBy act before first z so.given (fails why next)) (sym (whole p.0 p.1)) exact, due_before))
       piece_fails why of_line went = absurd went
       piece_fails why (of_stream fault) went = absurd went
       piece_fails why of_reads went = absurd went

@@ -30,8 +30,8 @@ module _ {State : Type 0} (act : State → Told → Log State) where
   pub log_on_nothing : (a : Standing State) → IsOpenAt a → LogOn act a [] [] a
   log_on_nothing (waits s l) opens = nothing_yet act l s opens
   log_on_nothing (is_over s) opens = (refl, refl)
-  log_on_nothing (has_failed why) opens = (refl, refl)
-  log_on_nothing (is_at_fault fault) opens = (refl, refl)
+  log_on_nothing (has_failed why s) opens = (refl, refl)
+  log_on_nothing (is_at_fault fault s) opens = (refl, refl)
 
   ended_then : (a m n : Standing State) (x y d e : List ℕ) → LogOn act a x d m → (e ≡ []) × (n ≡ m) → LogOn act a (x ++ y) d m → LogOn act a (x ++ y) (d ++ e) n
   ended_then a m n x y d e log (none, same) whole =
@@ -41,73 +41,73 @@ module _ {State : Type 0} (act : State → Told → Log State) where
       → HasLog act l s (x ++ y) (d ++ e) n
   goes_then s l m k (waits n o) x y d e p q = goes-goes act l x y d e k o s m n p q
   goes_then s l m k (is_over n) x y d e p q = goes-ends act l x y d e k s m (finishes n) p q
-  goes_then s l m k (has_failed why) x y d e p q = goes-ends act l x y d e k s m (fails why) p q
-  goes_then s l m k (is_at_fault fault) x y d e p q = goes-fault act l x y d e k s m fault p q
+  goes_then s l m k (has_failed why n) x y d e p q = goes-ends act l x y d e k s m (fails why n) p q
+  goes_then s l m k (is_at_fault fault n) x y d e p q = goes-fault act l x y d e k s m n fault p q
 
   pub log_on_then : (a m n : Standing State) (x y d e : List ℕ) → LogOn act a x d m → LogOn act m y e n → LogOn act a (x ++ y) (d ++ e) n
   log_on_then (waits s l) (waits m k) n x y d e p q = goes_then s l m k n x y d e p q
   log_on_then (waits s l) (is_over m) n x y d e p q = ended_then (waits s l) (is_over m) n x y d e p q (still_ends act l x y d s (finishes m) p)
-  log_on_then (waits s l) (has_failed w) n x y d e p q = ended_then (waits s l) (has_failed w) n x y d e p q (still_ends act l x y d s (fails w) p)
-  log_on_then (waits s l) (is_at_fault w) n x y d e p q = ended_then (waits s l) (is_at_fault w) n x y d e p q (still_faults act l x y d s w p)
+  log_on_then (waits s l) (has_failed w m) n x y d e p q = ended_then (waits s l) (has_failed w m) n x y d e p q (still_ends act l x y d s (fails w m) p)
+  log_on_then (waits s l) (is_at_fault w m) n x y d e p q = ended_then (waits s l) (is_at_fault w m) n x y d e p q (still_faults act l x y d s m w p)
   log_on_then (is_over s) m n x y d e (none, same) q =
       let r : LogOn act (is_over s) y e n = subst (λ z. LogOn act z y e n) same q in (ap (λ z. z ++ e) none ∙ r.0, r.1)
-  log_on_then (has_failed w) m n x y d e (none, same) q =
-      let r : LogOn act (has_failed w) y e n = subst (λ z. LogOn act z y e n) same q in (ap (λ z. z ++ e) none ∙ r.0, r.1)
-  log_on_then (is_at_fault w) m n x y d e (none, same) q =
-      let r : LogOn act (is_at_fault w) y e n = subst (λ z. LogOn act z y e n) same q in (ap (λ z. z ++ e) none ∙ r.0, r.1)
+  log_on_then (has_failed w s) m n x y d e (none, same) q =
+      let r : LogOn act (has_failed w s) y e n = subst (λ z. LogOn act z y e n) same q in (ap (λ z. z ++ e) none ∙ r.0, r.1)
+  log_on_then (is_at_fault w s) m n x y d e (none, same) q =
+      let r : LogOn act (is_at_fault w s) y e n = subst (λ z. LogOn act z y e n) same q in (ap (λ z. z ++ e) none ∙ r.0, r.1)
 
   pub log_on_once : (a m n : Standing State) (x d e : List ℕ) → LogOn act a x d m → LogOn act a x e n → (d ≡ e) × (m ≡ n)
   log_on_once (waits s l) m n x d e p q = have_one_log act l s x d e m n p q
   log_on_once (is_over s) m n x d e p q = (p.0 ∙ sym q.0, p.1 ∙ sym q.1)
-  log_on_once (has_failed w) m n x d e p q = (p.0 ∙ sym q.0, p.1 ∙ sym q.1)
-  log_on_once (is_at_fault w) m n x d e p q = (p.0 ∙ sym q.0, p.1 ∙ sym q.1)
+  log_on_once (has_failed w s) m n x d e p q = (p.0 ∙ sym q.0, p.1 ∙ sym q.1)
+  log_on_once (is_at_fault w s) m n x d e p q = (p.0 ∙ sym q.0, p.1 ∙ sym q.1)
 
   -- ---- one call
 
   log_at : (l : List ℕ) (s : State) (x d : List ℕ) (m n : Standing State) → HasLog act l s x d n → stands m ≡ stands n → HasLog act l s x d m
   log_at l s x d m n log is = subst (λ z. HasLog act l s x d z) (sym (stands_same is)) log
 
-  fails_log : (l : List ℕ) (s : State) (x : List ℕ) (why : RunFault) (d : List ℕ) (m : Standing State) → PieceFails act l s x why d (cause_of why) → stands m ≡ failed_talk why
-      → HasLog act l s x d m
-  fails_log l s x (faults.Wire fault) d m went is = log_at l s x d m (is_at_fault fault) went.0 is
-  fails_log l s x faults.OutOfMemory d m went is = let clash : ◌≡◌ {A = Talk State} (stands m) starved = is in absurd cc
-  fails_log l s x (faults.Header fault) d m went is = log_at l s x d m (has_failed (faults.Header fault)) went.0 is
-  fails_log l s x (faults.Inbound fault) d m went is = log_at l s x d m (has_failed (faults.Inbound fault)) went.0 is
-  fails_log l s x (faults.Bind fault) d m went is = log_at l s x d m (has_failed (faults.Bind fault)) went.0 is
-  fails_log l s x (faults.Session WrongList) d m went is = log_at l s x d m (has_failed (faults.Session WrongList)) went.0 is
-  fails_log l s x (faults.Session BadSubnegotiation) d m went is = log_at l s x d m (has_failed (faults.Session BadSubnegotiation)) went.0 is
-  fails_log l s x (faults.Session NotReady) d m went is = log_at l s x d m (has_failed (faults.Session NotReady)) went.0 is
-  fails_log l s x (faults.Session BadResponse) d m went is = log_at l s x d m (has_failed (faults.Session BadResponse)) went.0 is
-  fails_log l s x (faults.Session NoDevice) d m went is = log_at l s x d m (has_failed (faults.Session NoDevice)) went.0 is
-  fails_log l s x (faults.Session (Rejected code)) d m went is = log_at l s x d m (has_failed (faults.Session (Rejected code))) went.0 is
-  fails_log l s x (faults.Session (OptionRefused code)) d m went is = log_at l s x d m (has_failed (faults.Session (OptionRefused code))) went.0 is
-  fails_log l s x (faults.Session (TerminalRefused code)) d m went is = log_at l s x d m (has_failed (faults.Session (TerminalRefused code))) went.0 is
-  fails_log l s x (faults.Session TooManyReads) d m went is = absurd went
-  fails_log l s x (faults.Session LineFault) d m went is = absurd went
-  fails_log l s x (faults.Session Closed) d m went is = absurd went
+  fails_log : (l : List ℕ) (s : State) (x : List ℕ) (why : RunFault) (d : List ℕ) (n : State) (m : Standing State) → PieceFails act l s x why d n (cause_of why)
+      → stands m ≡ failed_talk why n → HasLog act l s x d m
+  fails_log l s x (faults.Wire fault) d n m went is = log_at l s x d m (is_at_fault fault n) went.0 is
+  fails_log l s x faults.OutOfMemory d n m went is = let clash : ◌≡◌ {A = Talk State} (stands m) starved = is in absurd cc
+  fails_log l s x (faults.Header fault) d n m went is = log_at l s x d m (has_failed (faults.Header fault) n) went.0 is
+  fails_log l s x (faults.Inbound fault) d n m went is = log_at l s x d m (has_failed (faults.Inbound fault) n) went.0 is
+  fails_log l s x (faults.Bind fault) d n m went is = log_at l s x d m (has_failed (faults.Bind fault) n) went.0 is
+  fails_log l s x (faults.Session WrongList) d n m went is = log_at l s x d m (has_failed (faults.Session WrongList) n) went.0 is
+  fails_log l s x (faults.Session BadSubnegotiation) d n m went is = log_at l s x d m (has_failed (faults.Session BadSubnegotiation) n) went.0 is
+  fails_log l s x (faults.Session NotReady) d n m went is = log_at l s x d m (has_failed (faults.Session NotReady) n) went.0 is
+  fails_log l s x (faults.Session BadResponse) d n m went is = log_at l s x d m (has_failed (faults.Session BadResponse) n) went.0 is
+  fails_log l s x (faults.Session NoDevice) d n m went is = log_at l s x d m (has_failed (faults.Session NoDevice) n) went.0 is
+  fails_log l s x (faults.Session (Rejected code)) d n m went is = log_at l s x d m (has_failed (faults.Session (Rejected code)) n) went.0 is
+  fails_log l s x (faults.Session (OptionRefused code)) d n m went is = log_at l s x d m (has_failed (faults.Session (OptionRefused code)) n) went.0 is
+  fails_log l s x (faults.Session (TerminalRefused code)) d n m went is = log_at l s x d m (has_failed (faults.Session (TerminalRefused code)) n) went.0 is
+  fails_log l s x (faults.Session TooManyReads) d n m went is = absurd went
+  fails_log l s x (faults.Session LineFault) d n m went is = absurd went
+  fails_log l s x (faults.Session Closed) d n m went is = absurd went
 
   hears_log : (l : List ℕ) (s : State) (x : List ℕ) (result : Result Progress RunFault) (d : List ℕ) (m : Standing State) → Hears act l s x result d (stands m) → HasLog act l s x d m
   hears_log l s x (Ok More) d m (next, left, log, is) = log_at l s x d m (waits next left) log is
   hears_log l s x (Ok (Done taken)) d m (end, few, e, is) = log_at l s x d m (is_over end) (ends_piece act l s end x d taken e) is
-  hears_log l s x (Err why) d m (went, is) = fails_log l s x why d m went is
+  hears_log l s x (Err why) d m (end, went, is) = fails_log l s x why d end m went is
 
   pub takes_log : (a m : Standing State) (x : List ℕ) (result : Result Progress RunFault) (d : List ℕ) → Takes act (stands a) x result d (stands m) → LogOn act a x d m
   takes_log (waits s l) m x result d takes = hears_log l s x result d m takes
   takes_log (is_over s) m x result d takes = (takes.1, stands_same takes.2)
-  takes_log (has_failed w) m x result d takes = (takes.1, stands_same takes.2)
-  takes_log (is_at_fault w) m x result d takes = (takes.1, stands_same takes.2)
+  takes_log (has_failed w s) m x result d takes = (takes.1, stands_same takes.2)
+  takes_log (is_at_fault w s) m x result d takes = (takes.1, stands_same takes.2)
 
   open_log : (l : List ℕ) (s : State) (x d : List ℕ) (m : Standing State) → HasLog act l s x d m → IsOpenAt m
   open_log l s x d (waits n k) log = open_tells (l ++ x) k log.events log.tells
   open_log l s x d (is_over n) log = tt
-  open_log l s x d (has_failed w) log = tt
-  open_log l s x d (is_at_fault w) log = tt
+  open_log l s x d (has_failed w n) log = tt
+  open_log l s x d (is_at_fault w n) log = tt
 
   pub log_on_open : (a m : Standing State) (x d : List ℕ) → IsOpenAt a → LogOn act a x d m → IsOpenAt m
   log_on_open (waits s l) m x d opens log = open_log l s x d m log
   log_on_open (is_over s) m x d opens log = subst IsOpenAt (sym log.1) tt
-  log_on_open (has_failed w) m x d opens log = subst IsOpenAt (sym log.1) tt
-  log_on_open (is_at_fault w) m x d opens log = subst IsOpenAt (sym log.1) tt
+  log_on_open (has_failed w s) m x d opens log = subst IsOpenAt (sym log.1) tt
+  log_on_open (is_at_fault w s) m x d opens log = subst IsOpenAt (sym log.1) tt
 
   -- ---- any calls
 

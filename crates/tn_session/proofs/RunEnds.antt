@@ -49,12 +49,12 @@ module _ {State : Type 0} (act : State → Told → Log State) (opening : List �
 
   pub line_failed : (why : RunFault) (cause : Cause) → old.stop ≡ None → RunFails act opening state old why new cause → HasFailed new.stop → cause ≡ of_line
   line_failed why of_line goes ran failed = refl
-  line_failed why (of_stream fault) goes (stream, due, log, passed) failed = not_failed (of_stream fault ≡ of_line) passed.stop_is failed
+  line_failed why (of_stream fault) goes (stream, due, end, log, passed) failed = not_failed (of_stream fault ≡ of_line) passed.stop_is failed
   line_failed why of_memory goes (inl same) failed = not_failed (of_memory ≡ of_line) (ap (λ (w : WireState). w.stop) same ∙ goes) failed
   line_failed why of_memory goes (inr (stream, due, lacks, passed)) failed = not_failed (of_memory ≡ of_line) passed.stop_is failed
   line_failed why of_reads goes (end, open_end, counted) failed = not_failed (of_reads ≡ of_line) open_end.passed.stop_is failed
   line_failed why of_end goes ran failed = absurd ran
-  line_failed why of_events goes (stream, due, log, passed) failed = not_failed (of_events ≡ of_line) passed.stop_is failed
+  line_failed why of_events goes (stream, due, end, log, passed) failed = not_failed (of_events ≡ of_line) passed.stop_is failed
 
   pub not_by_finish : (how : Finish) (end : State) (P : Type 0) → Ran act opening state old (Ok how) end new → HasFailed new.stop → P
   not_by_finish finish.Finished end P (stream, due, log, passed) failed = not_failed P passed.stop_is failed
@@ -65,12 +65,12 @@ module _ {State : Type 0} (act : State → Told → Log State) (opening : List �
   pieces_failed : (why : RunFault) (cause : Cause) → RunFails act opening state old why new cause → ReadsInPieces old new
   pieces_failed why of_line (inl (end, open_end)) = open_end.passed.pieces
   pieces_failed why of_line (inr cut) = cut.passed.pieces
-  pieces_failed why (of_stream fault) (stream, due, log, passed) = passed.pieces
+  pieces_failed why (of_stream fault) (stream, due, end, log, passed) = passed.pieces
   pieces_failed why of_memory (inl same) = subst (ReadsInPieces old) (sym same) (pieces_none old)
   pieces_failed why of_memory (inr (stream, due, lacks, passed)) = passed.pieces
   pieces_failed why of_reads (end, open_end, counted) = open_end.passed.pieces
   pieces_failed why of_end ran = absurd ran
-  pieces_failed why of_events (stream, due, log, passed) = passed.pieces
+  pieces_failed why of_events (stream, due, end, log, passed) = passed.pieces
 
   pub in_pieces : (result : Result Finish RunFault) (end : State) → Ran act opening state old result end new → ReadsInPieces old new
   in_pieces (Ok finish.Finished) end (stream, due, log, passed) = passed.pieces

@@ -36,7 +36,7 @@ module _ {State : Type 0} (act : State → Told → Log State) where
       ap (λ (l : Log State). record { due = d ++ l.due; course = l.course }) later
       ∙ ap (λ (z : List ℕ). record { due = z; course = last.course }) (sym (append_assoc d inner.due last.due) ∙ ap (λ z. z ++ last.due) dues)
   on_course (finishes m) d es fs due next ih is = let clash : finishes m ≡ goes next = ap (λ (l : Log State). l.course) is in absurd cc
-  on_course (fails why) d es fs due next ih is = let clash : fails why ≡ goes next = ap (λ (l : Log State). l.course) is in absurd cc
+  on_course (fails why m) d es fs due next ih is = let clash : fails why m ≡ goes next = ap (λ (l : Log State). l.course) is in absurd cc
 
   pub log-append : (es fs : List Told) (s : State) (due : List ℕ) (next : State) → log_of act s es ≡ going due next
       → log_of act s (es ++ fs) ≡ log_on due (goes next) (λ n. log_of act n fs)
@@ -74,17 +74,16 @@ module _ {State : Type 0} (act : State → Told → Log State) where
     log = log-joined p.events q.events s due d m course p.log q.log;
   }
 
-  pub goes-fault : (b x y due d c : List ℕ) (s m : State) (fault : WireFault) → GoesOn act b s x due m c → EndsAtFault act c m y d fault
-      → EndsAtFault act b s (x ++ y) (due ++ d) fault
-  goes-fault b x y due d c s m fault p q = record {
+  pub goes-fault : (b x y due d c : List ℕ) (s m n : State) (fault : WireFault) → GoesOn act b s x due m c → EndsAtFault act c m y d fault n
+      → EndsAtFault act b s (x ++ y) (due ++ d) fault n
+  goes-fault b x y due d c s m n fault p q = record {
     used = x ++ q.used;
     more = q.more;
     events = p.events ++ q.events;
-    next = q.next;
     front = ap (λ z. x ++ z) q.front ∙ sym (append_assoc x q.used q.more);
     faults = subst (λ z. Faults z (p.events ++ q.events) fault) (append_assoc b x q.used)
         (faults_both (b ++ x) q.used c p.events q.events fault p.tells q.faults);
-    log = log-joined p.events q.events s due d m (goes q.next) p.log q.log;
+    log = log-joined p.events q.events s due d m (goes n) p.log q.log;
   }
 
   pub goes-part : (opening b x y due sent c : List ℕ) (s m : State) → GoesOn act b s x due m c → IsPartDue act [] c m y sent
@@ -144,10 +143,10 @@ module _ {State : Type 0} (act : State → Told → Log State) where
   one_finishes c x more o d m n e a is =
       record { used = x; more = more; events = e ∷ []; left = o; front = refl; tells = a; log = one m e d (finishes n) is }
 
-  pub one_fails : (c x more o : List ℕ) (m : State) (why : RunFault) (e : Told) → Tells (c ++ x) (e ∷ []) o → act m e ≡ failed why
-      → EndsBy act c m (x ++ more) [] (fails why)
-  one_fails c x more o m why e a is =
-      record { used = x; more = more; events = e ∷ []; left = o; front = refl; tells = a; log = one m e [] (fails why) is }
+  pub one_fails : (c x more o : List ℕ) (m n : State) (why : RunFault) (e : Told) → Tells (c ++ x) (e ∷ []) o → act m e ≡ failed why n
+      → EndsBy act c m (x ++ more) [] (fails why n)
+  one_fails c x more o m n why e a is =
+      record { used = x; more = more; events = e ∷ []; left = o; front = refl; tells = a; log = one m e [] (fails why n) is }
 
   pub one_lacks : (c x more o : List ℕ) (m : State) (e : Told) → Tells c [] c → Tells (c ++ x) (e ∷ []) o → MayAsk (act m e).course
       → LacksMemory act c m (x ++ more) []
@@ -171,7 +170,7 @@ module _ {State : Type 0} (act : State → Told → Log State) where
     by_course : (c : Course State) (d : List ℕ) → (log : List ℕ) × ((log_on d c (λ n. going [] n)).due ≡ d ++ log)
     by_course (goes n) d = ([], refl)
     by_course (finishes n) d = ([], sym (append-nil d))
-    by_course (fails why) d = ([], sym (append-nil d))
+    by_course (fails why n) d = ([], sym (append-nil d))
 
   pub one_part : (c x more o sent lost : List ℕ) (m : State) (e : Told) → Tells (c ++ x) (e ∷ []) o → (act m e).due ≡ sent ++ lost
       → IsPartDue act [] c m (x ++ more) sent
@@ -188,5 +187,5 @@ module _ {State : Type 0} (act : State → Told → Log State) where
         part = first.1 ∙ ap (λ z. z ++ first.0) is ∙ append_assoc sent lost first.0;
       }
 
-  pub one_fault : (c x more : List ℕ) (m : State) (fault : WireFault) → Faults (c ++ x) [] fault → EndsAtFault act c m (x ++ more) [] fault
-  one_fault c x more m fault a = record { used = x; more = more; events = []; next = m; front = refl; faults = a; log = refl }
+  pub one_fault : (c x more : List ℕ) (m : State) (fault : WireFault) → Faults (c ++ x) [] fault → EndsAtFault act c m (x ++ more) [] fault m
+  one_fault c x more m fault a = record { used = x; more = more; events = []; front = refl; faults = a; log = refl }

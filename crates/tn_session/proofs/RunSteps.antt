@@ -92,16 +92,16 @@ module _ {State : Type 0} (act : State → Told → Log State) where
   part_before before state piece given part lost so cut =
       subst (λ z. IsPartDue act [] before state z part) (sym so.cut) (part_of_log before state so.next so.front so.more given part lost so.left so.log cut)
 
-  part_failed : (before : List ℕ) (state : State) (piece given part lost : List ℕ) (why : RunFault) (cause : Cause) → PieceFails act before state piece why given cause
-      → given ≡ part ++ lost → IsPartDue act [] before state piece part
-  part_failed before state piece given part lost why (of_stream fault) went cut = part_before before state piece given part lost went.1 cut
-  part_failed before state piece given part lost why of_memory went cut =
+  part_failed : (before : List ℕ) (state : State) (piece given part lost : List ℕ) (why : RunFault) (end : State) (cause : Cause)
+      → PieceFails act before state piece why given end cause → given ≡ part ++ lost → IsPartDue act [] before state piece part
+  part_failed before state piece given part lost why end (of_stream fault) went cut = part_before before state piece given part lost went.1 cut
+  part_failed before state piece given part lost why end of_memory went cut =
       subst (λ z. IsPartDue act [] before state z part) (sym went.front)
       (part_of_log before state went.next went.used (went.taken ++ went.more) given part lost went.left went.log cut)
-  part_failed before state piece given part lost why of_events went cut = part_before before state piece given part lost went.1 cut
-  part_failed before state piece given part lost why of_line went cut = absurd went
-  part_failed before state piece given part lost why of_reads went cut = absurd went
-  part_failed before state piece given part lost why of_end went cut = absurd went
+  part_failed before state piece given part lost why end of_events went cut = part_before before state piece given part lost went.1 cut
+  part_failed before state piece given part lost why end of_line went cut = absurd went
+  part_failed before state piece given part lost why end of_reads went cut = absurd went
+  part_failed before state piece given part lost why end of_end went cut = absurd went
 
   -- bytes that end a session end whatever begins with them
   pub ends_piece : (before : List ℕ) (state end : State) (piece given : List ℕ) (taken : ℕ) → EndsWith act before state (take taken piece) given end
@@ -129,7 +129,7 @@ module _ {State : Type 0} (act : State → Told → Log State) where
       subst (λ z. IsPartDue act [] before state z part) (append-nil piece) (part_of_log before state next piece [] given part lost left log cut)
   part_of before state piece given part lost (Ok (Done taken)) talk (end, few, e, is) cut =
       part_ended before state end piece given part lost (ends_piece before state end piece given taken e) cut
-  part_of before state piece given part lost (Err why) talk (went, is) cut = part_failed before state piece given part lost why (cause_of why) went cut
+  part_of before state piece given part lost (Err why) talk (end, went, is) cut = part_failed before state piece given part lost why end (cause_of why) went cut
 
   -- ---- a run
 
@@ -313,20 +313,20 @@ module _ {State : Type 0} (act : State → Told → Log State) where
             (so.stream ++ piece, so.due ++ given, goes-ends act [] so.stream piece so.due given so.left so.first so.now (finishes log.0) so.log ends, passed_due went),
           )
 
-      fails_so : (why : RunFault) (cause : Cause) → PieceFails act so.left so.now piece why given cause → SentOn read_to new given None
+      fails_so : (why : RunFault) (end : State) (cause : Cause) → PieceFails act so.left so.now piece why given end cause → SentOn read_to new given None
           → RunFails act opening so.first old why new cause
-      fails_so why (of_stream fault) (ends, before) went =
-          (so.stream ++ piece, so.due ++ given, goes-fault act [] so.stream piece so.due given so.left so.first so.now fault so.log ends, passed_due went)
-      fails_so why of_memory lacks went =
+      fails_so why end (of_stream fault) (ends, before) went =
+          (so.stream ++ piece, so.due ++ given, end, goes-fault act [] so.stream piece so.due given so.left so.first so.now end fault so.log ends, passed_due went)
+      fails_so why end of_memory lacks went =
           inr (so.stream ++ piece, so.due ++ given, goes-lacks act [] so.stream piece so.due given so.left so.first so.now so.log lacks, passed_due went)
-      fails_so why of_events (ends, before) went =
-          (so.stream ++ piece, so.due ++ given, goes-ends act [] so.stream piece so.due given so.left so.first so.now (fails why) so.log ends, passed_due went)
-      fails_so why of_line failed went = absurd failed
-      fails_so why of_reads failed went = absurd failed
-      fails_so why of_end failed went = absurd failed
+      fails_so why end of_events (ends, before) went =
+          (so.stream ++ piece, so.due ++ given, end, goes-ends act [] so.stream piece so.due given so.left so.first so.now (fails why end) so.log ends, passed_due went)
+      fails_so why end of_line failed went = absurd failed
+      fails_so why end of_reads failed went = absurd failed
+      fails_so why end of_end failed went = absurd failed
 
       pub run_fails : (why : RunFault) (result : Result Finish RunFault) → told ≡ Err why → result ≡ Err why → SentOn read_to new given None
           → RanSession act opening begun old result later new
       run_fails why result is result_is went =
           let log : Hears act so.left so.now piece (Err why) given later = subst (λ z. Hears act so.left so.now piece z given later) is hears in
-          subst (λ z. RanSession act opening begun old z later new) (sym result_is) (so.first, so.begins, so.first, tt, fails_so why (cause_of why) log.0 went)
+          subst (λ z. RanSession act opening begun old z later new) (sym result_is) (so.first, so.begins, so.first, tt, fails_so why log.0 (cause_of why) log.1 went)

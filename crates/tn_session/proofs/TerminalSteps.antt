@@ -25,13 +25,14 @@ refused_by (Ok step) old new why out (is, after, bytes) = absurd cc
 refused_by (Err other) old new why out (is, after, bytes) = let same : why ≡ other = cc in ap Err (sym same)
 
 -- the log fails for what an event says
-pub fails_as : {State : Type 0} (log : Log State) (why : RunFault) (cause : Cause) → IsOfEvents cause → log ≡ failed why → FailsAs log why cause
-fails_as log why of_events h is = is
-fails_as log why (of_stream fault) h is = absurd h
-fails_as log why of_memory h is = absurd h
-fails_as log why of_line h is = absurd h
-fails_as log why of_reads h is = absurd h
-fails_as log why of_end h is = absurd h
+pub fails_as : {State : Type 0} (log : Log State) (why : RunFault) (new : State) (cause : Cause) → IsOfEvents cause → log ≡ failed why new
+    → FailsAs log why new cause
+fails_as log why new of_events h is = is
+fails_as log why new (of_stream fault) h is = absurd h
+fails_as log why new of_memory h is = absurd h
+fails_as log why new of_line h is = absurd h
+fails_as log why new of_reads h is = absurd h
+fails_as log why new of_end h is = absurd h
 
 -- a step of a core that is wrapped
 pub wrapped : {A : Type 0} {B : Type 0} (wrap : A → B) (x : Result (Stepped A) SessionFault) (old new : A) (told : Result Told SessionFault) (out : List ℕ)
@@ -47,13 +48,20 @@ core_refuses : (core : EndCore) (event : Event) (why : SessionFault) → core_st
 core_refuses (Strict core) event why is = of_event why (terminal_refuses core event why (unwrapped Strict (terminal_step core event) why is))
 core_refuses (Tolerant core) event why is = absurd cc
 
+-- a core that refused is as before, and so is the run
+same_core : {Core : Type 0} (x : Result (Stepped Core) SessionFault) (old new : Core) (why : SessionFault) (out : List ℕ) → Takes x old (Err why) new out
+    → new ≡ old
+same_core (Ok step) old new why out (is, after, bytes) = absurd cc
+same_core (Err other) old new why out (is, after, bytes) = after
+
 pub refused_act : (running : TerminalRunning) (event : Event) (new : EndCore) (why : SessionFault) (out : List ℕ)
     → Takes (core_step running.state.core event) running.state.core (Err why) new out
-    → FailsAs (terminal_act running event) (faults.Session why) (session_cause why)
+    → FailsAs (terminal_act running event) (faults.Session why) (with_core running new) (session_cause why)
 refused_act running event new why out takes =
     let step : core_step running.state.core event ≡ Err why = refused_by _ running.state.core new why out takes in
-    fails_as (terminal_act running event) (faults.Session why) (session_cause why) (core_refuses running.state.core event why step)
-    (ap (by_core running event) step)
+    let same : new ≡ running.state.core = same_core _ running.state.core new why out takes in
+    fails_as (terminal_act running event) (faults.Session why) (with_core running new) (session_cause why) (core_refuses running.state.core event why step)
+    (ap (by_core running event) step ∙ ap (λ (core : EndCore). failed (faults.Session why) (with_core running core)) (sym same))
 
 record_by : (running : TerminalRunning) (new : EndCore) (told : Told) (out bytes : List ℕ) (x : Result (Stepped EndCore) SessionFault)
     → Takes x running.state.core (Ok told) new out

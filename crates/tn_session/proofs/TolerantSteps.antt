@@ -18,9 +18,9 @@ use Rattle.tn_session.specs.declared.terminal_state.TerminalState.{TerminalState
 use Rattle.tn_session.specs.Ran.{ReadsInPieces, SentOn, SentPart, Sends, PassedOver}
 use Rattle.tn_session.specs.Strikes.{Strike}
 use Rattle.tn_session.specs.Talk.{Talk, Adds}
-use Rattle.tn_session.specs.TerminalTalk.{Worked, TerminalTakes, tolerant_worked, no_arrival}
-use Rattle.tn_session.specs.TolerantRuns.{Working, PressesAll, TakesTurn, TakesTurns, TurnsFollow, is_over_with, begun_work, joined, WorkedOver, WorkedPart, Counts, StopsSo, EndsBy, FailsByLine, FailsBy, TolerantRan}
-use Rattle.tn_session.specs.Wire.{WireState, Gave, IsRead, IsWrite}
+use Rattle.tn_session.specs.TerminalTalk.{TerminalTakes, no_arrival}
+use Rattle.tn_session.specs.TolerantRuns.{Working, PressesAll, TakesTurn, TakesTurns, is_over_with, begun_work, joined, WorkedOver, WorkedPart, Counts, StopsSo, EndsBy, FailsByLine, TolerantRan}
+use Rattle.tn_session.specs.Wire.{WireState, Gave, IsRead}
 use Rattle.tn_session.proofs.RunSteps.{pieces_none, pieces_sent}
 
 -- ---- a turn

@@ -33,8 +33,8 @@ InAll a bytes (turn ∷ turns) given new =
 key_once : (m a b : At) (key : Strike) (d e : List ℕ) → KeyOn m key d a → KeyOn m key e b → (d ≡ e) × (a ≡ b)
 key_once (waits s l) a b key d e p q = (p.0 ∙ sym q.0, p.1 ∙ sym q.1)
 key_once (is_over s) a b key d e p q = (p.0 ∙ sym q.0, p.1 ∙ sym q.1)
-key_once (has_failed w) a b key d e p q = (p.0 ∙ sym q.0, p.1 ∙ sym q.1)
-key_once (is_at_fault w) a b key d e p q = (p.0 ∙ sym q.0, p.1 ∙ sym q.1)
+key_once (has_failed w s) a b key d e p q = (p.0 ∙ sym q.0, p.1 ∙ sym q.1)
+key_once (is_at_fault w s) a b key d e p q = (p.0 ∙ sym q.0, p.1 ∙ sym q.1)
 
 three : {d k r e l s : List ℕ} → d ≡ e → k ≡ l → r ≡ s → d ++ (k ++ r) ≡ e ++ (l ++ s)
 three {d = d} {r = r} {l = l} {s = s} x y z = ap (λ q. d ++ q) (ap (λ q. q ++ r) y ∙ ap (λ q. l ++ q) z) ∙ ap (λ q. q ++ (l ++ s)) x
@@ -79,14 +79,14 @@ waits_pressed s l key (Err why) first m (why_is, none, sends, is) = let clash : 
 key_pressed : (a m : At) (key : Strike) (result : Result Pressed RunFault) (first : List ℕ) → Presses (stands a) key result first (stands m) → KeyOn a key first m
 key_pressed (waits s l) m key result first presses = waits_pressed s l key result first m presses
 key_pressed (is_over s) m key result first presses = (presses.1, stands_same presses.2)
-key_pressed (has_failed w) m key result first presses = (presses.1, stands_same presses.2)
-key_pressed (is_at_fault w) m key result first presses = (presses.1, stands_same presses.2)
+key_pressed (has_failed w s) m key result first presses = (presses.1, stands_same presses.2)
+key_pressed (is_at_fault w s) m key result first presses = (presses.1, stands_same presses.2)
 
 key_open : (a m : At) (key : Strike) (first : List ℕ) → IsOpenAt a → KeyOn a key first m → IsOpenAt m
 key_open (waits s l) m key first opens on = subst IsOpenAt (sym on.1) opens
 key_open (is_over s) m key first opens on = subst IsOpenAt (sym on.1) tt
-key_open (has_failed w) m key first opens on = subst IsOpenAt (sym on.1) tt
-key_open (is_at_fault w) m key first opens on = subst IsOpenAt (sym on.1) tt
+key_open (has_failed w s) m key first opens on = subst IsOpenAt (sym on.1) tt
+key_open (is_at_fault w s) m key first opens on = subst IsOpenAt (sym on.1) tt
 
 works_in_all : (a new : At) (acts : List Act) (given : List ℕ) → IsOpenAt a → Works (stands a) acts given (stands new)
     → InAll a (heard_first acts) (keyed_then acts) given new

@@ -128,8 +128,8 @@ record Follows (keys : List Strike) (bare full : Log TerminalRunning) : Type 0 w
   are_left : AreLeft left full.course
   log_is : log_on (unkeyed bare).due (unkeyed bare).course (λ next. worked_log next (deeds_of used)) ≡ unkeyed full
 
-fail_follows : (keys : List Strike) (why : RunFault) → Follows keys (failed why) (failed why)
-fail_follows keys why = record { used = []; left = keys; keys_are = refl; are_left = tt; log_is = refl }
+fail_follows : (keys : List Strike) (why : RunFault) (state : TerminalState) → Follows keys (failed why (run_of state [])) (failed why (run_of state keys))
+fail_follows keys why state = record { used = []; left = keys; keys_are = refl; are_left = refl; log_is = refl }
 
 going_follows : (keys : List Strike) (due : List ℕ) (state : TerminalState) → Follows keys (going due (run_of state [])) (going due (run_of state keys))
 going_follows keys due state =
@@ -188,7 +188,7 @@ typed_data_follows agreed header keys state bytes PrintEoj ready = passed_follow
 headed_follows : (agreed : Agreed) (keys : List Strike) (state : TerminalState) (headed : Result Headed HeaderFault) → core_agreed state.core ≡ Some agreed
     → Follows keys (taken_headed agreed (run_of state []) headed) (taken_headed agreed (run_of state keys) headed)
 headed_follows agreed keys state (Ok headed) ready = typed_data_follows agreed headed.header keys state headed.rest headed.header.data_type ready
-headed_follows agreed keys state (Err why) ready = fail_follows keys (faults.Header why)
+headed_follows agreed keys state (Err why) ready = fail_follows keys (faults.Header why) state
 
 -- the same at a tolerant terminal
 
@@ -258,7 +258,7 @@ stepped_follows keys state (told_passed byte) step = going_follows keys _ (heedi
 core_follows : (keys : List Strike) (state : TerminalState) (event : Told) (step : Result (Stepped EndCore) SessionFault)
     → Follows keys (by_core (run_of state []) event step) (by_core (run_of state keys) event step)
 core_follows keys state event (Ok step) = stepped_follows keys state event step
-core_follows keys state event (Err why) = fail_follows keys (faults.Session why)
+core_follows keys state event (Err why) = fail_follows keys (faults.Session why) state
 
 event_follows : (running : TerminalRunning) (event : Told) → Follows running.keys (terminal_act (run_of running.state []) event) (terminal_act running event)
 event_follows running event = core_follows running.keys running.state event (core_step running.state.core event)
@@ -286,7 +286,7 @@ append_on (goes m) d xs ys due next ih is =
     ap (λ (l : Log TerminalState). record { due = d ++ l.due; course = l.course }) later
     ∙ ap (λ (z : List ℕ). record { due = z; course = last.course }) (sym (append_assoc d inner.due last.due) ∙ ap (λ z. z ++ last.due) dues)
 append_on (finishes m) d xs ys due next ih is = let clash : finishes m ≡ goes next = ap (λ (l : Log TerminalState). l.course) is in absurd cc
-append_on (fails why) d xs ys due next ih is = let clash : fails why ≡ goes next = ap (λ (l : Log TerminalState). l.course) is in absurd cc
+append_on (fails why end) d xs ys due next ih is = let clash : fails why end ≡ goes next = ap (λ (l : Log TerminalState). l.course) is in absurd cc
 
 goes_is : {s t : TerminalState} → goes s ≡ goes t → s ≡ t
 goes_is e = cc
@@ -337,7 +337,7 @@ by_course : (c : Course TerminalRunning) (d : List ℕ) (running : TerminalRunni
     → IsWorked running (event ∷ events) (log_on d c (λ n. log_of terminal_act n events))
 by_course (goes next) d running event events f later = goes_on running next event events d f (later next)
 by_course (finishes end) d running event events f later = over_here running event events (record { due = d; course = finishes end }) f
-by_course (fails why) d running event events f later = over_here running event events (record { due = d; course = fails why }) f
+by_course (fails why end) d running event events f later = over_here running event events (record { due = d; course = fails why end }) f
 
 pub runs_are_worked : RunsAreWorked
 runs_are_worked running [] = record { deeds = []; more = []; left = running.keys; hears = refl; keys = refl; are_left = refl; log_is = refl }

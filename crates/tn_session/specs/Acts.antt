@@ -76,11 +76,11 @@ keys_in [] = []
 keys_in (came event ∷ deeds) = keys_in deeds
 keys_in (pressed key ∷ deeds) = key ∷ keys_in deeds
 
--- the keys that a run has left, where it didn't fail
+-- the keys that a run has left
 abbrev pub AreLeft : List Strike → Course TerminalRunning → Type 0
 AreLeft left (goes running) = left ≡ running.keys
 AreLeft left (finishes running) = left ≡ running.keys
-AreLeft left (fails why) = Unit {0}
+AreLeft left (fails why running) = left ≡ running.keys
 
 -- The log of a run over a line that presses a list of keys is that of a terminal which is worked so: it hears the events up to
 -- the one that ends the run, and is pressed the keys in turn up to those that are left.

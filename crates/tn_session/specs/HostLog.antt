@@ -79,8 +79,8 @@ after_response running = record running { unanswered = running.unanswered - 1; s
 abbrev pub responded : HostRunning → ℕ → List ℕ → Log HostRunning
 responded running flag (code ∷ []) =
     if (flag == 0) && (code == 0) then going [] (after_response running)
-    else (if (flag == 1) && nat_le code 3 then failed (faults.Session (TerminalRefused code)) else failed (faults.Session BadResponse))
-responded running flag _ = failed (faults.Session BadResponse)
+    else (if (flag == 1) && nat_le code 3 then failed (faults.Session (TerminalRefused code)) running else failed (faults.Session BadResponse) running)
+responded running flag _ = failed (faults.Session BadResponse) running
 
 -- it answers the first record that none came for
 abbrev pub is_awaited : Agreed → HostRunning → ℕ → Bool
@@ -88,7 +88,7 @@ is_awaited agreed running sequence = agreed.responses && (nat_lt 0 running.unans
 
 abbrev pub taken_response : Agreed → HostRunning → Header → List ℕ → Log HostRunning
 taken_response agreed running header bytes =
-    if is_awaited agreed running header.seq then responded running header.response bytes else failed (faults.Session BadResponse)
+    if is_awaited agreed running header.seq then responded running header.response bytes else failed (faults.Session BadResponse) running
 
 -- ---- the terminal's answer
 
@@ -101,11 +101,11 @@ outcome_of agreed aid pairs = record {
 
 abbrev pub bound_answer : HostRunning → Agreed → ℕ → Result (List Pair) BindFault → Log HostRunning
 bound_answer running agreed aid (Ok pairs) = finished [] (record running { outcome = Some (outcome_of agreed aid pairs) })
-bound_answer running agreed aid (Err why) = failed (faults.Bind why)
+bound_answer running agreed aid (Err why) = failed (faults.Bind why) running
 
 abbrev pub read_answer : HostRunning → Agreed → Result Answer Refused → Log HostRunning
 read_answer running agreed (Ok answer) = bound_answer running agreed answer.aid (bound_of running.layout.entries answer)
-read_answer running agreed (Err why) = failed (faults.Inbound why)
+read_answer running agreed (Err why) = failed (faults.Inbound why) running
 
 -- it is read as that of the layout's screen, and its fields are bound; then the run is over
 abbrev pub taken_answer : Agreed → HostRunning → List ℕ → Log HostRunning
@@ -122,7 +122,7 @@ taken_typed agreed running header bytes _ = going [] running
 
 abbrev pub taken_headed : Agreed → HostRunning → Result Headed HeaderFault → Log HostRunning
 taken_headed agreed running (Ok headed) = taken_typed agreed running headed.header headed.rest headed.header.data_type
-taken_headed agreed running (Err why) = failed (faults.Header why)
+taken_headed agreed running (Err why) = failed (faults.Header why) running
 
 -- any record of a classic session is an answer
 abbrev pub taken_record : HostRunning → Option Agreed → List ℕ → Log HostRunning
@@ -137,7 +137,7 @@ host_stepped running event step = going (bytes_of step.reply ++ ready_due runnin
 
 abbrev pub host_by_core : HostRunning → Told → Result (Stepped HostCore) SessionFault → Log HostRunning
 host_by_core running event (Ok step) = host_stepped running event step
-host_by_core running event (Err why) = failed (faults.Session why)
+host_by_core running event (Err why) = failed (faults.Session why) running
 
 -- one event
 abbrev pub host_act : HostRunning → Told → Log HostRunning

@@ -26,7 +26,7 @@ striking running = record { state = running.state; keys = map as_stroke running.
 abbrev pub striking_course : Course TerminalRunning → Course TerminalRunning
 striking_course (goes running) = goes (striking running)
 striking_course (finishes running) = finishes (striking running)
-striking_course (fails why) = fails why
+striking_course (fails why running) = fails why (striking running)
 
 abbrev pub striking_log : Log TerminalRunning → Log TerminalRunning
 striking_log log = record { due = log.due; course = striking_course log.course }

@@ -6,22 +6,29 @@ use Rattle.tn_wire.specs.Stream.{Told}
 use Rattle.tn_session.specs.declared.fault.RunFault.{RunFault}
 use Rattle.tn_session.specs.Runs.{Log, finishes, fails, GoesOn, EndsBy, EndsAtFault}
 
--- How a log stands at a stream's end: it goes on in this state, with so much open; or an event finished it in this state,
--- an event failed, or the stream is at fault.
+-- How a log stands at a stream's end: it goes on in this state, with so much open; or an event finished it in this state; or an
+-- event failed, or the stream is at fault, and this is the state that is left.
 pub data Standing (State : Type 0) : Type 0 where
   waits : State → List ℕ → Standing State
   is_over : State → Standing State
-  has_failed : RunFault → Standing State
-  is_at_fault : WireFault → Standing State
+  has_failed : RunFault → State → Standing State
+  is_at_fault : WireFault → State → Standing State
+
+-- the state in which it stands
+abbrev pub state_of : {State : Type 0} → Standing State → State
+state_of (waits state left) = state
+state_of (is_over state) = state
+state_of (has_failed why state) = state
+state_of (is_at_fault fault state) = state
 
 -- the bytes' log from this state, where so much of the stream was open before them: what is due, and how it stands
 abbrev pub HasLog : {State : Type 0} → (State → Told → Log State) → List ℕ → State → List ℕ → List ℕ → Standing State → Type 0
 HasLog act before state bytes due (waits next left) = GoesOn act before state bytes due next left
 HasLog act before state bytes due (is_over end) = EndsBy act before state bytes due (finishes end)
-HasLog act before state bytes due (has_failed why) = EndsBy act before state bytes due (fails why)
-HasLog act before state bytes due (is_at_fault fault) = EndsAtFault act before state bytes due fault
+HasLog act before state bytes due (has_failed why last) = EndsBy act before state bytes due (fails why last)
+HasLog act before state bytes due (is_at_fault fault last) = EndsAtFault act before state bytes due fault last
 
--- bytes have one log at most: two that hold of them have the same bytes due and stand alike
+-- bytes have one log at most: two that hold of them have the same bytes due and stand alike, in one state, also where they failed
 abbrev pub HaveOneLog : (State : Type 0) → Type 0
 HaveOneLog State =
     (act : State → Told → Log State) (before : List ℕ) (state : State) (bytes due others : List ℕ) (standing other : Standing State)

@@ -54,20 +54,20 @@ IsOfEvents _ = ⊥
 
 -- An event may ask for memory where it isn't at fault: what is found at fault asks for none.
 abbrev pub MayAsk : {State : Type 0} → Course State → Type 0
-MayAsk (fails why) = ⊥
+MayAsk (fails why state) = ⊥
 MayAsk course = Unit {0}
 
--- a fault of an event is the log's; or memory was refused to an event that may ask for it
-abbrev pub FailsAs : {State : Type 0} → Log State → RunFault → Cause → Type 0
-FailsAs log why of_memory = MayAsk log.course
-FailsAs log why of_events = log ≡ failed why
-FailsAs log why _ = ⊥
+-- a fault of an event is the log's, and so is the state that is left; or memory was refused to an event that may ask for it
+abbrev pub FailsAs : {State : Type 0} → Log State → RunFault → State → Cause → Type 0
+FailsAs log why new of_memory = MayAsk log.course
+FailsAs log why new of_events = log ≡ failed why new
+FailsAs log why new _ = ⊥
 
 -- a call did what the log says of an event: these bytes are due, and this is the state after it
 abbrev pub Does : {State : Type 0} → Log State → Result Turn RunFault → State → List ℕ → Type 0
 Does log (Ok turns.Goes) new due = log ≡ going due new
 Does log (Ok turns.Finishes) new due = log ≡ finished due new
-Does log (Err why) new due = FailsAs log why (cause_of why)
+Does log (Err why) new due = FailsAs log why new (cause_of why)
 
 -- ---- what went over the line without a read
 
@@ -144,8 +144,9 @@ pub record IsCutShort {State : Type 0} (act : State → Told → Log State) (ope
   pub passed : PassedOver old new stream sent (Some WriteFailed)
 
 abbrev pub RunFails : {State : Type 0} → (State → Told → Log State) → List ℕ → State → WireState → RunFault → WireState → Cause → Type 0
-RunFails act opening state old why new (of_stream fault) =
-    (stream : List ℕ) × (due : List ℕ) × EndsAtFault act [] state stream due fault × PassedOver old new stream (opening ++ due) None
+RunFails {State = State} act opening state old why new (of_stream fault) =
+    (stream : List ℕ) × (due : List ℕ) × (last : State) × EndsAtFault act [] state stream due fault last
+    × PassedOver old new stream (opening ++ due) None
 -- at the start, with nothing sent, or at an event
 RunFails act opening state old why new of_memory =
     (new ≡ old) ⊎ ((stream : List ℕ) × (due : List ℕ) × LacksMemory act [] state stream due × PassedOver old new stream (opening ++ due) None)
@@ -154,8 +155,9 @@ RunFails {State = State} act opening state old why new of_line =
 RunFails {State = State} act opening state old why new of_reads =
     (end : State) × IsOpen act opening state old end new None × (new.reads ≡ old.reads + 1000000)
 RunFails act opening state old why new of_end = ⊥
-RunFails act opening state old why new of_events =
-    (stream : List ℕ) × (due : List ℕ) × EndsBy act [] state stream due (fails why) × PassedOver old new stream (opening ++ due) None
+RunFails {State = State} act opening state old why new of_events =
+    (stream : List ℕ) × (due : List ℕ) × (last : State) × EndsBy act [] state stream due (fails why last)
+    × PassedOver old new stream (opening ++ due) None
 
 -- A run that sent an opening first. Where it finished or the line ended, this is its state at the end.
 abbrev pub Ran : {State : Type 0} → (State → Told → Log State) → List ℕ → State → WireState → Result Finish RunFault → State → WireState → Type 0

@@ -5,11 +5,11 @@ use Rattle.tn_wire.specs.declared.event.WireFault.{WireFault}
 use Rattle.tn_wire.specs.Stream.{Told, Tells, Faults}
 use Rattle.tn_session.specs.declared.fault.RunFault.{RunFault}
 
--- it waits for the next event, it is over, or it fails
+-- it waits for the next event, it is over, or it fails and is left in this state
 pub data Course (State : Type 0) : Type 0 where
   goes : State → Course State
   finishes : State → Course State
-  fails : RunFault → Course State
+  fails : RunFault → State → Course State
 
 -- the bytes that are due so far, in order, and how the run stands
 pub record Log (State : Type 0) : Type 0 where
@@ -22,14 +22,14 @@ going due state = record { due = due; course = goes state }
 abbrev pub finished : {State : Type 0} → List ℕ → State → Log State
 finished due state = record { due = due; course = finishes state }
 
-abbrev pub failed : {State : Type 0} → RunFault → Log State
-failed why = record { due = []; course = fails why }
+abbrev pub failed : {State : Type 0} → RunFault → State → Log State
+failed why state = record { due = []; course = fails why state }
 
 -- what follows counts only while the run goes on
 abbrev pub log_on : {State : Type 0} → List ℕ → Course State → (State → Log State) → Log State
 log_on due (goes state) later = record { due = due ++ (later state).due; course = (later state).course }
 log_on due (finishes state) later = finished due state
-log_on due (fails why) later = record { due = due; course = fails why }
+log_on due (fails why state) later = record { due = due; course = fails why state }
 
 -- the log of a run in this state, over events
 abbrev pub log_of : {State : Type 0} → (State → Told → Log State) → State → List Told → Log State
@@ -54,12 +54,11 @@ pub record EndsBy {State : Type 0} (act : State → Told → Log State) (before 
   pub tells : Tells (before ++ used) events left
   pub log : log_of act state events ≡ record { due = due; course = course }
 
--- A front of the bytes is no stream, and the run went on up to its last byte.
-pub record EndsAtFault {State : Type 0} (act : State → Told → Log State) (before : List ℕ) (state : State) (bytes due : List ℕ) (fault : WireFault) : Type 0 where
+-- A front of the bytes is no stream, and the run went on up to its last byte, to this state.
+pub record EndsAtFault {State : Type 0} (act : State → Told → Log State) (before : List ℕ) (state : State) (bytes due : List ℕ) (fault : WireFault) (next : State) : Type 0 where
   pub used : List ℕ
   pub more : List ℕ
   pub events : List Told
-  pub next : State
   pub front : bytes ≡ used ++ more
   pub faults : Faults (before ++ used) events fault
   pub log : log_of act state events ≡ going due next

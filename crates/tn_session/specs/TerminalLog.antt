@@ -283,7 +283,7 @@ taken_typed agreed header running bytes _ = passed_over running
 
 abbrev pub taken_headed : Agreed → TerminalRunning → Result Headed HeaderFault → Log TerminalRunning
 taken_headed agreed running (Ok headed) = taken_typed agreed headed.header running headed.rest headed.header.data_type
-taken_headed agreed running (Err why) = failed (faults.Header why)
+taken_headed agreed running (Err why) = failed (faults.Header why) running
 
 -- ---- records at a tolerant terminal
 
@@ -389,7 +389,7 @@ stepped running event step = going (bytes_of step.reply) (heeded running event s
 
 abbrev pub by_core : TerminalRunning → Told → Result (Stepped EndCore) SessionFault → Log TerminalRunning
 by_core running event (Ok step) = stepped running event step
-by_core running event (Err why) = failed (faults.Session why)
+by_core running event (Err why) = failed (faults.Session why) running
 
 -- one event
 abbrev pub terminal_act : TerminalRunning → Told → Log TerminalRunning

@@ -15,7 +15,7 @@ use Rattle.tn_session.specs.declared.terminal_state.TerminalState.{TerminalState
 use Rattle.tn_session.specs.EndCores.{core_agreed, is_tolerant}
 use Rattle.tn_session.specs.Kept.{Kept, Keeping}
 use Rattle.tn_session.specs.LuNames.{name_under}
-use Rattle.tn_session.specs.OneLog.{waits, is_over, has_failed, is_at_fault}
+use Rattle.tn_session.specs.OneLog.{waits, is_over, has_failed, is_at_fault, state_of}
 use Rattle.tn_session.specs.Runs.{Course, goes, finishes, fails, Log}
 use Rattle.tn_session.specs.Strikes.{Strike, struck_by}
 use Rattle.tn_session.specs.declared.progress.Progress.{Progress}
@@ -28,7 +28,7 @@ use Rattle.tn_session.specs.TerminalLog.{TerminalRunning, operator_at, terminal_
 abbrev pub without_keys : Course TerminalRunning → Course TerminalState
 without_keys (goes running) = goes running.state
 without_keys (finishes running) = goes running.state
-without_keys (fails why) = fails why
+without_keys (fails why running) = fails why running.state
 
 abbrev pub unkeyed : Log TerminalRunning → Log TerminalState
 unkeyed log = record { due = log.due; course = without_keys log.course }
@@ -77,12 +77,13 @@ PressesKey state left key (Err why) given new =
 abbrev pub Unchanged : Talk TerminalState → Result Pressed RunFault → Result Pressed RunFault → List ℕ → Talk TerminalState → Type 0
 Unchanged old word result given new = (result ≡ word) × (given ≡ []) × (new ≡ old)
 
--- a session that failed answers its fault to a key too
+-- a session that failed answers its fault to a key too, and stays as it was left
 abbrev pub Presses : Talk TerminalState → Strike → Result Pressed RunFault → List ℕ → Talk TerminalState → Type 0
 Presses (stands (waits state left)) key result given new = PressesKey state left key result given new
 Presses (stands (is_over end)) key result given new = Unchanged (stands (is_over end)) (Ok keyed.Ignored) result given new
-Presses (stands (has_failed why)) key result given new = Unchanged (stands (has_failed why)) (Err why) result given new
-Presses (stands (is_at_fault fault)) key result given new = Unchanged (stands (is_at_fault fault)) (Err (faults.Wire fault)) result given new
+Presses (stands (has_failed why state)) key result given new = Unchanged (stands (has_failed why state)) (Err why) result given new
+Presses (stands (is_at_fault fault state)) key result given new =
+    Unchanged (stands (is_at_fault fault state)) (Err (faults.Wire fault)) result given new
 Presses starved key result given new = Unchanged starved (Err faults.OutOfMemory) result given new
 
 -- ---- what can be asked
@@ -116,10 +117,10 @@ since now before = record {
   answers = now.answers - before.answers;
 }
 
--- this is what a session that waits has
-abbrev pub OfWaiting : {A : Type 0} → (TerminalState → A) → Talk TerminalState → A → Type 0
-OfWaiting part (stands (waits state left)) value = value ≡ part state
-OfWaiting part talk value = Unit {0}
+-- This is what a session has to which memory was not refused. One that failed has what it was left with.
+abbrev pub OfStanding : {A : Type 0} → (TerminalState → A) → Talk TerminalState → A → Type 0
+OfStanding part (stands standing) value = value ≡ part (state_of standing)
+OfStanding part starved value = Unit {0}
 
 -- a session that failed agreed on nothing
 abbrev pub agreed_in : Talk TerminalState → Option Agreed

@@ -19,7 +19,7 @@ use Rattle.tn_session.specs.Ran.{PassedOver}
 use Rattle.tn_session.specs.Strikes.{Strike}
 use Rattle.tn_session.specs.Talk.{Talk}
 use Rattle.tn_session.specs.TerminalLog.{one_more}
-use Rattle.tn_session.specs.TerminalTalk.{Presses, TerminalTakes, takes_input_in, tolerant_worked, counts_of, since, no_arrival, OfWaiting}
+use Rattle.tn_session.specs.TerminalTalk.{Presses, TerminalTakes, takes_input_in, tolerant_worked, counts_of, since, no_arrival, OfStanding}
 use Rattle.tn_session.specs.Wire.{WireState}
 
 -- how the work of a run stands: the session, the keys that are left, and how many were inhibited
@@ -135,7 +135,7 @@ arrived_in report arrived = (report.answers ≡ arrived.answers) × (report.pass
 abbrev pub Counts : TolerantReport → Working → Type 0
 Counts report work =
     (report.inhibited ≡ work.inhibited)
-    × ((arrived : Arrived) × OfWaiting (λ state. since (counts_of state) no_arrival) work.talk arrived × arrived_in report arrived)
+    × ((arrived : Arrived) × OfStanding (λ state. since (counts_of state) no_arrival) work.talk arrived × arrived_in report arrived)
 
 -- how a run ends whose line gave nothing
 abbrev pub StopsSo : Option Stop → Talk TerminalState → ℕ → Result TolerantReport RunFault → Type 0

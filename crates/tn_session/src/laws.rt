@@ -10,9 +10,9 @@ ghost use Rattle.tn_session.specs.declared.terminal_state.TerminalState.{Termina
 ghost use Rattle.tn_session.specs.Outcomes.{AnswersFinish, AnswersEndLogs, OutcomesAreTouched};
 
 /// The bytes that a stream makes due, and how a run then stands, hang on the stream alone and on no cut of it. Whatever an
-/// event does to a state, bytes have one log at most; and the log of a front of them is followed by the log of the whole:
-/// one that goes on by the log of the other bytes, and one that ended by nothing. So it is with a terminal's run, and with
-/// a host's.
+/// event does to a state, bytes have one log at most, with one state in which it failed, if it did; and the log of a front
+/// of them is followed by the log of the whole: one that goes on by the log of the other bytes, and one that ended by
+/// nothing. So it is with a terminal's run, and with a host's.
 pub fn one_log<S>()
     ensures one { HaveOneLog S }
     ensures front { LogsGoOn S }
@@ -22,7 +22,8 @@ pub fn one_log<S>()
 
 /// How what a session hears is cut into calls doesn't matter. After any calls of `take`, from the beginning of a stream and
 /// with whatever pieces, all bytes that were given are due by the log of the whole, and so the session stands, where memory
-/// was not refused: two sessions that were given the same bytes agree. So it is of a host's session, and of a terminal's.
+/// was not refused: two sessions that were given the same bytes agree, also where they failed. So it is of a host's session,
+/// and of a terminal's.
 pub fn pieces_law<S>()
     ensures log { PiecesHaveLog S }
     ensures cuts { CutsAgree S }
@@ -32,8 +33,9 @@ pub fn pieces_law<S>()
 
 /// A terminal that somebody works. Two terminals that are told the same from the beginning of a session, keys or strokes and
 /// between two of them the same bytes, cut in any two ways, give the same bytes and stand alike: they show the same picture,
-/// and are both in insert mode or neither is. And what a run over a line does with its list of keys or strokes is what a
-/// terminal does that is worked so: it hears the run's events, and is pressed the run's keys, or struck its strokes, in turn.
+/// and are both in insert mode or neither is, also after they failed. And what a run over a line does with its list of keys
+/// or strokes is what a terminal does that is worked so: it hears the run's events, and is pressed the run's keys, or struck
+/// its strokes, in turn.
 pub fn work_law()
     ensures agrees { WorkAgrees }
     ensures runs { RunsAreWorked }

@@ -140,7 +140,7 @@ impl<M: Machine> Session<M> {
         }
     }
 
-    /// The machine of a session that didn't fail.
+    /// The machine of a session. Where it failed it is as that left it.
     pub(crate) fn machine(&self) -> &M
         ensures { IsMachineOf self.now result.now }
     {

@@ -5,7 +5,7 @@ ghost use Rattle.tn_session.specs.declared.progress.Progress.TheVariants.{More};
 ghost use Rattle.tn_session.specs.KeptView.{kept_view};
 ghost use Rattle.tn_session.specs.Strikes.{by_key, by_stroke};
 ghost use Rattle.tn_session.specs.Talk.{Adds};
-ghost use Rattle.tn_session.specs.TerminalTalk.{Presses, new_worked, tolerant_worked, counts_of, since, OfWaiting, agreed_in, lu_name_in, records_kept};
+ghost use Rattle.tn_session.specs.TerminalTalk.{Presses, new_worked, tolerant_worked, counts_of, since, OfStanding, agreed_in, lu_name_in, records_kept};
 ghost use Rattle.tn_session.specs.TerminalTalk.{heard_act, TerminalTakes, Tolerates, TakesByte, tolerates, takes_input, takes_input_in};
 
 use crate::arrived::Arrived;
@@ -261,14 +261,14 @@ impl TerminalSession {
 
     /// Whether insert mode is on. After a fault it is as that left it.
     pub fn inserts(&self) -> bool
-        ensures { OfWaiting (λ state. state.inserts) self.now.talk result }
+        ensures { OfStanding (λ state. state.inserts) self.now.talk result }
     {
         self.session.machine().inserts
     }
 
     /// What the terminal shows and keeps. After a fault it is as that left it.
     pub fn screen(&self) -> &Screen<PlaneCells>
-        ensures { OfWaiting (λ state. state.terminal) self.now.talk result.now }
+        ensures { OfStanding (λ state. state.terminal) self.now.talk result.now }
     {
         self.session.machine().terminal.screen()
     }
@@ -305,7 +305,7 @@ impl TerminalSession {
     /// The text that the host sent a tolerant terminal in records of NVT-DATA: lines of printable ASCII, each with its end, 0A;
     /// at most 1,000 of them, and 65,536 bytes.
     pub fn text(&self) -> &[u8]
-        ensures { OfWaiting (λ state. state.noted.text) self.now.talk result.now }
+        ensures { OfStanding (λ state. state.noted.text) self.now.talk result.now }
     {
         self.session.machine().noted.text()
     }
@@ -319,9 +319,9 @@ impl TerminalSession {
 
     /// What came, and was answered, since this was last asked.
     pub fn arrived(&mut self) -> Arrived
-        ensures arrived { OfWaiting (λ state. since (counts_of state) self.old.told)
+        ensures arrived { OfStanding (λ state. since (counts_of state) self.old.told)
             self.old.talk result }
-        ensures told { OfWaiting counts_of self.old.talk self.new.told }
+        ensures told { OfStanding counts_of self.old.talk self.new.told }
         ensures talk { self.new.talk ≡ self.old.talk }
     {
         let now = self.session.machine().counts();
@@ -339,7 +339,7 @@ impl TerminalSession {
     /// The records that made the screen which is shown, from the last erase on, parted where the operator sent, so that the
     /// screen can be judged as it stands. None past 1,000 records or 8,388,608 bytes, until the next erase.
     pub fn turns(&self) -> Option<&[KeptRecord]>
-        ensures { OfWaiting (λ state. records_kept state.kept) self.now.talk
+        ensures { OfStanding (λ state. records_kept state.kept) self.now.talk
             (option_map (λ records. map kept_view records.now) result) }
     {
         match &self.session.machine().kept {

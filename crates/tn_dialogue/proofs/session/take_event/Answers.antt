@@ -16,5 +16,5 @@ returns-in_err-turn c =
       [],
       sym (append-nil c.args.due.now.items),
       subst (λ z. TakesEvent (dialogue_act c.args.machine.now (told_of c.args.event.now)) z [] c.take.new.self) (sym is)
-          (event_fails (dialogue_act c.args.machine.now (told_of c.args.event.now)) why (cause_of why) c.in_err-turn.ensures),
+          (event_fails (dialogue_act c.args.machine.now (told_of c.args.event.now)) why c.take.new.self (cause_of why) c.in_err-turn.ensures),
     )

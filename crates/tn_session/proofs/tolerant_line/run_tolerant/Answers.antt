@@ -4,7 +4,6 @@ use Rattle.std.proofs.lemmas.List.{length-take}
 use Rattle.std.proofs.lemmas.Result.{err_from_is_err_and}
 use Rattle.tn_session.specs.Ran.{SentOn, Sends}
 use Rattle.tn_session.specs.TerminalTalk.{Worked}
-use Rattle.tn_session.specs.TolerantRuns.{Working}
 use Rattle.tn_session.specs.Wire.{WireState, IsRead}
 use Rattle.tn_session.proofs.TolerantSteps.{no_turn, turns_too_many, turns_stopped, turn_cut, turn_over, turn_failed, turn_more}
 use Rattle.tn_session.proofs.tolerant_line.run_tolerant.Goals as goal

@@ -6,7 +6,8 @@ use Rattle.tn_session.proofs.host_machine.HostMachineMachine.take.Goals as goal
 
 pub returns-in-Err : goal.returns-in-Err
 returns-in-Err c =
-    host_fails c.args.self.now c.self.inside.core (told_of c.args.event.now) c.step.new.self c.in-Err.why c.step.new.out.items (ap (λ (r : HostRunning). r.core) (sym c.self.view_is)) c.in-Err.ensures
+    host_fails c.args.self.now _ c.self.inside.core (told_of c.args.event.now) c.step.new.self c.in-Err.why c.step.new.out.items
+    (ap (λ (r : HostRunning). r.core) (sym c.self.view_is)) c.in-Err.ensures (ap (λ (r : HostRunning). record r { core = c.step.new.self }) c.self.view_is)
 
 pub returns-in-Record : goal.returns-in-Record
 returns-in-Record c =
