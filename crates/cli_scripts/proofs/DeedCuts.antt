@@ -49,8 +49,8 @@ taken_on : (bytes : List ℕ) (a m : At) (r : Result Progress RunFault) (given :
     → BytesOn a bytes given m
 taken_on bytes (waits state left) m r given is takes = by_manner (is_tolerant state.core) state left bytes r given m refl is takes
 taken_on bytes (is_over end) m r given is takes = stayed bytes (is_over end) m given tt takes.1 (stands_same takes.2)
-taken_on bytes (has_failed why) m r given is takes = stayed bytes (has_failed why) m given tt takes.1 (stands_same takes.2)
-taken_on bytes (is_at_fault fault) m r given is takes = stayed bytes (is_at_fault fault) m given tt takes.1 (stands_same takes.2)
+taken_on bytes (has_failed why end) m r given is takes = stayed bytes (has_failed why end) m given tt takes.1 (stands_same takes.2)
+taken_on bytes (is_at_fault fault end) m r given is takes = stayed bytes (is_at_fault fault end) m given tt takes.1 (stands_same takes.2)
 
 -- ---- deeds by which each byte is heard alone
 

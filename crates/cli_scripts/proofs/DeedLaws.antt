@@ -69,27 +69,27 @@ pub ended_bytes : (bytes : List ℕ) (m : At) → IsEnded m → BytesOn m bytes 
 ended_bytes [] m ended = (refl, refl)
 ended_bytes (byte ∷ bytes) (waits state left) ended = absurd ended
 ended_bytes (byte ∷ bytes) (is_over end) ended = ([], is_over end, [], ([], is_over end, (refl, refl), (refl, refl)), ended_bytes bytes (is_over end) tt, refl)
-ended_bytes (byte ∷ bytes) (has_failed why) ended =
-    ([], has_failed why, [], ([], has_failed why, (refl, refl), (refl, refl)), ended_bytes bytes (has_failed why) tt, refl)
-ended_bytes (byte ∷ bytes) (is_at_fault why) ended =
-    ([], is_at_fault why, [], ([], is_at_fault why, (refl, refl), (refl, refl)), ended_bytes bytes (is_at_fault why) tt, refl)
+ended_bytes (byte ∷ bytes) (has_failed why end) ended =
+    ([], has_failed why end, [], ([], has_failed why end, (refl, refl), (refl, refl)), ended_bytes bytes (has_failed why end) tt, refl)
+ended_bytes (byte ∷ bytes) (is_at_fault why end) ended =
+    ([], is_at_fault why end, [], ([], is_at_fault why end, (refl, refl), (refl, refl)), ended_bytes bytes (is_at_fault why end) tt, refl)
 
 pub clash : (m : At) → ◌≡◌ {A = Talk TerminalState} (stands m) starved → ⊥
 clash m is = absurd cc
 
-failed_ended : (why : RunFault) (m : At) → stands m ≡ failed_talk why → IsEnded m
-failed_ended (faults.Wire fault) m is = subst IsEnded (sym (stands_same is)) tt
-failed_ended (faults.Header fault) m is = subst IsEnded (sym (stands_same is)) tt
-failed_ended (faults.Session fault) m is = subst IsEnded (sym (stands_same is)) tt
-failed_ended (faults.Inbound fault) m is = subst IsEnded (sym (stands_same is)) tt
-failed_ended (faults.Bind fault) m is = subst IsEnded (sym (stands_same is)) tt
-failed_ended faults.OutOfMemory m is = absurd (clash m is)
+failed_ended : (why : RunFault) (end : TerminalState) (m : At) → stands m ≡ failed_talk why end → IsEnded m
+failed_ended (faults.Wire fault) end m is = subst IsEnded (sym (stands_same is)) tt
+failed_ended (faults.Header fault) end m is = subst IsEnded (sym (stands_same is)) tt
+failed_ended (faults.Session fault) end m is = subst IsEnded (sym (stands_same is)) tt
+failed_ended (faults.Inbound fault) end m is = subst IsEnded (sym (stands_same is)) tt
+failed_ended (faults.Bind fault) end m is = subst IsEnded (sym (stands_same is)) tt
+failed_ended faults.OutOfMemory end m is = absurd (clash m is)
 
 takes_ended : (a m : At) (bytes : List ℕ) (why : RunFault) (d : List ℕ) → Takes heard_act (stands a) bytes (Err why) d (stands m) → IsEnded m
-takes_ended (waits state left) m bytes why d (went, is) = failed_ended why m is
+takes_ended (waits state left) m bytes why d (end, went, is) = failed_ended why end m is
 takes_ended (is_over end) m bytes why d takes = subst IsEnded (sym (stands_same takes.2)) tt
-takes_ended (has_failed fault) m bytes why d takes = subst IsEnded (sym (stands_same takes.2)) tt
-takes_ended (is_at_fault fault) m bytes why d takes = subst IsEnded (sym (stands_same takes.2)) tt
+takes_ended (has_failed fault end) m bytes why d takes = subst IsEnded (sym (stands_same takes.2)) tt
+takes_ended (is_at_fault fault end) m bytes why d takes = subst IsEnded (sym (stands_same takes.2)) tt
 
 -- ---- calls
 
@@ -159,8 +159,8 @@ pressed_once (waits state left) m n key (Ok x) (Ok y) d e (told, due, is) (also,
 pressed_once (waits state left) m n key (Err x) s d e (why, none, sends, is) q = absurd (clash m is)
 pressed_once (waits state left) m n key (Ok x) (Err y) d e p (why, none, sends, is) = absurd (clash n is)
 pressed_once (is_over end) m n key r s d e p q = (p.1 ∙ sym q.1, stands_same (p.2 ∙ sym q.2))
-pressed_once (has_failed why) m n key r s d e p q = (p.1 ∙ sym q.1, stands_same (p.2 ∙ sym q.2))
-pressed_once (is_at_fault why) m n key r s d e p q = (p.1 ∙ sym q.1, stands_same (p.2 ∙ sym q.2))
+pressed_once (has_failed why end) m n key r s d e p q = (p.1 ∙ sym q.1, stands_same (p.2 ∙ sym q.2))
+pressed_once (is_at_fault why end) m n key r s d e p q = (p.1 ∙ sym q.1, stands_same (p.2 ∙ sym q.2))
 
 -- ---- deeds
 

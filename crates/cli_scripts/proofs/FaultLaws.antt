@@ -11,26 +11,26 @@ use Rattle.tn_session.specs.Talk.{Talk, stands, starved, failed_talk, Hears, Tak
 use Rattle.tn_session.specs.TerminalTalk.{TerminalTakes, TakesAs, Tolerates, TakesByte, GoesOnBy, Ends, begins_between, heard_act, tolerates}
 use Rattle.cli_scripts.specs.Desks.{fault_in, why_of}
 
-failed_so : (why : RunFault) → fault_in (failed_talk why) ≡ Some why
-failed_so (Wire fault) = refl
-failed_so (Header fault) = refl
-failed_so (Session fault) = refl
-failed_so (Inbound refused) = refl
-failed_so (Bind fault) = refl
-failed_so OutOfMemory = refl
+failed_so : (why : RunFault) (state : TerminalState) → fault_in (failed_talk why state) ≡ Some why
+failed_so (Wire fault) state = refl
+failed_so (Header fault) state = refl
+failed_so (Session fault) state = refl
+failed_so (Inbound refused) state = refl
+failed_so (Bind fault) state = refl
+failed_so OutOfMemory state = refl
 
 heard_fault : (state : TerminalState) (before piece : List ℕ) (result : Result Progress RunFault) (given : List ℕ) (new : Talk TerminalState)
     → Hears heard_act before state piece result given new → fault_in new ≡ why_of result
 heard_fault state before piece (Ok More) given new (next, left, goes, is) = ap fault_in is
 heard_fault state before piece (Ok (Done taken)) given new (end, bound, ends, is) = ap fault_in is
-heard_fault state before piece (Err why) given new (fails, is) = ap fault_in is ∙ failed_so why
+heard_fault state before piece (Err why) given new (end, fails, is) = ap fault_in is ∙ failed_so why end
 
 taken_fault : (old : Talk TerminalState) (piece : List ℕ) (result : Result Progress RunFault) (given : List ℕ) (new : Talk TerminalState)
     → Takes heard_act old piece result given new → fault_in new ≡ why_of result
 taken_fault (stands (waits state before)) piece result given new hears = heard_fault state before piece result given new hears
 taken_fault (stands (is_over end)) piece result given new (is, none, same) = ap fault_in same ∙ sym (ap why_of is)
-taken_fault (stands (has_failed why)) piece result given new (is, none, same) = ap fault_in same ∙ sym (ap why_of is)
-taken_fault (stands (is_at_fault fault)) piece result given new (is, none, same) = ap fault_in same ∙ sym (ap why_of is)
+taken_fault (stands (has_failed why end)) piece result given new (is, none, same) = ap fault_in same ∙ sym (ap why_of is)
+taken_fault (stands (is_at_fault fault end)) piece result given new (is, none, same) = ap fault_in same ∙ sym (ap why_of is)
 taken_fault starved piece result given new (is, none, same) = ap fault_in same ∙ sym (ap why_of is)
 
 ends_fault : (ends : Bool) (first : Result Progress RunFault) (due : List ℕ) (mid : Talk TerminalState) (result : Result Progress RunFault) (given : List ℕ)
@@ -65,8 +65,8 @@ as_fault true old bytes result given new none takes = all_fault bytes old result
 tolerant_waits : (old : Talk TerminalState) → tolerates old ≡ true → fault_in old ≡ None
 tolerant_waits (stands (waits state left)) is = refl
 tolerant_waits (stands (is_over end)) is = refl
-tolerant_waits (stands (has_failed why)) is = absurd cc
-tolerant_waits (stands (is_at_fault fault)) is = absurd cc
+tolerant_waits (stands (has_failed why end)) is = absurd cc
+tolerant_waits (stands (is_at_fault fault end)) is = absurd cc
 tolerant_waits starved is = absurd cc
 
 -- it failed for the reason that it answers

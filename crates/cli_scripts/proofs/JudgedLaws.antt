@@ -3,11 +3,13 @@ use Rattle.std.proofs.Common.{◌≡◌, ℕ, Bool, true, List, [], ◌∷◌, �
 use Rattle.std.specs.Bool.{OnTrue}
 use Rattle.std.specs.Io.KnownBytes.{Appends}
 use Rattle.std.proofs.lemmas.Bool.{OnTrue_at, OnTrue_from}
+use Rattle.std.proofs.lemmas.List.{append-nil}
 use Rattle.cli_commands.proofs.Prefixes.{appends_more}
 use Rattle.script_checks.specs.Report.{Judging, judging_after, report_due}
 use Rattle.cli_scripts.specs.Desks.{Worked}
 use Rattle.cli_scripts.specs.Judged.{Judges, judged_all, reports_of}
 use Rattle.cli_scripts.specs.SentOn.{SentOn}
+use Rattle.cli_scripts.proofs.WorkLaws.{written_none}
 
 pub judged_more : (judging : Judging) (early late : List SentOn) → judged_all judging (early ++ late) ≡ judged_all (judged_all judging early) late
 judged_more judging [] late = refl
@@ -38,4 +40,15 @@ judges_more old before mid new judging now later was told written mid_written en
           (appends_more written mid_written end (reports_of judging so.screens) (reports_of (judged_all judging so.screens) mid.unjudged)
           (OnTrue_at (only yes) so.reported)
           (subst (λ (z : Judging). Appends mid_written end (reports_of z mid.unjudged)) so.after (OnTrue_at yes more))));
+    }
+
+-- none were judged yet
+pub judges_none : (old : Worked) (judging : Judging) (written : Option (List ℕ)) → Judges old old judging judging true written written
+judges_none old judging written =
+    record {
+      screens = [];
+      handed = sym (append-nil old.judged);
+      collects = refl;
+      after = refl;
+      reported = OnTrue_from true (Appends written written []) (λ _. written_none written);
     }

@@ -8,6 +8,7 @@ mod DeedCuts
 mod Presses
 mod WorkLaws
 mod JudgedLaws
+mod EndLaws
 mod ActLaws
 mod WaitLaws
 mod SayLaws
@@ -20,8 +21,10 @@ mod ResumeLaws
 mod LineLaws
 mod PerformLaws
 mod TakeLaws
+mod LongLines
 mod RunLaws
 mod Typed
+mod Sound
 mod SameSteps
 mod TextOnce
 mod ActOnce

@@ -30,8 +30,8 @@ pub presses_ok : (talk : Talk TerminalState) (key : Key) (found : Pressed) (give
     → (found ≡ answer_to talk key) × (new ≡ after_key talk key)
 presses_ok (stands (waits state left)) key found given new (answer, due, then) = (answer, then)
 presses_ok (stands (is_over end)) key found given new (word, due, then) = (ap found_in word, then)
-presses_ok (stands (has_failed why)) key found given new (word, due, then) = absurd cc
-presses_ok (stands (is_at_fault fault)) key found given new (word, due, then) = absurd cc
+presses_ok (stands (has_failed why end)) key found given new (word, due, then) = absurd cc
+presses_ok (stands (is_at_fault fault end)) key found given new (word, due, then) = absurd cc
 presses_ok starved key found given new (word, due, then) = absurd cc
 
 -- one at a session that failed
@@ -39,8 +39,8 @@ pub presses_err : (talk : Talk TerminalState) (key : Key) (why : RunFault) (give
     → why ≢ OutOfMemory → (Ignored ≡ answer_to talk key) × (new ≡ after_key talk key)
 presses_err (stands (waits state left)) key why given new (memory, due, sent, then) other = absurd (other memory)
 presses_err (stands (is_over end)) key why given new (word, due, then) other = absurd cc
-presses_err (stands (has_failed cause)) key why given new (word, due, then) other = (refl, then)
-presses_err (stands (is_at_fault fault)) key why given new (word, due, then) other = (refl, then)
+presses_err (stands (has_failed cause end)) key why given new (word, due, then) other = (refl, then)
+presses_err (stands (is_at_fault fault end)) key why given new (word, due, then) other = (refl, then)
 presses_err starved key why given new (word, due, then) other = absurd (other (ap fault_in word))
 
 -- ---- keys and then others

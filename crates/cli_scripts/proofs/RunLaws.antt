@@ -1,5 +1,5 @@
 -- What came of a script and of hosts, in turn.
-use Rattle.std.proofs.Common.{◌≡◌, ◌≢◌, ◌++◌, ◌∷◌, ◌≤◌, ◌<◌, ℕ, Bool, true, false, nat_lt, cond, List, [], map, length, take, None, Some, Ok, Err, sym, ap, ◌∙◌, subst, refl, arith, inl, inr, append_assoc}
+use Rattle.std.proofs.Common.{◌≡◌, ◌≢◌, ◌++◌, ◌∷◌, ◌+◌, ◌≤◌, ◌<◌, ℕ, Bool, true, false, nat_lt, cond, List, [], map, length, length-append, take, None, Some, Ok, Err, sym, ap, ◌∙◌, subst, refl, arith, inl, inr, append_assoc}
 use Rattle.std.specs.Prelude.{Option, Result, All, IfOk, IfSome, min}
 use Rattle.std.proofs.Math.Nat.{min-eq_left}
 use Rattle.std.specs.declared.alloc.AllocError.{AllocError}
@@ -7,7 +7,7 @@ use Rattle.std.specs.Io.KnownBytes.{prepend_known}
 use Rattle.bstr.specs.Text.{without_terminator}
 use Rattle.cli_commands.specs.declared.fault.CommandError.{CommandError}
 use Rattle.cli_commands.specs.declared.fault.CommandError.TheVariants.{Fault, ReadFailed, OutOfMemory}
-use Rattle.cli_commands.specs.NextLine.{ReadsLine}
+use Rattle.cli_commands.specs.NextLine.{ReadsLine, ReadsSome}
 use Rattle.cli_scripts.specs.Judged.{ended_by}
 use Rattle.cli_scripts.specs.declared.run.Ended.TheVariants.{Over}
 use Rattle.cli_scripts.specs.declared.script.Asked.TheVariants as asked
@@ -24,7 +24,7 @@ use Rattle.cli_scripts.specs.declared.came.Need.TheVariants as needs
 use Rattle.cli_scripts.specs.declared.came.Wants.{Wants}
 use Rattle.cli_scripts.specs.declared.came.Wants.TheVariants as wanted
 use Rattle.cli_scripts.specs.Machines.{AnswersSo, HearsNext, Scripted, goes_on}
-use Rattle.cli_scripts.specs.Runs.{AreRead, AsksFor, AreScript, Event, a_line, a_long_line, some_bytes, nothing_yet, not_in_time, the_end, event_of, GivesLine, GivesNeed, Goes, IsEnd, IsEndAt, HasEnded, IsGiven, IsLine, IsShort, Meets, Ran, Takes, Turned, Turns, all_bytes, bytes_of, handed_desk, handed_out, kept_line, line_of, lines_of, need_of}
+use Rattle.cli_scripts.specs.Runs.{AreRead, AsksFor, AreScript, Event, a_line, a_long_line, some_bytes, nothing_yet, not_in_time, the_end, event_of, GivesLine, GivesNeed, Goes, IsEnd, IsEndAt, HasEnded, IsGiven, IsLine, IsShort, Meets, PassesLine, Ran, Takes, Turned, Turns, all_bytes, bytes_of, handed_desk, handed_out, kept_line, line_of, lines_of, need_of}
 
 turns_more : (events : List Event) (wants : Wants) (old : Scripted) (last : Wants) (mid : Scripted) (event : Event) (next : Wants) (taken : Scripted)
     → Turns events wants old last mid → IsGiven last event → Takes event mid next taken → Turns (events ++ event ∷ []) wants old next (handed_out taken)
@@ -49,10 +49,11 @@ bytes_more (one ∷ events) event =
     ap (λ z. bytes_of one ++ z) (bytes_more events event) ∙ sym (append_assoc (bytes_of one) (all_bytes events) (bytes_of event))
 
 -- nothing came yet
-pub goes_none : (old : Scripted) (known : Option (List ℕ)) (received : List ℕ) → Goes old wanted.Line old known known received received
-goes_none old known received = record { events = []; turns = (refl, refl); reads = refl; came = sym (append-nil received) }
+pub goes_none : (old : Scripted) (known : Option (List ℕ)) (received : List ℕ)
+    → (so : Goes old wanted.Line old known known received received) × (length so.events ≡ 0)
+goes_none old known received = (record { events = []; turns = (refl, refl); reads = refl; came = sym (append-nil received) }, refl)
 
-pub goes_more : (old mid taken new : Scripted) (wants next : Wants) (known now left : Option (List ℕ))
+goes_more : (old mid taken new : Scripted) (wants next : Wants) (known now left : Option (List ℕ))
     (received mid_received new_received end_received : List ℕ) → Goes old wants mid known now received mid_received
     → Turned wants mid next taken now left mid_received new_received → new ≡ handed_out taken → end_received ≡ new_received
     → Goes old next new known left received end_received
@@ -66,6 +67,18 @@ goes_more old mid taken new wants next known now left received mid_received new_
       came = silent ∙ turn.came ∙ ap (λ z. z ++ bytes_of turn.event) so.came ∙ append_assoc received (all_bytes so.events) (bytes_of turn.event)
           ∙ ap (λ z. received ++ z) (sym (bytes_more so.events turn.event));
     }
+
+-- and so many turns were made
+pub goes_counted : (old mid taken new : Scripted) (wants next : Wants) (known now left : Option (List ℕ))
+    (received mid_received new_received end_received : List ℕ) (count : ℕ)
+    → (so : Goes old wants mid known now received mid_received) × (length so.events ≡ count)
+    → Turned wants mid next taken now left mid_received new_received → new ≡ handed_out taken → end_received ≡ new_received
+    → (so : Goes old next new known left received end_received) × (length so.events ≡ count + 1)
+unfolding goes_more
+goes_counted old mid taken new wants next known now left received mid_received new_received end_received count (so, is) turn handed silent = (
+  goes_more old mid taken new wants next known now left received mid_received new_received end_received so turn handed silent,
+  length-append so.events (turn.event ∷ []) ∙ ap (λ (n : ℕ). n + 1) is,
+)
 
 -- ---- the script's end
 
@@ -276,22 +289,24 @@ pub asks_line : (known left : Option (List ℕ)) (line : List ℕ) → length (w
 asks_line None left line few reads = tt
 asks_line (Some bytes) left line few (first, rest, cut, inl (left_is, is), some, fits, exact) =
     (first, rest, cut, λ short. (ap Some is ∙ sym (kept_short first (subst (λ z. length z ≤ 65536) is few)), left_is))
-asks_line (Some bytes) left line few (first, rest, cut, inr (long, also), some, fits, exact) = (first, rest, cut, λ short. absurd (omega (arith, short, long)))
+asks_line (Some bytes) left line few (first, rest, cut, inr (long, also), some, fits, exact) = absurd (omega (arith, few, also))
 
 -- a line that is too long, of which no more was read
 pub asks_long : (known left : Option (List ℕ)) (line other : List ℕ) → 65536 < length (without_terminator line)
-    → IfSome known (λ bytes. ReadsLine bytes true line left) → IfSome known (λ bytes. AsksFor bytes asked.LongLine other left)
-asks_long None left line other long reads = tt
-asks_long (Some bytes) left line other long (first, rest, cut, inl (left_is, is), some, fits, exact) =
+    → length (without_terminator line) ≤ 16777216 → IfSome known (λ bytes. ReadsLine bytes true line left)
+    → IfSome known (λ bytes. AsksFor bytes asked.LongLine other left)
+asks_long None left line other long few reads = tt
+asks_long (Some bytes) left line other long few (first, rest, cut, inl (left_is, is), some, fits, exact) =
     (first, rest, cut, λ short. (sym (kept_long first (subst (λ z. 65536 < length z) is long)), left_is))
-asks_long (Some bytes) left line other long (first, rest, cut, inr (more_long, also), some, fits, exact) =
-    (first, rest, cut, λ short. absurd (omega (arith, short, more_long)))
+asks_long (Some bytes) left line other long few (first, rest, cut, inr (more_long, also), some, fits, exact) = absurd (omega (arith, few, also))
 
--- and one of which more may have been read
-pub asks_longer : (known left after : Option (List ℕ)) (line other : List ℕ) → 16777216 < length (without_terminator line)
-    → IfSome known (λ bytes. ReadsLine bytes true line left) → IfSome known (λ bytes. AsksFor bytes asked.LongLine other after)
-asks_longer None left after line other long reads = tt
-asks_longer (Some bytes) left after line other long (first, rest, cut, inl (left_is, is), some, fits, exact) =
-    (first, rest, cut, λ short. absurd (omega (arith, short, subst (λ z. 16777216 < length z) is long)))
-asks_longer (Some bytes) left after line other long (first, rest, cut, inr (more_long, also), some, fits, exact) =
-    (first, rest, cut, λ short. absurd (omega (arith, short, more_long)))
+-- and one of which the rest was read
+pub asks_longer : (known now left : Option (List ℕ)) (line other : List ℕ) → IfSome known (λ bytes. ReadsSome bytes true line now)
+    → IfSome now (λ bytes. PassesLine line bytes left) → IfSome known (λ bytes. AsksFor bytes asked.LongLine other left)
+asks_longer None now left line other reads passes = tt
+asks_longer (Some bytes) None left line other (some, (rest, is, cut, apart)) passes = absurd cc
+asks_longer (Some bytes) (Some more) left line other (some, (rest, is, cut, apart)) (first, after, lines, long, at) =
+    (first, after, ap lines_in (cut ∙ ap (λ z. line ++ z) (sym (same_some more rest is))) ∙ lines, λ short. (sym (kept_long first long), at short))
+  where
+    same_some : (a b : List ℕ) → Some a ≡ Some b → a ≡ b
+    same_some a b same = cc

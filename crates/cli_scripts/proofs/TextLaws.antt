@@ -11,7 +11,7 @@ use Rattle.tn_session.specs.OneLog.{waits, is_over, has_failed, is_at_fault}
 use Rattle.tn_session.specs.Strikes.{by_key}
 use Rattle.tn_session.specs.Talk.{Talk, stands, starved}
 use Rattle.std.specs.Prelude.{is_some}
-use Rattle.tn_session.specs.TerminalTalk.{OfWaiting, worked}
+use Rattle.tn_session.specs.TerminalTalk.{OfStanding, worked}
 use Rattle.cli_scripts.specs.declared.doing.Step.{Step}
 use Rattle.cli_scripts.specs.declared.doing.Typing.{Typing}
 use Rattle.cli_scripts.specs.declared.deed.Deed.TheVariants.{Pressed as PressedKey}
@@ -107,8 +107,8 @@ piece_after page fills (stands (waits state left)) text rest after piece answer 
           (at_front mid.talk now left (λ t s. new.talk ≡ after_keys t (piece_keys fills s piece)) here leads) says,
     )
 piece_after page fills (stands (is_over end)) text rest after piece answer old mid new before between said went next does leads is says = tt
-piece_after page fills (stands (has_failed why)) text rest after piece answer old mid new before between said went next does leads is says = tt
-piece_after page fills (stands (is_at_fault fault)) text rest after piece answer old mid new before between said went next does leads is says = tt
+piece_after page fills (stands (has_failed why end)) text rest after piece answer old mid new before between said went next does leads is says = tt
+piece_after page fills (stands (is_at_fault fault end)) text rest after piece answer old mid new before between said went next does leads is says = tt
 piece_after page fills starved text rest after piece answer old mid new before between said went next does leads is says = tt
 
 -- after one that lets the next be typed the front is longer
@@ -121,8 +121,8 @@ goes_further page fills (stands (waits state left)) text rest answer old new bef
   done,
 )
 goes_further page fills (stands (is_over end)) text rest answer old new before said stopped on = tt
-goes_further page fills (stands (has_failed why)) text rest answer old new before said stopped on = tt
-goes_further page fills (stands (is_at_fault fault)) text rest answer old new before said stopped on = tt
+goes_further page fills (stands (has_failed why end)) text rest answer old new before said stopped on = tt
+goes_further page fills (stands (is_at_fault fault end)) text rest answer old new before said stopped on = tt
 goes_further page fills starved text rest answer old new before said stopped on = tt
 
 -- nothing was typed yet
@@ -131,40 +131,40 @@ went_nowhere page fills text old before = nowhere old.talk refl where
   nowhere : (talk : Talk TerminalState) → old.talk ≡ talk → WentOn page fills talk text text old old before before
   nowhere (stands (waits state left)) is = ([], refl, refl, (sym (append-nil old.deeds), is, sym (append-nil before)))
   nowhere (stands (is_over end)) is = tt
-  nowhere (stands (has_failed why)) is = tt
-  nowhere (stands (is_at_fault fault)) is = tt
+  nowhere (stands (has_failed why end)) is = tt
+  nowhere (stands (is_at_fault fault end)) is = tt
   nowhere starved is = tt
 
 -- ---- a whole text
 
 pub text_waits : (host : Option NamedHost) (b : Bool) (page : CodePage) (fills : Bool) (typing : Typing) (step : Step) (old new : Worked) (before after : List ℕ)
-    → old.host ≡ host → is_some host ≡ true → OfWaiting (λ state. is_waiting state.terminal.lock) old.talk b → b ≡ true
+    → old.host ≡ host → is_some host ≡ true → OfStanding (λ state. is_waiting state.terminal.lock) old.talk b → b ≡ true
     → TypesBy true false page fills typing step old new before after → TypesText page fills typing step old new before after
 text_waits None b page fills typing step old new before after is some here did holds = absurd cc
 text_waits (Some host) b page fills typing step old new before after is some here did holds =
     subst (λ (h : Option NamedHost). TypesAt h page fills typing step old new before after) (sym is) (chosen old.talk here) where
-      chosen : (talk : Talk TerminalState) → OfWaiting (λ state. is_waiting state.terminal.lock) talk b
+      chosen : (talk : Talk TerminalState) → OfStanding (λ state. is_waiting state.terminal.lock) talk b
           → OnWaiting talk (λ state. TypesBy (is_waiting state.terminal.lock) (is_error state.terminal.lock && is_text typing.text.items) page fills typing step old new before after)
       chosen (stands (waits state left)) so =
           subst (λ z. TypesBy z (is_error state.terminal.lock && is_text typing.text.items) page fills typing step old new before after) (sym did ∙ so) holds
       chosen (stands (is_over end)) so = tt
-      chosen (stands (has_failed why)) so = tt
-      chosen (stands (is_at_fault fault)) so = tt
+      chosen (stands (has_failed why end)) so = tt
+      chosen (stands (is_at_fault fault end)) so = tt
       chosen starved so = tt
 
 pub text_goes : (host : Option NamedHost) (b e fails : Bool) (page : CodePage) (fills : Bool) (typing : Typing) (step : Step) (old new : Worked) (before after : List ℕ)
-    → old.host ≡ host → is_some host ≡ true → OfWaiting (λ state. is_waiting state.terminal.lock) old.talk b → b ≡ false
-    → OfWaiting (λ state. is_error state.terminal.lock) old.talk e → (e && is_text typing.text.items) ≡ fails
+    → old.host ≡ host → is_some host ≡ true → OfStanding (λ state. is_waiting state.terminal.lock) old.talk b → b ≡ false
+    → OfStanding (λ state. is_error state.terminal.lock) old.talk e → (e && is_text typing.text.items) ≡ fails
     → TypesBy false fails page fills typing step old new before after → TypesText page fills typing step old new before after
 text_goes None b e fails page fills typing step old new before after is some here free error test holds = absurd cc
 text_goes (Some host) b e fails page fills typing step old new before after is some here free error test holds =
     subst (λ (h : Option NamedHost). TypesAt h page fills typing step old new before after) (sym is) (chosen old.talk here error) where
-      chosen : (talk : Talk TerminalState) → OfWaiting (λ state. is_waiting state.terminal.lock) talk b → OfWaiting (λ state. is_error state.terminal.lock) talk e
+      chosen : (talk : Talk TerminalState) → OfStanding (λ state. is_waiting state.terminal.lock) talk b → OfStanding (λ state. is_error state.terminal.lock) talk e
           → OnWaiting talk (λ state. TypesBy (is_waiting state.terminal.lock) (is_error state.terminal.lock && is_text typing.text.items) page fills typing step old new before after)
       chosen (stands (waits state left)) so wrong =
           subst (λ z. TypesBy z (is_error state.terminal.lock && is_text typing.text.items) page fills typing step old new before after) (sym free ∙ so)
           (subst (λ z. TypesBy false z page fills typing step old new before after) (sym test ∙ ap (λ z. z && is_text typing.text.items) wrong) holds)
       chosen (stands (is_over end)) so wrong = tt
-      chosen (stands (has_failed why)) so wrong = tt
-      chosen (stands (is_at_fault fault)) so wrong = tt
+      chosen (stands (has_failed why end)) so wrong = tt
+      chosen (stands (is_at_fault fault end)) so wrong = tt
       chosen starved so wrong = tt

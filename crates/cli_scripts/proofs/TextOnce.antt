@@ -11,7 +11,7 @@ use Rattle.tn_session.specs.declared.pressed.Pressed.TheVariants.{Done, Inhibite
 use Rattle.tn_session.specs.declared.terminal_state.TerminalState.{TerminalState}
 use Rattle.tn_session.specs.OneLog.{waits}
 use Rattle.tn_session.specs.Talk.{Talk, stands}
-use Rattle.tn_session.specs.TerminalTalk.{OfWaiting}
+use Rattle.tn_session.specs.TerminalTalk.{OfStanding}
 use Rattle.cli_scripts.specs.Acts.{PressesOnly}
 use Rattle.cli_scripts.specs.declared.deed.Deed.{Deed}
 use Rattle.cli_scripts.specs.declared.deed.Deed.TheVariants.{Pressed as PressedKey}
@@ -24,9 +24,11 @@ use Rattle.cli_scripts.specs.Desks.{NamedHost, Worked, is_error, is_waiting}
 use Rattle.cli_scripts.specs.Keying.{OnWaiting}
 use Rattle.cli_scripts.specs.Pressing.{after_keys}
 use Rattle.cli_scripts.specs.Says.{EndsSaying}
+use Rattle.cli_scripts.specs.RunLaws.{IsSound, StandsSo}
 use Rattle.cli_scripts.specs.Steps.{IsTypedLater}
 use Rattle.cli_scripts.specs.TypedTexts.{goes_on, answer_of_piece, after_piece, after_pieces, keys_of_pieces, said_of_pieces, all_go_on, ArePieces, WentOn, StoppedAt, Cancels, TypedFree, TypesFree, TypesAt, TypesBy, TypesText, column_of, is_text, margin_keys, operator_said}
 use Rattle.cli_scripts.proofs.SameSteps.{SameStep, later_alike, steps_alike}
+use Rattle.cli_scripts.proofs.Sound.{at_host, listening}
 use Rattle.cli_scripts.proofs.Typed.{pressed_once}
 
 -- ---- pieces, up to where the typing stops
@@ -195,8 +197,8 @@ free_once : (page : CodePage) (fills : Bool) (left : List ℕ) (state : Terminal
     (before after also : List ℕ) → old.talk ≡ stands (waits state left) → TypesFree page fills step text old new before after
     → TypesFree page fills other text old newer before also → SameText step other new.deeds newer.deeds after also
 free_once page fills left state step other text old new newer before after also is (column, here, typed) (place, there, types) =
-    let one : column ≡ column_of state.terminal = subst (λ (t : Talk TerminalState). OfWaiting (λ s. column_of s.terminal) t column) is here in
-    let two : place ≡ column_of state.terminal = subst (λ (t : Talk TerminalState). OfWaiting (λ s. column_of s.terminal) t place) is there in
+    let one : column ≡ column_of state.terminal = subst (λ (t : Talk TerminalState). OfStanding (λ s. column_of s.terminal) t column) is here in
+    let two : place ≡ column_of state.terminal = subst (λ (t : Talk TerminalState). OfStanding (λ s. column_of s.terminal) t place) is there in
     frees_once page fills column left state step other text old.deeds new.deeds newer.deeds before after also
     (runs_free page fills column left state step text old new before after is typed)
     (runs_free page fills column left state other text old newer before also is
@@ -221,14 +223,15 @@ typing_once false false page fills left state typing texting step other old new 
     free_once page fills left state step other typing.text.items old new newer before after also is p
     (subst (λ (z : List ℕ). TypesFree page fills other z old newer before also) (sym same) q)
 
-text_at : (host : Option NamedHost) (page : CodePage) (fills : Bool) (left : List ℕ) (state : TerminalState) (typing texting : Typing) (step other : Step)
+text_at : (host : Option NamedHost) (page : CodePage) (fills : Bool) (typing texting : Typing) (step other : Step)
     (old new newer : Worked) (before after also : List ℕ) → typing.text.items ≡ texting.text.items → typing.after_send ≡ texting.after_send
-    → old.talk ≡ stands (waits state left) → TypesAt host page fills typing step old new before after → TypesAt host page fills texting other old newer before also
+    → StandsSo host old.talk → TypesAt host page fills typing step old new before after → TypesAt host page fills texting other old newer before also
     → SameText step other new.deeds newer.deeds after also
-text_at None page fills left state typing texting step other old new newer before after also same sends is (c, d) (c2, d2) =
+text_at None page fills typing texting step other old new newer before after also same sends sound (c, d) (c2, d2) =
     let one = cancels_once (is_text typing.text.items) step other before after also c
     (subst (λ (z : List ℕ). Cancels (is_text z) other before also) (sym same) c2) in (one.0, d ∙ sym d2, one.1)
-text_at (Some host) page fills left state typing texting step other old new newer before after also same sends is p q =
+text_at (Some host) page fills typing texting step other old new newer before after also same sends sound p q =
+    let (state, left, is) = listening old.talk (at_host host old.talk sound) in
     let here = returned old.talk state left
     (λ s. TypesBy (is_waiting s.terminal.lock) (is_error s.terminal.lock && is_text typing.text.items) page fills typing step old new before after) is p in
     let there = returned old.talk state left
@@ -239,11 +242,11 @@ text_at (Some host) page fills left state typing texting step other old new newe
     (sym same) there)
 
 -- of texts that are the same, at a terminal at which keys alone are pressed
-pub text_once : (page : CodePage) (fills : Bool) (left : List ℕ) (state : TerminalState) (typing texting : Typing) (step other : Step)
+pub text_once : (page : CodePage) (fills : Bool) (typing texting : Typing) (step other : Step)
     (old new newer : Worked) (before after also : List ℕ) → typing.text.items ≡ texting.text.items → typing.after_send ≡ texting.after_send
-    → old.talk ≡ stands (waits state left) → PressesOnly old new → PressesOnly old newer
+    → IsSound old → PressesOnly old new → PressesOnly old newer
     → TypesText page fills typing step old new before after → TypesText page fills texting other old newer before also
     → SameStep step other × (new ≡ newer) × (after ≡ also)
-text_once page fills left state typing texting step other old new newer before after also same sends is only alone p q =
-    let all = text_at old.host page fills left state typing texting step other old new newer before after also same sends is p q in
+text_once page fills typing texting step other old new newer before after also same sends sound only alone p q =
+    let all = text_at old.host page fills typing texting step other old new newer before after also same sends sound p q in
     (all.0, pressed_once old new newer only alone all.1, all.2)

@@ -40,7 +40,7 @@ run_of state = record { state = state; keys = [] }
 abbrev IsTolerantOn : Course TerminalState → Type 0
 IsTolerantOn (goes state) = is_tolerant state.core ≡ true
 IsTolerantOn (finishes state) = is_tolerant state.core ≡ true
-IsTolerantOn (fails why) = Unit {0}
+IsTolerantOn (fails why end) = Unit {0}
 
 abbrev StaysSo : Log TerminalRunning → Type 0
 StaysSo log = IsTolerantOn (unkeyed log).course
@@ -150,7 +150,7 @@ course_on : (due : List ℕ) (course : Course TerminalState) (later : TerminalSt
     → ((next : TerminalState) → is_tolerant next.core ≡ true → IsTolerantOn (later next).course) → IsTolerantOn (log_on due course later).course
 course_on due (goes state) later is then_so = then_so state is
 course_on due (finishes state) later is then_so = is
-course_on due (fails why) later is then_so = tt
+course_on due (fails why end) later is then_so = tt
 
 events_so : (events : List Told) (state : TerminalState) → is_tolerant state.core ≡ true → IsTolerantOn (log_of heard_act state events).course
 events_so [] state is = is
@@ -167,11 +167,11 @@ pub log_so : (a m : Standing TerminalState) (bytes due : List ℕ) → IsToleran
 log_so (waits s l) (waits n k) bytes due is log =
     subst (λ (z : Log TerminalState). IsTolerantOn z.course) log.log (events_so log.events s is)
 log_so (waits s l) (is_over n) bytes due is log = tt
-log_so (waits s l) (has_failed why) bytes due is log = tt
-log_so (waits s l) (is_at_fault fault) bytes due is log = tt
+log_so (waits s l) (has_failed why end) bytes due is log = tt
+log_so (waits s l) (is_at_fault fault end) bytes due is log = tt
 log_so (is_over s) m bytes due is log = subst IsTolerantAt (sym log.1) tt
-log_so (has_failed why) m bytes due is log = subst IsTolerantAt (sym log.1) tt
-log_so (is_at_fault fault) m bytes due is log = subst IsTolerantAt (sym log.1) tt
+log_so (has_failed why end) m bytes due is log = subst IsTolerantAt (sym log.1) tt
+log_so (is_at_fault fault end) m bytes due is log = subst IsTolerantAt (sym log.1) tt
 
 -- ---- keys
 
@@ -185,5 +185,5 @@ key_so (waits s l) m key (Ok answer) due is (told, gave, so) =
     subst IsTolerantAt (sym (stands_same so)) (subst (λ (c : EndCore). is_tolerant c ≡ true) (sym (worked_core (core_agreed s.core) s key)) is)
 key_so (waits s l) m key (Err why) due is (out, none, sends, so) = let clash : ◌≡◌ {A = Talk TerminalState} (stands m) starved = so in absurd cc
 key_so (is_over s) m key r due is p = subst IsTolerantAt (sym (stands_same p.2)) tt
-key_so (has_failed why) m key r due is p = subst IsTolerantAt (sym (stands_same p.2)) tt
-key_so (is_at_fault fault) m key r due is p = subst IsTolerantAt (sym (stands_same p.2)) tt
+key_so (has_failed why end) m key r due is p = subst IsTolerantAt (sym (stands_same p.2)) tt
+key_so (is_at_fault fault end) m key r due is p = subst IsTolerantAt (sym (stands_same p.2)) tt

@@ -26,16 +26,16 @@ pub given_ok : (talk : Talk TerminalState) (key : Key) (found : Pressed) (given 
     → given ≡ due_for talk key
 given_ok (stands (waits state left)) key found given new (answer, due, then) = due
 given_ok (stands (is_over end)) key found given new (word, due, then) = due
-given_ok (stands (has_failed why)) key found given new (word, due, then) = absurd cc
-given_ok (stands (is_at_fault fault)) key found given new (word, due, then) = absurd cc
+given_ok (stands (has_failed why end)) key found given new (word, due, then) = absurd cc
+given_ok (stands (is_at_fault fault end)) key found given new (word, due, then) = absurd cc
 given_ok starved key found given new (word, due, then) = absurd cc
 
 pub given_err : (talk : Talk TerminalState) (key : Key) (why : RunFault) (given : List ℕ) (new : Talk TerminalState) → Presses talk (by_key key) (Err why) given new
     → why ≢ OutOfMemory → given ≡ due_for talk key
 given_err (stands (waits state left)) key why given new (memory, due, sent, then) other = absurd (other memory)
 given_err (stands (is_over end)) key why given new (word, due, then) other = due
-given_err (stands (has_failed cause)) key why given new (word, due, then) other = due
-given_err (stands (is_at_fault fault)) key why given new (word, due, then) other = due
+given_err (stands (has_failed cause end)) key why given new (word, due, then) other = due
+given_err (stands (is_at_fault fault end)) key why given new (word, due, then) other = due
 given_err starved key why given new (word, due, then) other = due
 
 -- each part of a terminal after a key

@@ -1,5 +1,6 @@
 -- What is written of the answers that are handed out.
-use Rattle.std.proofs.Common.{◌≡◌, ℕ, true, List, [], ◌++◌, Option, sym, ap, ◌∙◌, append_assoc}
+use Rattle.std.proofs.Common.{◌≡◌, ℕ, true, List, [], ◌++◌, Option, None, Some, sym, ap, ◌∙◌, append_assoc}
+use Rattle.std.specs.Io.KnownBytes.{Appends}
 use Rattle.std.proofs.lemmas.List.{append-nil}
 use Rattle.cli_commands.proofs.Prefixes.{appends_more}
 use Rattle.cli_scripts.specs.declared.came.Wants.{Wants}
@@ -68,3 +69,23 @@ pub busy_after : (wants : Wants) (old new : Scripted) → AnswersSo true old wan
 busy_after Line old new answers = answers.1
 busy_after wanted.Nothing old new answers = answers.1
 busy_after (Need need) old new answers = answers.1
+
+-- nothing was exchanged yet
+pub exchanged_none : (old : Worked) (sent received : List ℕ) → Exchanged old old sent sent received received
+exchanged_none old sent received =
+    record {
+      given = [];
+      heard = [];
+      gone = sym (append-nil old.gone);
+      went = sym (append-nil sent);
+      took = sym (append-nil old.heard);
+      came = sym (append-nil received);
+    }
+
+pub written_none : (written : Option (List ℕ)) → Appends written written []
+written_none None = tt
+written_none (Some bytes) = sym (append-nil bytes)
+
+-- and nothing told
+pub told_none : (old : Scripted) (written : Option (List ℕ)) → TellsAll old old written written
+told_none old written = ([], sym (append-nil old.telling.gone), written_none written)

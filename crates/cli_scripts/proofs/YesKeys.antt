@@ -12,7 +12,7 @@ use Rattle.tn_session.specs.OneLog.{waits, is_over, has_failed, is_at_fault}
 use Rattle.tn_session.specs.Strikes.{by_key, strike_aid, struck_by}
 use Rattle.tn_session.specs.Talk.{Talk, stands, starved}
 use Rattle.tn_session.specs.TerminalLog.{after_key, key_replied, operator_at}
-use Rattle.tn_session.specs.TerminalTalk.{OfWaiting, agreed_in, worked, worked_under}
+use Rattle.tn_session.specs.TerminalTalk.{OfStanding, agreed_in, worked, worked_under}
 use Rattle.cli_scripts.specs.Desks.{Shows, Worked}
 use Rattle.cli_scripts.specs.Pressing.{after_keys}
 use Rattle.cli_scripts.specs.RunLaws.{YesHolds}
@@ -43,23 +43,23 @@ one_core (Some agreed) state key =
     let struck = struck_by (by_key key) (operator_at state) in replied_core agreed (after_key state (strike_aid (by_key key)) struck) struck.turn.reply
 
 keys_screen : (state : TerminalState) (left : List ℕ) (keys : List Key) → is_some (core_agreed state.core) ≡ true
-    → OfWaiting (λ (s : TerminalState). s.terminal) (after_keys (stands (waits state left)) keys) (keyed.after state.terminal keys)
+    → OfStanding (λ (s : TerminalState). s.terminal) (after_keys (stands (waits state left)) keys) (keyed.after state.terminal keys)
 unfolding keyed.after
 keys_screen state left [] some = refl
 keys_screen state left (key ∷ keys) some =
     let next = (worked state (by_key key)).state in
-    subst (λ (v : Picture). OfWaiting (λ (s : TerminalState). s.terminal) (after_keys (stands (waits next left)) keys) (keyed.after v keys))
+    subst (λ (v : Picture). OfStanding (λ (s : TerminalState). s.terminal) (after_keys (stands (waits next left)) keys) (keyed.after v keys))
     (one_screen (core_agreed state.core) state key some)
     (keys_screen next left keys (ap (λ c. is_some (core_agreed c)) (one_core (core_agreed state.core) state key) ∙ some))
 
-keys_shown : (talk : Talk TerminalState) (v : Picture) (keys : List Key) → is_some (agreed_in talk) ≡ true → OfWaiting (λ (s : TerminalState). s.terminal) talk v
-    → OfWaiting (λ (s : TerminalState). s.terminal) (after_keys talk keys) (keyed.after v keys)
+keys_shown : (talk : Talk TerminalState) (v : Picture) (keys : List Key) → is_some (agreed_in talk) ≡ true → OfStanding (λ (s : TerminalState). s.terminal) talk v
+    → OfStanding (λ (s : TerminalState). s.terminal) (after_keys talk keys) (keyed.after v keys)
 keys_shown (stands (waits state left)) v keys some shown =
-    subst (λ (p : Picture). OfWaiting (λ (s : TerminalState). s.terminal) (after_keys (stands (waits state left)) keys) (keyed.after p keys)) (sym shown)
+    subst (λ (p : Picture). OfStanding (λ (s : TerminalState). s.terminal) (after_keys (stands (waits state left)) keys) (keyed.after p keys)) (sym shown)
     (keys_screen state left keys some)
 keys_shown (stands (is_over end)) v keys some shown = absurd cc
-keys_shown (stands (has_failed why)) v keys some shown = absurd cc
-keys_shown (stands (is_at_fault fault)) v keys some shown = absurd cc
+keys_shown (stands (has_failed why end)) v keys some shown = absurd cc
+keys_shown (stands (is_at_fault fault end)) v keys some shown = absurd cc
 keys_shown starved v keys some shown = absurd cc
 
 pub yes_holds : YesHolds
@@ -67,7 +67,7 @@ yes_holds layout opened old new promise (typed, is) some shown = (
   typed,
   ap (λ (w : Worked). w.deeds) is ∙ typed_deeds old typed,
   subst (λ (w : Worked). Shows w (keyed.after opened typed)) (sym is)
-      (subst (λ (t : Talk TerminalState). OfWaiting (λ s. s.terminal) t (keyed.after opened typed)) (sym (typed_talk old typed)) (keys_shown old.talk opened typed some shown)),
+      (subst (λ (t : Talk TerminalState). OfStanding (λ s. s.terminal) t (keyed.after opened typed)) (sym (typed_talk old typed)) (keys_shown old.talk opened typed some shown)),
   ap (λ (w : Worked). w.host) is ∙ typed_keeps (λ (w : Worked). w.host) (λ v key. refl) old typed,
   promise typed,
 )

@@ -13,7 +13,7 @@ use Rattle.script_keys.specs.Steps.{runs_of}
 use Rattle.script_screens.specs.declared.pieces.StringKey.{StringKey}
 use Rattle.script_screens.specs.declared.pieces.StringKey.TheVariants as keyed
 use Rattle.tn_session.specs.declared.terminal_state.TerminalState.{TerminalState}
-use Rattle.tn_session.specs.TerminalTalk.{OfWaiting}
+use Rattle.tn_session.specs.TerminalTalk.{OfStanding}
 use Rattle.cli_scripts.specs.declared.deed.Deed.{Deed}
 use Rattle.cli_scripts.specs.declared.deed.Deed.TheVariants.{Begun, Pressed}
 use Rattle.cli_scripts.specs.Deeds.{new_talk}
@@ -42,7 +42,7 @@ keys_deeds it (Some host) state =
     if is_waiting state.terminal.lock && not (is_reset it) then [] else map Pressed (keys_of (runs_of state.terminal it))
 
 abbrev pub PressesKeys : Keys → Worked → Worked → Type 0
-PressesKeys it old new = OfWaiting (λ state. old.deeds ++ keys_deeds it old.host state) old.talk new.deeds
+PressesKeys it old new = OfStanding (λ state. old.deeds ++ keys_deeds it old.host state) old.talk new.deeds
 
 -- keys were pressed, and nothing else was done: the line to the host stays, and all that no key changes
 abbrev pub PressesOnly : Worked → Worked → Type 0

@@ -22,7 +22,7 @@ use Rattle.tn_session.specs.declared.progress.Progress.{Progress}
 use Rattle.tn_session.specs.declared.terminal_state.TerminalState.{TerminalState}
 use Rattle.tn_session.specs.OneLog.{has_failed, is_at_fault}
 use Rattle.tn_session.specs.Talk.{Adds, Talk, stands, starved}
-use Rattle.tn_session.specs.TerminalTalk.{OfWaiting, TerminalTakes, agreed_in, lu_name_in}
+use Rattle.tn_session.specs.TerminalTalk.{OfStanding, TerminalTakes, agreed_in, lu_name_in}
 use Rattle.cli_scripts.specs.Answers.{printed_name}
 use Rattle.cli_scripts.specs.declared.deed.Deed.{Deed}
 use Rattle.cli_scripts.specs.declared.deed.Deed.TheVariants.{Begun}
@@ -87,7 +87,7 @@ DidAll w = DidSo w.device w.deeds w.heard (w.gone ++ w.due) w.talk w.collects (w
 
 -- the picture that it shows
 abbrev pub Shows : Worked → Picture → Type 0
-Shows w v = OfWaiting (λ state. state.terminal) w.talk v
+Shows w v = OfStanding (λ state. state.terminal) w.talk v
 
 -- the device that was agreed on, or the one that is asked for
 abbrev pub device_of : Option Agreed → Device → Device
@@ -163,8 +163,8 @@ why_of (Err why) = Some why
 
 -- why a session failed
 abbrev pub fault_in : Talk TerminalState → Option RunFault
-fault_in (stands (has_failed why)) = Some why
-fault_in (stands (is_at_fault fault)) = Some (Wire fault)
+fault_in (stands (has_failed why end)) = Some why
+fault_in (stands (is_at_fault fault end)) = Some (Wire fault)
 fault_in starved = Some OutOfMemory
 fault_in talk = None
 
@@ -204,8 +204,14 @@ abbrev pub KeepsRest : Worked → Worked → Type 0
 KeepsRest old new =
     (new.device ≡ old.device) × (new.gone ≡ old.gone) × (new.collects ≡ old.collects) × (new.judged ≡ old.judged) × (new.unjudged ≡ old.unjudged)
 
+-- whether a record was shown by a read, after which the session failed for this reason or goes on
+abbrev pub AsksShown : Option RunFault → Worked → Worked → Bool → Type 0
+AsksShown None old new shown =
+    OfStanding (λ state. nat_lt old.told state.taken) new.talk shown × OfStanding (λ state. state.taken) new.talk new.told
+AsksShown (Some why) old new shown = (shown ≡ false) × (new.told ≡ old.told)
+
 -- One read was made, for which memory was not refused, and the session is over or goes on after it. Where a record was shown, which is where the
--- session took more records than when that was last asked, the screen wasn't read since.
+-- session took more records than when that was last asked, the screen wasn't read since. Of a session that failed by it that isn't asked.
 abbrev pub HearsOnce : Worked → List ℕ → Bool → Worked → Type 0
 HearsOnce old bytes shown new =
     TakesBytes old bytes new
@@ -215,8 +221,7 @@ HearsOnce old bytes shown new =
     × (new.was_read ≡ (old.was_read && not shown))
     × KeepsRest old new
     × (fault_in new.talk ≡ Some OutOfMemory → ⊥)
-    × OfWaiting (λ state. nat_lt old.told state.taken) new.talk shown
-    × OfWaiting (λ state. state.taken) new.talk new.told
+    × AsksShown (fault_in new.talk) old new shown
 
 -- nothing was heard, and nothing handed out
 abbrev pub Keeps : Worked → Worked → Type 0

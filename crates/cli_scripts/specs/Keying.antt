@@ -16,7 +16,7 @@ use Rattle.script_screens.specs.Lines.{Said, failed}
 use Rattle.tn_session.specs.declared.terminal_state.TerminalState.{TerminalState}
 use Rattle.tn_session.specs.OneLog.{waits}
 use Rattle.tn_session.specs.Talk.{Talk, stands}
-use Rattle.tn_session.specs.TerminalTalk.{OfWaiting}
+use Rattle.tn_session.specs.TerminalTalk.{OfStanding}
 use Rattle.cli_scripts.specs.declared.deed.Deed.{Deed}
 use Rattle.cli_scripts.specs.declared.deed.Deed.TheVariants.{Pressed}
 use Rattle.cli_scripts.specs.Acts.{is_reset}
@@ -91,7 +91,7 @@ code_deeds fills code None state = []
 code_deeds fills code (Some host) state = if is_waiting state.terminal.lock then [] else map Pressed (code_keys fills code state)
 
 abbrev pub TypesCode : Bool → ℕ → Worked → Worked → Type 0
-TypesCode fills code old new = OfWaiting (λ state. old.deeds ++ code_deeds fills code old.host state) old.talk new.deeds
+TypesCode fills code old new = OfStanding (λ state. old.deeds ++ code_deeds fills code old.host state) old.talk new.deeds
 
 -- ---- Key
 
@@ -119,7 +119,7 @@ key_deeds page fills (argument ∷ []) host state = typed_deeds fills (key_of pa
 key_deeds page fills arguments host state = []
 
 abbrev pub TypesKeyOf : CodePage → Bool → List (List ℕ) → Worked → Worked → Type 0
-TypesKeyOf page fills arguments old new = OfWaiting (λ state. old.deeds ++ key_deeds page fills arguments old.host state) old.talk new.deeds
+TypesKeyOf page fills arguments old new = OfStanding (λ state. old.deeds ++ key_deeds page fills arguments old.host state) old.talk new.deeds
 
 -- ---- an action
 

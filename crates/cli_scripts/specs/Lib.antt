@@ -3,6 +3,7 @@ pub mod Answers
 pub mod DeedLaws
 pub mod Deeds
 pub mod Desks
+pub mod Ends
 pub mod HeldBack
 pub mod Judged
 pub mod Kinds

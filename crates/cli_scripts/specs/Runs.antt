@@ -1,5 +1,5 @@
 -- A whole script: what came of it, of hosts, files and clocks was taken in turn, each as it was wanted.
-use Rattle.std.specs.Prelude.{◌≡◌, ◌≤◌, ℕ, nat_lt, true, map, All, List, [], ◌∷◌, ◌++◌, length, Option, Some, None, Result, if◌then◌else◌}
+use Rattle.std.specs.Prelude.{◌≡◌, ◌≢◌, ◌<◌, ◌≤◌, ◌+◌, ◌-◌, ◌*◌, ◌^◌, ◌==◌, ◌&&◌, ℕ, nat_lt, Bool, true, map, slice_index, All, List, [], ◌∷◌, ◌++◌, length, Option, Some, None, Result, if◌then◌else◌}
 use Rattle.cli_commands.specs.Lines.{lines_in}
 use Rattle.script_checks.specs.ReadSeen.{read_seen}
 use Rattle.cli_scripts.specs.Answers.{handed_lines}
@@ -104,9 +104,9 @@ line_of (a_line line) = Some line ∷ []
 line_of a_long_line = None ∷ []
 line_of event = []
 
--- A line has at most 16,777,216 bytes. Of one that has more the reader's contract leaves open what is read.
+-- A line has at most 1,208,925,819,614,629,174,706,176 bytes: only so often is it read on.
 abbrev pub IsShort : List ℕ → Type 0
-IsShort line = length line ≤ 16777216
+IsShort line = length line ≤ 2 ^ 80
 
 -- the next line was read, and these bytes are left
 abbrev pub ReadsOn : List ℕ → Option (List ℕ) → Option (List ℕ) → Type 0
@@ -152,6 +152,21 @@ abbrev pub IsEndAt : Wants → Option (List ℕ) → Type 0
 IsEndAt wanted.Line known = HasEnded known
 IsEndAt (wanted.Need need) known = ⊥
 IsEndAt wanted.Nothing known = Unit {0}
+
+-- whether a line has its end, an LF
+abbrev pub has_end : List ℕ → Bool
+has_end line = nat_lt 0 (length line) && slice_index line (length line - 1) == 10
+
+-- of a line of which this was read the rest was read, so that these bytes are left
+abbrev pub PassesLine : List ℕ → List ℕ → Option (List ℕ) → Type 0
+PassesLine read bytes left =
+    (first : List ℕ) × (rest : List ℕ) × (lines_in (read ++ bytes) ≡ first ∷ lines_in rest) × (65536 < length first) × (IsShort first → left ≡ Some rest)
+
+-- for the code's own proofs: so many parts of it were read, and then this one
+abbrev pub PassedSoFar : List ℕ → List ℕ → List ℕ → Option (List ℕ) → ℕ → Type 0
+PassedSoFar read bytes part left parts =
+    (front : List ℕ) × (rest : List ℕ) × (read ++ bytes ≡ front ++ (part ++ rest)) × (left ≡ Some rest) × All (λ b. b ≢ 10) front
+    × (parts * 16777216 ≤ length front) × (length read ≤ length front + length part)
 
 -- ---- all that came
 

@@ -23,7 +23,7 @@ use Rattle.script_screens.specs.Status.{status_line}
 use Rattle.script_checks.specs.Said.{said_of_check}
 use Rattle.tn_cores.specs.Devices.{sizes_of}
 use Rattle.tn_session.specs.Kept.{Kept as KeptRecord}
-use Rattle.tn_session.specs.TerminalTalk.{OfWaiting, agreed_in, records_kept}
+use Rattle.tn_session.specs.TerminalTalk.{OfStanding, agreed_in, records_kept}
 use Rattle.cli_scripts.specs.Answers.{Telling, printed_text, last_line}
 use Rattle.cli_scripts.specs.Desks.{Worked, NamedHost, Shows, TellsQuery, device_in, model_number, protocol_of, link_in, link_of_host}
 use Rattle.cli_scripts.specs.Kinds.{kind_of}
@@ -130,7 +130,7 @@ WantsLayout path step = ⊥
 -- what Check says of a layout that was read, or couldn't be
 abbrev pub Checks : Worked → List ℕ → Result (List ℕ) (List ℕ) → List ℕ → List ℕ → Outcome → Type 0
 Checks w path read before after outcome =
-    (turns : Option (List KeptRecord)) × OfWaiting (λ state. records_kept state.kept) w.talk turns
+    (turns : Option (List KeptRecord)) × OfStanding (λ state. records_kept state.kept) w.talk turns
     × Says before after outcome (said_of_check turns (sizes_of (device_in w).model) path read)
 
 -- ---- connecting

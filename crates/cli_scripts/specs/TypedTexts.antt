@@ -20,7 +20,7 @@ use Rattle.tn_session.specs.declared.terminal_state.TerminalState.{TerminalState
 use Rattle.tn_session.specs.OneLog.{waits}
 use Rattle.tn_session.specs.Strikes.{by_key}
 use Rattle.tn_session.specs.Talk.{Talk, stands}
-use Rattle.tn_session.specs.TerminalTalk.{OfWaiting, worked}
+use Rattle.tn_session.specs.TerminalTalk.{OfStanding, worked}
 use Rattle.cli_scripts.specs.declared.deed.Deed.TheVariants.{Pressed as PressedKey}
 use Rattle.cli_scripts.specs.Acts.{pressed_key}
 use Rattle.cli_scripts.specs.Desks.{NamedHost, Worked, is_error, is_waiting}
@@ -172,7 +172,7 @@ TypedFree page fills column step text old new before after =
 -- The column is that at which the cursor stood.
 abbrev pub TypesFree : CodePage → Bool → Step → List ℕ → Worked → Worked → List ℕ → List ℕ → Type 0
 TypesFree page fills step text old new before after =
-    (column : ℕ) × OfWaiting (λ state. column_of state.terminal) old.talk column × TypedFree page fills column step text old new before after
+    (column : ℕ) × OfStanding (λ state. column_of state.terminal) old.talk column × TypedFree page fills column step text old new before after
 
 -- ---- a whole text
 

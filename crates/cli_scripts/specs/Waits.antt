@@ -10,7 +10,7 @@ use Rattle.script_requests.specs.declared.wait.WaitFault.TheVariants.{Parameter}
 use Rattle.script_requests.specs.Waits.{read_wait, wait_fault_text}
 use Rattle.script_screens.specs.declared.lines.Outcome.TheVariants as outcomes
 use Rattle.script_screens.specs.Lines.{data_lines}
-use Rattle.tn_session.specs.TerminalTalk.{OfWaiting, agreed_in, takes_input_in}
+use Rattle.tn_session.specs.TerminalTalk.{OfStanding, agreed_in, takes_input_in}
 use Rattle.cli_scripts.specs.Answers.{printed_text}
 use Rattle.cli_scripts.specs.Desks.{Worked, is_waiting}
 use Rattle.cli_scripts.specs.Kinds.{kind_of}
@@ -36,7 +36,7 @@ abbrev pub HoldsSo : Awaited → Worked → Bool → Type 0
 HoldsSo InputField w held = held ≡ takes_input_in w.talk
 HoldsSo Mode3270 w held = held ≡ is_some (agreed_in w.talk)
 HoldsSo Output w held = held ≡ not w.was_read
-HoldsSo Unlock w held = OfWaiting (λ state. not (is_waiting state.terminal.lock)) w.talk held
+HoldsSo Unlock w held = OfStanding (λ state. not (is_waiting state.terminal.lock)) w.talk held
 HoldsSo NvtMode w held = held ≡ false
 HoldsSo Disconnect w held = held ≡ false
 HoldsSo Seconds w held = held ≡ false

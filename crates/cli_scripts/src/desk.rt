@@ -6,7 +6,7 @@ ghost use Rattle.script_screens.specs.Laws.{LinkIsWhole, is_whole};
 ghost use Rattle.script_screens.specs.Status.{link_seen};
 ghost use Rattle.script_keys.specs.Runs.{keys_of_run, keys_of};
 ghost use Rattle.tn_session.specs.KeptView.{kept_view};
-ghost use Rattle.tn_session.specs.TerminalTalk.{OfWaiting, tolerant_worked, records_kept, agreed_in, lu_name_in, takes_input_in};
+ghost use Rattle.tn_session.specs.TerminalTalk.{OfStanding, tolerant_worked, records_kept, agreed_in, lu_name_in, takes_input_in};
 ghost use Rattle.cli_scripts.specs.declared.deed.Deed.TheVariants.{Begun, Heard, Pressed as PressedKey};
 ghost use Rattle.cli_scripts.specs.Acts.{cleared};
 ghost use Rattle.cli_scripts.specs.Pressing.{after_key, answer_to, is_inhibited, after_keys, all_typed_at, any_inhibited, typed_at};
@@ -302,8 +302,9 @@ impl Desk {
             × (self.new.talk ≡ self.old.talk) × (self.new.due ≡ self.old.due) }
         ensures same { (self.new.device ≡ self.old.device)
             × (self.new.unjudged ≡ self.old.unjudged) }
-        ensures shown { OfWaiting (λ state. nat_lt self.old.told state.taken) self.old.talk result }
-        ensures told { OfWaiting (λ state. state.taken) self.old.talk self.new.told }
+        ensures shown { OfStanding (λ state. nat_lt self.old.told state.taken) self.old.talk
+            result }
+        ensures told { OfStanding (λ state. state.taken) self.old.talk self.new.told }
     {
         let came = is_shown(self.session.arrived());
         if came {
@@ -439,14 +440,14 @@ impl Desk {
     }
 
     pub(crate) fn screen(&self) -> &Screen<PlaneCells>
-        ensures { OfWaiting (λ state. state.terminal) self.now.talk result.now }
+        ensures { OfStanding (λ state. state.terminal) self.now.talk result.now }
     {
         self.session.screen()
     }
 
     /// The records that made the screen.
     pub(crate) fn turns(&self) -> Option<&[KeptRecord]>
-        ensures { OfWaiting (λ state. records_kept state.kept) self.now.talk
+        ensures { OfStanding (λ state. records_kept state.kept) self.now.talk
             (option_map (λ kept. map kept_view kept.now) result) }
     {
         self.session.turns()
@@ -454,14 +455,14 @@ impl Desk {
 
     /// Whether the keyboard waits for the host.
     pub(crate) fn waits(&self) -> bool
-        ensures { OfWaiting (λ state. is_waiting state.terminal.lock) self.now.talk result }
+        ensures { OfStanding (λ state. is_waiting state.terminal.lock) self.now.talk result }
     {
         matches!(self.screen().lock(), Lock::Waiting)
     }
 
     /// Whether the keyboard is in error.
     pub(crate) fn is_in_error(&self) -> bool
-        ensures { OfWaiting (λ state. is_error state.terminal.lock) self.now.talk result }
+        ensures { OfStanding (λ state. is_error state.terminal.lock) self.now.talk result }
     {
         matches!(self.screen().lock(), Lock::Error)
     }

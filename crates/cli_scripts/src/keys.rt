@@ -6,7 +6,7 @@ ghost use Rattle.cli_scripts.specs.declared.doing.Step.TheVariants.{Ended};
 ghost use Rattle.cli_scripts.specs.Keying.{OnWaiting, PressedSo, SaysKeys, SaysCode, TypesCode};
 ghost use Rattle.script_keys.specs.Runs.{keys_of};
 ghost use Rattle.script_keys.specs.Steps.{runs_of};
-ghost use Rattle.tn_session.specs.TerminalTalk.{OfWaiting};
+ghost use Rattle.tn_session.specs.TerminalTalk.{OfStanding};
 ghost use Rattle.cli_scripts.specs.declared.deed.Deed.TheVariants.{Pressed};
 ghost use Rattle.cli_scripts.specs.Acts.{is_clear, is_reset, unconnected_deeds, PressesKeys, PressesOnly, WorksKeys};
 ghost use Rattle.cli_scripts.specs.Desks.{Keeps};
@@ -61,7 +61,7 @@ fn press_now(
     saying: &mut Saying,
 ) -> Result<Step, AllocError>
     ensures keeps { Keeps desk.old desk.new }
-    ensures deeds { OnOk result (OfWaiting (λ state. desk.old.deeds
+    ensures deeds { OnOk result (OfStanding (λ state. desk.old.deeds
         ++ map Pressed (keys_of (runs_of state.terminal keys.now))) desk.old.talk desk.new.deeds) }
     ensures says { IfOk result (λ step. OnWaiting desk.old.talk (λ state.
         PressedSo keys.now desk.old.talk state step saying.old saying.new)) }

@@ -3,7 +3,7 @@
 ghost use Rattle.std.specs.Prelude.{◌≡◌, ◌++◌, [], ◌∷◌, None, true, false, is_some, option_map, IfOk, IfSome, OnErr, OnOk};
 ghost use Rattle.cli_scripts.specs.Answers.{AreAnswers, handed_lines, printed_text};
 ghost use Rattle.cli_scripts.specs.Desks.{DidAll, Keeps, handed_due, handed_screens, desk_of, new_desk, opened};
-ghost use Rattle.tn_session.specs.TerminalTalk.{OfWaiting};
+ghost use Rattle.tn_session.specs.TerminalTalk.{OfStanding};
 ghost use Rattle.cli_scripts.specs.declared.came.Wants.TheVariants.{Line};
 ghost use Rattle.cli_scripts.specs.Machines.{HearsNext, AnswersSo, DrainsFirst, IsDrained, IsKept, StopsAt, TellsOf, TellsSo, file_wanted, goes_on, host_named, host_wanted, scripted};
 ghost use Rattle.cli_scripts.specs.declared.doing.Doing.TheVariants.{Arriving};
@@ -107,7 +107,7 @@ impl Machine {
 
     /// The screen.
     pub fn screen(&self) -> &Screen<PlaneCells>
-        ensures { OfWaiting (λ state. state.terminal) self.now.desk.talk result.now }
+        ensures { OfStanding (λ state. state.terminal) self.now.desk.talk result.now }
     {
         self.worker.desk.screen()
     }

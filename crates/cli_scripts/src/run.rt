@@ -3,8 +3,10 @@
 ghost use Rattle.std.specs.Prelude.{◌≡◌, ◌++◌, ℕ, List, [], true, false, Err, IfOk, OnOk, OnErr};
 ghost use Rattle.std.specs.Bool.{OnTrue};
 ghost use Rattle.std.specs.Io.KnownBytes.{Appends, prepend_known};
+ghost use Rattle.cli_commands.specs.Causes.{SendsBy};
 ghost use Rattle.cli_commands.specs.Streams.{AppendsFront};
 ghost use Rattle.cli_scripts.specs.Desks.{Keeps, DidAll, handed_screens};
+ghost use Rattle.cli_scripts.specs.Ends.{ConcludesBy, EndsSo, ReadsBy, ReportsBy, StaysTold, WorksUpTo, failures_of};
 ghost use Rattle.cli_scripts.specs.Judged.{Concludes, HasFindings, IsOver, Judges, JudgesAll, judged_all, reports_of, end_of_report, judged_status};
 ghost use Rattle.cli_scripts.specs.Answers.{AreAnswers, handed_lines};
 ghost use Rattle.cli_scripts.specs.Machines.{AnswersSo};
@@ -95,6 +97,7 @@ fn take_line<R: GivesBytes>(
     ensures same { result ≡ Err Over → machine.new ≡ machine.old }
     ensures ended { result ≡ Err Over
         → HasEnded (prepend_known lines.old.ahead (R.remaining script.old)) }
+    ensures cause { ReadsBy (R.failures script.old) (R.failures script.new) result }
 {
     match lines.advance(script)? {
         Asked::Line => Ok(machine.take(alloc, Came::Line(lines.line()))?),
@@ -265,6 +268,7 @@ fn turn<R: GivesBytes, W: World>(
     ensures ended { result ≡ Err Over
         → IsEndAt wants (prepend_known lines.old.ahead (R.remaining script.old)) }
     ensures silent { result ≡ Err Over → W.received world.new ≡ W.received world.old }
+    ensures cause { ReadsBy (R.failures script.old) (R.failures script.new) result }
 {
     match wants {
         Wants::Line => take_line(alloc, machine, script, lines),
@@ -308,6 +312,7 @@ fn answer<O: TakesBytes>(machine: &mut Machine, output: &mut O, held_back: &mut 
     ensures busy { machine.new.is_busy ≡ machine.old.is_busy }
     ensures handed { machine.new
         ≡ record machine.old { telling = handed_lines machine.old.telling } }
+    ensures cause { SendsBy (O.failures output.old) (O.failures output.new) result }
 {
     let taken = write_lines(output, held_back, machine.lines());
     machine.hand_out_lines();
@@ -316,7 +321,8 @@ fn answer<O: TakesBytes>(machine: &mut Machine, output: &mut O, held_back: &mut 
 
 /// Writes a part of the report, where it isn't empty: whether it was taken.
 fn is_written<P: TakesBytes>(report: &mut P, text: &[u8]) -> bool
-    ensures { OnTrue result (Appends (P.contents report.old) (P.contents report.new) text.now) }
+    ensures all { OnTrue result (Appends (P.contents report.old) (P.contents report.new) text.now) }
+    ensures cause { SendsBy (P.failures report.old) (P.failures report.new) result }
 {
     let mut held_back = History::new();
     text.is_empty() || write_lines(report, &mut held_back, text)
@@ -356,6 +362,8 @@ fn inspect<P: TakesBytes>(
     ensures before { IfOk result (λ told. told ≡ true → is_told ≡ true) }
     ensures reported { IfOk result (λ told. OnTrue told (Appends (P.contents report.old)
         (P.contents report.new) (reports_of judge.old machine.old.desk.unjudged))) }
+    ensures cause { IfOk result
+        (λ told. StaysTold (P.failures report.old) (P.failures report.new) is_told told) }
 {
     let mut text = Vec::new(alloc);
     judge_screens(alloc, judge, machine.sent_screens(), &mut text)?;
@@ -373,6 +381,8 @@ fn end_report<P: TakesBytes>(
     ensures before { IfOk result (λ told. told ≡ true → is_told ≡ true) }
     ensures reported { IfOk result (λ told. OnTrue told (Appends (P.contents report.old)
         (P.contents report.new) (end_of_report judge.now))) }
+    ensures cause { IfOk result
+        (λ told. StaysTold (P.failures report.old) (P.failures report.new) is_told told) }
 {
     let mut text = Vec::new(alloc);
     judge.finish(&mut text)?;
@@ -402,6 +412,11 @@ fn work<R: GivesBytes, O: TakesBytes, P: TakesBytes, W: World>(
     ensures ran { result.ended ≡ Over → Ran machine.old machine.new
         (prepend_known lines.old.ahead (R.remaining script.old)) (W.received world.old)
         (W.received world.new) }
+    ensures cause { WorksUpTo (failures_of (R.failures script.old) (O.failures output.old)
+        (P.failures report.old)) (failures_of (R.failures script.new) (O.failures output.new)
+        (P.failures report.new)) machine.old machine.new result.ended }
+    ensures written { ReportsBy (P.failures report.old) (P.failures report.new) result.is_told
+        result.ended }
 {
     let mut wants = Wants::Line;
     let mut held_back = History::new();
@@ -441,6 +456,7 @@ fn judged_status(ended: Ended, is_told: bool, has_findings: bool) -> Status
 fn conclude<P: TakesBytes>(alloc: Global, judge: &Judge, report: &mut P, finish: Finish) -> Status
     ensures over { IsOver result → Concludes judge.now result finish (P.contents report.old)
         (P.contents report.new) }
+    ensures cause { ConcludesBy (P.failures report.old) (P.failures report.new) finish result }
 {
     if matches!(finish.ended, Ended::NoMemory) {
         return Status::NoMemory;
@@ -493,6 +509,11 @@ pub fn run_script<R: GivesBytes, O: TakesBytes, P: TakesBytes, W: World>(
     // The script's lines, what came of hosts, and the rest that came led, in turn, from one terminal to the other.
     ensures ran { IsOver result → Ran machine.old machine.new (R.remaining script.old)
         (W.received world.old) (W.received world.new) }
+    // It is `Failed` where a call of the script, the output or the report failed, or no more turns can be counted; want of memory aside
+    // nothing else gives it up.
+    ensures cause { EndsSo (failures_of (R.failures script.old) (O.failures output.old)
+        (P.failures report.old)) (failures_of (R.failures script.new) (O.failures output.new)
+        (P.failures report.new)) machine.old machine.new result }
 {
     let Ok(mut lines) = Script::new(alloc) else {
         attest(machine);

@@ -1,9 +1,12 @@
 //! The lines of a script, as they are read.
 
-ghost use Rattle.std.specs.Prelude.{◌≡◌, [], IfOk, IfSome};
+ghost use Rattle.std.specs.Prelude.{◌≡◌, ◌<◌, [], length, IfErr, IfOk, IfSome};
+ghost use Rattle.std.specs.Io.{StopsAt};
 ghost use Rattle.std.specs.Io.KnownBytes.{prepend_known};
 ghost use Rattle.bstr.specs.Text.{without_terminator};
-ghost use Rattle.cli_scripts.specs.Runs.{AsksFor};
+ghost use Rattle.cli_commands.specs.Causes.{ToldBy};
+ghost use Rattle.cli_commands.specs.Fault.{IsNoFault};
+ghost use Rattle.cli_scripts.specs.Runs.{AsksFor, PassesLine, has_end};
 
 use cli_commands::{CommandError, GivesBytes, ReadAhead, next_line, without_end};
 use std::alloc::{AllocError, Global};
@@ -18,7 +21,7 @@ const MOST_AHEAD: usize = 65_536;
 const MOST_READ: usize = 16_777_216;
 
 /// How many times what is left of a line is read at most.
-const MOST_PARTS: u64 = 4_294_967_296;
+const MOST_PARTS: u64 = u64::MAX;
 
 /// What a read of the script gave.
 #[derive(Clone, Copy, Debug, PartialEq, Eq)]
@@ -38,7 +41,10 @@ pub(crate) struct Script {
     line: Vec<u8>,
 }
 
-fn has_end(line: &[u8]) -> bool {
+/// Whether a line has its end.
+fn has_end(line: &[u8]) -> bool
+    ensures { result ≡ has_end line.now }
+{
     match line.last() {
         Some(byte) => *byte == b'\n',
         None => false,
@@ -56,7 +62,16 @@ impl Script {
     }
 
     /// Reads what is left of a line that is too long.
-    fn pass<R: GivesBytes>(&mut self, reader: &mut R) -> Result<(), CommandError> {
+    fn pass<R: GivesBytes>(&mut self, reader: &mut R) -> Result<(), CommandError>
+        requires long { 16777216 < length self.old.line.items }
+        requires inside { StopsAt self.old.line.items 10 }
+        ensures passed { IfOk result
+            (λ done. IfSome (prepend_known self.old.ahead (R.remaining reader.old))
+            (λ bytes. PassesLine self.old.line.items bytes
+            (prepend_known self.new.ahead (R.remaining reader.new)))) }
+        ensures cause { ToldBy (R.failures reader.old) (R.failures reader.new) result }
+        ensures failed { IfErr result IsNoFault }
+    {
         'parts: for _part in 0..MOST_PARTS {
             if has_end(&self.line) {
                 return Ok(());
@@ -70,9 +85,11 @@ impl Script {
 
     /// Reads the next line.
     pub(crate) fn advance<R: GivesBytes>(&mut self, reader: &mut R) -> Result<Asked, CommandError>
-        ensures { IfSome (prepend_known self.old.ahead (R.remaining reader.old)) (λ bytes.
+        ensures asked { IfSome (prepend_known self.old.ahead (R.remaining reader.old)) (λ bytes.
             IfOk result (λ asked. AsksFor bytes asked (without_terminator self.new.line.items)
             (prepend_known self.new.ahead (R.remaining reader.new)))) }
+        ensures cause { ToldBy (R.failures reader.old) (R.failures reader.new) result }
+        ensures failed { IfErr result IsNoFault }
     {
         if !next_line(reader, &mut self.ahead, &mut self.line)? {
             return Ok(Asked::End);

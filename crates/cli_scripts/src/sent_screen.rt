@@ -1,7 +1,7 @@
 //! Screens on which keys send.
 
 ghost use Rattle.std.specs.Prelude.{◌≡◌, ◌++◌, OnOk, OnErr};
-ghost use Rattle.tn_session.specs.TerminalTalk.{OfWaiting};
+ghost use Rattle.tn_session.specs.TerminalTalk.{OfStanding};
 ghost use Rattle.cli_scripts.specs.SentOn.{is_free, is_sending, sends_at, sent_on, collected};
 
 use ds_codec::Aid;
@@ -74,7 +74,7 @@ impl SentScreen {
 }
 
 fn is_free(session: &TerminalSession) -> bool
-    ensures { OfWaiting (λ state. is_free state.terminal.lock) session.now.talk result }
+    ensures { OfStanding (λ state. is_free state.terminal.lock) session.now.talk result }
 {
     matches!(session.screen().lock(), Lock::Free)
 }

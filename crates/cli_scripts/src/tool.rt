@@ -3,7 +3,7 @@
 ghost use Rattle.std.specs.Prelude.{◌≡◌, ◌<◌, [], length};
 ghost use Rattle.std.specs.Bool.{OnTrue};
 ghost use Rattle.std.specs.Io.KnownBytes.{Appends, Keeps};
-ghost use Rattle.cli_commands.specs.Causes.{Puts};
+ghost use Rattle.cli_commands.specs.Causes.{Counts, Puts, SendsBy};
 ghost use Rattle.cli_commands.specs.Streams.{AppendsFront};
 ghost use Rattle.cli_scripts.specs.HeldBack.{Grows};
 
@@ -16,6 +16,7 @@ fn put<O: TakesBytes>(output: &mut O, held_back: &mut History<u8>, bytes: &[u8])
     requires { 0 < length bytes.now }
     ensures bytes { Puts (O.contents output.old) (O.contents output.new) bytes.now result }
     ensures held { Grows held_back.old.items held_back.new.items bytes.now result }
+    ensures cause { Counts (O.failures output.old) (O.failures output.new) result }
 {
     match output.put(bytes) {
         Some(count) => {
@@ -30,6 +31,7 @@ fn put<O: TakesBytes>(output: &mut O, held_back: &mut History<u8>, bytes: &[u8])
 fn pass_on<O: TakesBytes>(output: &mut O, held_back: &mut History<u8>) -> bool
     ensures bytes { Keeps (O.contents output.old) (O.contents output.new) }
     ensures passed { OnTrue result (held_back.new.items ≡ []) }
+    ensures cause { SendsBy (O.failures output.old) (O.failures output.new) result }
 {
     if output.pass_on().is_none() {
         return false;
@@ -48,6 +50,7 @@ pub(crate) fn write_lines<O: TakesBytes>(
         lines.now) }
     ensures front { AppendsFront (O.contents output.old) (O.contents output.new) lines.now }
     ensures passed { OnTrue result (held_back.new.items ≡ []) }
+    ensures cause { SendsBy (O.failures output.old) (O.failures output.new) result }
 {
     let mut rest = lines;
     'writes: while !rest.is_empty() {

@@ -7,7 +7,7 @@ ghost use Rattle.cli_scripts.specs.Pressing.{after_keys, any_inhibited};
 ghost use Rattle.cli_scripts.specs.TypedTexts.{inhibited_or_done, key_list, key_answer, piece_keys, piece_answer, piece_said, Stops, column_of, ReturnsTo, TypesFree, Cancels, is_text, TypesText};
 ghost use Rattle.cli_scripts.specs.Acts.{PressesOnly, pressed_key, function_key, access_key};
 ghost use Rattle.cli_scripts.specs.Desks.{Keeps};
-ghost use Rattle.tn_session.specs.TerminalTalk.{OfWaiting};
+ghost use Rattle.tn_session.specs.TerminalTalk.{OfStanding};
 ghost use Rattle.script_screens.specs.declared.lines.Outcome.TheVariants.{Done};
 ghost use Rattle.cli_scripts.specs.declared.doing.Step.TheVariants.{Ended};
 ghost use Rattle.cli_scripts.specs.Steps.{IsTypedLater};
@@ -172,7 +172,7 @@ fn type_pieces<'a>(
 
 /// The cursor's column.
 fn column_of(desk: &Desk) -> u32
-    ensures { OfWaiting (λ state. column_of state.terminal) desk.now.talk result }
+    ensures { OfStanding (λ state. column_of state.terminal) desk.now.talk result }
 {
     let screen = desk.screen();
     let columns = u32::from(screen.size().cols);

@@ -19,7 +19,7 @@ returns-in_ok-take-in-Line-clause-gives g c =
     c.in_ok-take-in-Line.ensures.answered)
     (subst (λ (z : List ℕ). AreRead (Some z ∷ []) known left) (sym c.line.ensures)
     (read_line known left (without_terminator c.advance.new.self.line.items)
-    (subst (λ (a : Asked). IfSome known (λ bytes. AsksFor bytes a (without_terminator c.advance.new.self.line.items) left)) c.in-Line.is c.in_ok-advance.ensures)))
+    (subst (λ (a : Asked). IfSome known (λ bytes. AsksFor bytes a (without_terminator c.advance.new.self.line.items) left)) c.in-Line.is c.in_ok-advance.ensures.asked)))
 
 pub returns-in_ok-take-in-LongLine-clause-gives : goal.returns-in_ok-take-in-LongLine-clause-gives
 returns-in_ok-take-in-LongLine-clause-gives g c =
@@ -30,4 +30,4 @@ returns-in_ok-take-in-LongLine-clause-gives g c =
     (subst (λ (b : Bool). AnswersSo (goes_on b came.LongLine) c.args.machine.now c.in_ok-take-in-LongLine.field-0 c.take-in-LongLine.new.self) c.requires
     c.in_ok-take-in-LongLine.ensures.answered)
     (read_long known left (without_terminator c.advance.new.self.line.items)
-    (subst (λ (a : Asked). IfSome known (λ bytes. AsksFor bytes a (without_terminator c.advance.new.self.line.items) left)) c.in-LongLine.is c.in_ok-advance.ensures))
+    (subst (λ (a : Asked). IfSome known (λ bytes. AsksFor bytes a (without_terminator c.advance.new.self.line.items) left)) c.in-LongLine.is c.in_ok-advance.ensures.asked))

@@ -1,5 +1,6 @@
-use Rattle.std.proofs.Common.{◌≡◌, []}
+use Rattle.std.proofs.Common.{◌≡◌, [], true, length}
 use Rattle.std.specs.Io.KnownBytes.{prepend_known}
+use Rattle.cli_scripts.specs.Ends.{StaysTold}
 use Rattle.cli_scripts.specs.Judged.{Judges}
 use Rattle.cli_scripts.specs.Runs.{Goes}
 use Rattle.cli_scripts.specs.Worlds.{Exchanged, TellsAll, is_need}
@@ -15,6 +16,10 @@ invariant-turns g l =
           (g.P.TakesBytes.contents l.report);
       busy : l.machine.is_busy ≡ is_need l.wants;
       passed : l.held_back.items ≡ [];
-      going : Goes l.initial.machine l.wants l.machine (prepend_known l.initial.lines.ahead (g.R.GivesBytes.remaining l.initial.script))
-          (prepend_known l.lines.ahead (g.R.GivesBytes.remaining l.script)) (g.W.World.received l.initial.world) (g.W.World.received l.world);
+      going : (so : Goes l.initial.machine l.wants l.machine (prepend_known l.initial.lines.ahead (g.R.GivesBytes.remaining l.initial.script))
+          (prepend_known l.lines.ahead (g.R.GivesBytes.remaining l.script)) (g.W.World.received l.initial.world) (g.W.World.received l.world))
+          × (length so.events ≡ l._turn);
+      read : g.R.GivesBytes.failures l.script ≡ g.R.GivesBytes.failures l.initial.script;
+      written : g.O.TakesBytes.failures l.output ≡ g.O.TakesBytes.failures l.initial.output;
+      reported : StaysTold (g.P.TakesBytes.failures l.initial.report) (g.P.TakesBytes.failures l.report) true l.is_told;
     }
