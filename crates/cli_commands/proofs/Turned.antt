@@ -29,7 +29,7 @@ use Rattle.cli_commands.specs.declared.output.answer.Answer.{Answer}
 use Rattle.cli_commands.specs.Held.{answer_seen}
 use Rattle.cli_commands.specs.Printed.{Printed, printed_or_fault}
 use Rattle.cli_commands.specs.Streams.{Finishes, Prints}
-use Rattle.cli_commands.specs.Causes.{ToldBy, FinishesBy, EndsBy}
+use Rattle.cli_commands.specs.Causes.{ToldBy, FinishesBy, EndsBy, all_failures}
 use Rattle.cli_commands.proofs.Answered.{finishes}
 use Rattle.cli_commands.proofs.Causes.{ends_known}
 
@@ -167,14 +167,6 @@ layout_more text rest before after layout said pushed =
     length_one [] y = refl
     length_one (x ∷ xs) y = let e = length_one xs y in omega (arith, e)
 
--- a layout is refused, or there was no memory for it
-pub layout_stops : (text : List ℕ) (rest : List (List ℕ)) (before : List Declaration) (error : CommandError) → Gives {A = Declaration} (λ l. l) (Err error) (turn_layout_in (length before) text)
-    → Gives {A = Vec Declaration} (λ v. v.items) (Err error) (layouts_from (length before) before (text ∷ rest))
-unfolding layouts_from
-layout_stops text rest before (Told fault) fails = ap (λ r. r >>= λ l. layouts_from (length before + 1) (before ++ l ∷ []) rest) fails
-layout_stops text rest before ReadFailed fails = fails
-layout_stops text rest before OutOfMemory fails = tt
-
 -- one more layout was read
 pub layout_read : {L : Type 0} (remaining : L → Option (List ℕ)) (reader : L) (text : List ℕ) (turn : ℕ) (rest : List (List ℕ)) (before after : List Declaration) (layout : Declaration)
     → remaining reader ≡ Some text → IfSome (remaining reader) (λ input. turn_layout_in turn input ≡ Ok layout) → turn ≡ length before → after ≡ before ++ layout ∷ []
@@ -210,32 +202,37 @@ talk_finished due None other old new answer status is written = tt
 talk_finished due (Some texts) None old new answer status is written = tt
 talk_finished due (Some texts) (Some input) old new answer status is written = finishes (due texts input) old new answer status is written
 
--- ---- the layouts of texts in turn
-text_on : (texts : List (Bor (List ℕ))) (index : ℕ) (d : Bor (List ℕ)) → index < length texts
-    → map (λ t. t.now) (drop index texts) ≡ (get_or texts index d).now ∷ map (λ t. t.now) (drop (index + 1) texts)
-text_on texts index d inside = ap (map (λ t. t.now)) (drop-cons texts index d inside) ∙ rw add-one refl
+-- ---- texts as sources
+sources_known : {S : Type 0} (seen : S → List ℕ) (sources : List S) → all_remaining (λ s. Some (seen s)) sources ≡ Some (map seen sources)
+sources_known seen [] = refl
+sources_known seen (source ∷ sources) = ap (both_known (Some (seen source))) (sources_known seen sources)
 
-pub layout_next : (texts : List (Bor (List ℕ))) (index turn : ℕ) (d : Bor (List ℕ)) (before after : List Declaration) (layout : Declaration) (all : Result (List Declaration) Fault)
-    → index < length texts → turn_layout_in turn (get_or texts index d).now ≡ Ok layout → turn ≡ length before → after ≡ before ++ layout ∷ []
-    → layouts_from (length before) before (map (λ t. t.now) (drop index texts)) ≡ all → layouts_from (length after) after (map (λ t. t.now) (drop (index + 1) texts)) ≡ all
-layout_next texts index turn d before after layout all inside said here pushed so_far =
-    let text : List ℕ = (get_or texts index d).now in
-    layout_more text (map (λ t. t.now) (drop (index + 1) texts)) before after layout (ap (λ k. turn_layout_in k text) (sym here) ∙ said) pushed
-    ∙ ap (layouts_from (length before) before) (sym (text_on texts index d inside)) ∙ so_far
+none_fails : {S : Type 0} (sources : List S) → all_failures (λ s. 0) sources ≡ 0
+none_fails [] = refl
+none_fails (source ∷ sources) = omega (arith, none_fails sources)
 
-pub layout_last : (texts : List (Bor (List ℕ))) (index turn : ℕ) (d : Bor (List ℕ)) (before : List Declaration) (error : CommandError) (all : Result (List Declaration) Fault)
-    → index < length texts → Gives {A = Declaration} (λ l. l) (Err error) (turn_layout_in turn (get_or texts index d).now) → turn ≡ length before
-    → layouts_from (length before) before (map (λ t. t.now) (drop index texts)) ≡ all → Gives {A = Vec Declaration} (λ v. v.items) (Err error) all
-layout_last texts index turn d before error all inside fails here so_far =
-    let text : List ℕ = (get_or texts index d).now in
-    subst (λ (r : Result (List Declaration) Fault). Gives {A = Vec Declaration} (λ v. v.items) (Err error) r) (ap (layouts_from (length before) before) (sym (text_on texts index d inside)) ∙ so_far)
-    (layout_stops text (map (λ t. t.now) (drop (index + 1) texts)) before error
-    (subst (λ (k : ℕ). Gives {A = Declaration} (λ l. l) (Err error) (turn_layout_in k text)) here fails))
+no_read_fails : {T A : Type 0} (view : T → A) (due : Result A Fault) (result : Result T CommandError) → GivesOrFails view result due → ToldBy 0 0 result → Gives view result due
+no_read_fails view due (Ok found) is told = is
+no_read_fails view due (Err (Told fault)) is told = is
+no_read_fails view due (Err ReadFailed) is told = absurd (omega (arith, told))
+no_read_fails view due (Err OutOfMemory) is told = tt
 
-pub layout_end : (texts : List (Bor (List ℕ))) (index : ℕ) (before : List Declaration) (all : Result (List Declaration) Fault) → length texts ≤ index
-    → layouts_from (length before) before (map (λ t. t.now) (drop index texts)) ≡ all → all ≡ Ok before
-layout_end texts index before all past so_far =
-    sym so_far ∙ layouts_end (length before) before (map (λ t. t.now) (drop index texts)) (ap (map (λ t. t.now)) (drop_all index texts past))
+-- of texts no read fails, so what is given of their sources is given of them
+pub gives_texts : {S T A : Type 0} (seen : S → List ℕ) (view : T → A) (due : List (List ℕ) → Result A Fault) (sources after : List S) (texts : List (List ℕ)) (result : Result T CommandError)
+    → map seen sources ≡ texts → IfSome (all_remaining (λ s. Some (seen s)) sources) (λ found. GivesOrFails view result (due found))
+    → ToldBy (all_failures (λ s. 0) sources) (all_failures (λ s. 0) after) result → Gives view result (due texts)
+gives_texts seen view due sources after texts result same is told =
+    no_read_fails view (due texts) result
+    (known_is (all_remaining (λ s. Some (seen s)) sources) texts (λ found. GivesOrFails view result (due found)) (sources_known seen sources ∙ ap Some same) is)
+    (subst (λ (n : ℕ). ToldBy n 0 result) (none_fails sources) (subst (λ (n : ℕ). ToldBy (all_failures (λ s. 0) sources) n result) (none_fails after) told))
+
+-- a text beside them adds no failure
+pub beside_text : {T : Type 0} (old new : ℕ) (result : Result T CommandError) → ToldBy (old + 0) (new + 0) result → ToldBy old new result
+beside_text old new result told =
+    subst (λ (n : ℕ). ToldBy n new result) (same old) (subst (λ (n : ℕ). ToldBy (old + 0) n result) (same new) told)
+  where
+    same : (n : ℕ) → n + 0 ≡ n
+    same n = omega arith
 
 pub talk_ends : (due : List (List ℕ) → List ℕ → Result Printed Fault) (known : Option (List (List ℕ))) (other : Option (List ℕ)) (a a' b b' : ℕ) (answer : Result Answer CommandError) (status : Status)
     → IfSome known (λ texts. IfSome other (λ input. GivesOrFails answer_seen answer (due texts input))) → ToldBy a a' answer → FinishesBy b b' answer status

@@ -17,8 +17,8 @@ ghost use Rattle.std.specs.Prelude.{[]};
 
 use crate::commands::check::lent;
 use crate::fault::{CommandError, Fault};
-use crate::input::layouts::{layouts_in, read_layouts};
-use crate::input::source::{Source, Text};
+use crate::input::layouts::read_layouts;
+use crate::input::source::{Source, Text, sources_of};
 use crate::input::turns::read_turns;
 use crate::output::answer::{Answer, finish};
 use crate::output::findings::push_findings;
@@ -225,20 +225,6 @@ fn talk_turns<S: Source>(
     talk_told(alloc, layouts, turns.as_slice())
 }
 
-/// What `talk` answers to the texts of layouts and of turns.
-///
-/// # Errors
-///
-/// The first fault: of the layouts in order, then that they are not of one geometry, then of the lines, then that there are
-/// not as many turns as layouts; out of memory.
-pub fn talk_texts(alloc: Global, layouts: &[&[u8]], records: &[u8]) -> Result<Answer, CommandError>
-    ensures { Gives answer_seen result (talk (map (λ text. text.now) layouts.now) records.now) }
-{
-    let layouts = layouts_in(alloc, layouts)?;
-    one_geometry(layouts.as_slice())?;
-    talk_turns(alloc, layouts.as_slice(), &mut Text(records))
-}
-
 /// What `talk` answers to the sources of layouts and of turns.
 fn talk_read<L: Source, R: Source>(
     alloc: Global,
@@ -256,6 +242,19 @@ fn talk_read<L: Source, R: Source>(
     let layouts = read_layouts(alloc, layouts)?;
     one_geometry(layouts.as_slice())?;
     talk_turns(alloc, layouts.as_slice(), records)
+}
+
+/// What `talk` answers to the texts of layouts and of turns.
+///
+/// # Errors
+///
+/// The first fault: of the layouts in order, then that they are not of one geometry, then of the lines, then that there are
+/// not as many turns as layouts; out of memory.
+pub fn talk_texts(alloc: Global, layouts: &[&[u8]], records: &[u8]) -> Result<Answer, CommandError>
+    ensures { Gives answer_seen result (talk (map (λ text. text.now) layouts.now) records.now) }
+{
+    let mut sources = sources_of(alloc, layouts)?;
+    talk_read(alloc, sources.as_mut_slice(), &mut Text(records))
 }
 
 /// Reads the layouts of the turns of a dialogue, and then records in hexadecimal, one a line, with a line

@@ -9,7 +9,7 @@ ghost use Rattle.cli_commands.specs.TurnsHeld.{all_remaining};
 
 use crate::fault::{CommandError, Fault};
 use crate::input::last_layout::LastLayout;
-use crate::input::source::{Source, Whole};
+use crate::input::source::{Source, Whole, sources_of};
 use scr_layout::Layout;
 use std::alloc::Global;
 
@@ -50,22 +50,6 @@ fn turn_layout_in(
     }
 }
 
-/// The layouts of the turns in order, by their texts, or the first fault.
-pub fn layouts_in(alloc: Global, texts: &[&[u8]]) -> Result<Vec<Layout>, CommandError>
-    ensures { Gives (λ v. v.items) result
-        (layouts_from 0 [] (map (λ text. text.now) texts.now)) }
-{
-    let mut layouts = Vec::new(alloc);
-    let mut last = None;
-    for text in texts {
-        match turn_layout_in(alloc, &mut last, layouts.len(), text) {
-            Ok(layout) => layouts.push(layout)?,
-            Err(error) => return Err(error),
-        }
-    }
-    Ok(layouts)
-}
-
 fn read_turn_layout<S: Source>(
     alloc: Global,
     last: &mut Option<LastLayout>,
@@ -99,4 +83,13 @@ pub fn read_layouts<L: Source>(
         }
     }
     Ok(layouts)
+}
+
+/// The same of texts.
+pub fn layouts_in(alloc: Global, texts: &[&[u8]]) -> Result<Vec<Layout>, CommandError>
+    ensures { Gives (λ v. v.items) result
+        (layouts_from 0 [] (map (λ text. text.now) texts.now)) }
+{
+    let mut sources = sources_of(alloc, texts)?;
+    read_layouts(alloc, sources.as_mut_slice())
 }

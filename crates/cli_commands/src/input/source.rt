@@ -1,7 +1,7 @@
 //! What an input is taken from: a text at hand, or a reader. Only how lines are taken in turn and how all is had at once
 //! differ; all else is written for both.
 
-ghost use Rattle.std.specs.Prelude.{◌≡◌, ℕ, List, Option, Some, Err, IfErr, IfOk, IfSome};
+ghost use Rattle.std.specs.Prelude.{◌≡◌, ℕ, List, Option, Some, Err, IfErr, IfOk, IfSome, map};
 ghost use Rattle.cli_commands.specs.Causes.{ToldBy};
 ghost use Rattle.cli_commands.specs.Fault.{IsNoFault};
 ghost use Rattle.cli_commands.specs.Lines.{within_limit};
@@ -12,7 +12,7 @@ use crate::input::bytes::{read_text, within_limit};
 use crate::input::lines::{TakesLines, take_lines};
 use crate::input::reading::read_lines;
 use crate::streams::GivesBytes;
-use std::alloc::Global;
+use std::alloc::{AllocError, Global};
 
 /// All that a source had: lent where it is a text, held where it was read.
 pub trait Whole: Drop {
@@ -79,6 +79,18 @@ impl<'a> Source for Text<'a> {
             Err(error) => Err(error),
         }
     }
+}
+
+/// Each of the texts as a source, in order.
+pub(crate) fn sources_of<'a>(alloc: Global, texts: &[&'a [u8]]) -> Result<Vec<Text<'a>>, AllocError>
+    ensures { IfOk result (λ sources. map (λ source. source.0.now) sources.items
+        ≡ map (λ text. text.now) texts.now) }
+{
+    let mut sources = Vec::new(alloc);
+    for text in texts {
+        sources.push(Text(text))?;
+    }
+    Ok(sources)
 }
 
 impl Whole for Vec<u8> {
