@@ -20,8 +20,8 @@ same "an example in docs/LAYOUTS.md differs from examples/order.toml or examples
 "$program" show --format svg < examples/signon.hex > "$work/drawn"
 same "docs/signon.svg differs from what the program draws of examples/signon.hex" "$work/drawn" docs/signon.svg
 grep '^| `F' docs/FINDINGS.md > "$work/table"
-grep '^| `F' crates/command_tests/stdout > "$work/rows"
-same "the first table of docs/FINDINGS.md differs from the row 'table' of crates/command_tests/stdout" "$work/table" "$work/rows"
+sed -n 's/^= \(| `F\)/\1/p' crates/command_tests/stdin > "$work/rows"
+same "the first table of docs/FINDINGS.md differs from the row 'table' of crates/command_tests/stdin" "$work/table" "$work/rows"
 for page in crates/*/README.md; do
   name=${page%/README.md}
   name=${name#crates/}

@@ -1,7 +1,8 @@
-//! Runs the checker, layouts and order lines over lines of a script, and prints each line with what they answer.
+//! Runs the checker, layouts and order lines over lines of a script, and compares what they answer.
 //!
-//! The script is `stdin`, and what must come out `stdout`, whose answers were worked out by hand from docs/LAYOUTS.md and
-//! docs/PROFILE.md. Data in place of test functions: neither is proved.
+//! The script is `stdin`, in which the answer of each row stands below it, after `= `. A row that is answered otherwise is printed as
+//! it should stand, and nothing else is. The answers were worked out by hand from docs/LAYOUTS.md and docs/PROFILE.md. Data in place of
+//! test functions: it isn't proved.
 //!
 //! `before LINE | LINE` gives the layout's text, or `grid SIZE COUNT STEP LENGTH` so many inputs of this length, each so many
 //! places after the one before, the first at place 1. `after RECORD; RECORD` gives records, and `list NAME: TIMES KEY, TIMES
@@ -27,12 +28,12 @@ mod talks;
 mod tried;
 mod words;
 
-use anyhow::{Context, Result};
+use anyhow::Result;
 use promise::Told;
 use scr_layout::Layout;
 use script::{copied, keep, layout_of};
 use std::alloc::Global;
-use test_words::{Row, is_row};
+use test_words::{Row, Standing, is_answer, is_row};
 
 /// What the lines of a script begin with.
 #[derive(Drop)]
@@ -127,7 +128,6 @@ pub(crate) fn push_answer(row: &mut Row, setup: &Setup, verb: &str, words: &str)
 
 /// Adds what a row answers, or asked twice.
 fn push_row(row: &mut Row, setup: &Setup, verb: &str, words: &str) {
-    row.word(" > ");
     if verb == "twice" {
         memory::push_twice(row, setup, words);
     } else {
@@ -135,21 +135,25 @@ fn push_row(row: &mut Row, setup: &Setup, verb: &str, words: &str) {
     }
 }
 
-/// Adds a line as it is printed: of a row with its answer.
+/// Adds a line as it should stand: a row with its answer.
 fn push_line(row: &mut Row, setup: &mut Setup, line: &str) {
     row.word(line);
     let (verb, words) = line.split_once(' ').unwrap_or((line, ""));
     if is_row(line) && !take_line(row, setup, verb, words) {
-        push_row(row, setup, verb, words);
+        let mut answer = Row::new(row.alloc());
+        push_row(&mut answer, setup, verb, words);
+        row.answer(&answer);
     }
 }
 
-/// A line as it is printed.
-fn printed(alloc: Global, setup: &mut Setup, line: &str) -> Result<String> {
+/// A line as it stands, without its answer, and as it should.
+fn answered(alloc: Global, setup: &mut Setup, line: String) -> Result<Standing> {
     let mut row = Row::new(alloc);
-    push_line(&mut row, setup, line);
-    row.finish()
-        .context("out of memory, or a row that cannot be read")
+    push_line(&mut row, setup, line.as_str());
+    Ok(Standing {
+        stands: line,
+        due: row.finish()?,
+    })
 }
 
 /// Nothing to begin with.
@@ -162,11 +166,26 @@ fn no_setup(alloc: Global) -> Setup {
     }
 }
 
-fn main(rt: HostRuntime) -> Result<()> {
-    let mut setup = no_setup(rt.alloc());
-    for line in rt.lines(rt.alloc()) {
-        let text = printed(rt.alloc(), &mut setup, line?.as_str())?;
-        println!(rt; "{text}")?;
+/// Prints a row as it should stand, where it stands otherwise.
+fn print_difference(rt: &HostRuntime, row: &Standing) -> Result<()> {
+    if let Some(due) = row.difference() {
+        println!(rt; "{due}")?;
     }
     Ok(())
+}
+
+fn main(rt: HostRuntime) -> Result<()> {
+    let alloc = rt.alloc();
+    let mut setup = no_setup(alloc);
+    let mut row = Standing::new(alloc);
+    for line in rt.lines(alloc) {
+        let line = line?;
+        if is_answer(line.as_str()) {
+            row.push_answer(line.as_str())?;
+        } else {
+            print_difference(&rt, &row)?;
+            row = answered(alloc, &mut setup, line)?;
+        }
+    }
+    print_difference(&rt, &row)
 }

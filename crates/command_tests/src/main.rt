@@ -1,7 +1,8 @@
-//! Runs the program's commands and the ends of sessions over lines of a script, and prints each line with what they answer.
+//! Runs the program's commands and the ends of sessions over lines of a script, and compares what they answer.
 //!
-//! The script is `stdin`, and what must come out `stdout`, whose answers were worked out by hand from docs/PROGRAM.md and the
-//! tables of docs/PROFILE.md. Data in place of test functions: neither is proved.
+//! The script is `stdin`, in which the answer of each row stands below it, after `= `. A row that is answered otherwise is printed as
+//! it should stand, and nothing else is. The answers were worked out by hand from docs/PROGRAM.md and the tables of docs/PROFILE.md. Data
+//! in place of test functions: it isn't proved.
 //!
 //! `file TEXT` gives the layout or the keys of the lines below, or of `talk` the layouts, with `|` between two of them, and
 //! `many N TEXT` the same text so often as a file. `attach HEX` is a terminal that presses the file's keys on a host that
@@ -55,7 +56,7 @@ use crate::commands::Command;
 use crate::notation::{bytes_of, read_text, repeated};
 use anyhow::Result;
 use std::alloc::Global;
-use test_words::{Row, is_row};
+use test_words::{Row, Standing, is_answer, is_row};
 
 /// What lines above a row gave.
 #[derive(Drop)]
@@ -128,7 +129,6 @@ fn push_read(row: &mut Row, file: &[u8], verb: &str, words: &str) -> bool {
 
 /// Adds what a row answers.
 fn push_answer(row: &mut Row, given: &Given, verb: &str, words: &str) {
-    row.word(" > ");
     let file = given.file.as_slice();
     let is_verb = cores::push_answer(row, &given.core, verb, words)
         || runs::push_answer(row, verb, words)
@@ -140,11 +140,13 @@ fn push_answer(row: &mut Row, given: &Given, verb: &str, words: &str) {
     row.word_if(!is_verb, "no such verb");
 }
 
-/// Adds a line as it is printed: of a row with its answer.
+/// Adds a line as it should stand: a row with its answer.
 fn push_line(row: &mut Row, given: &mut Given, line: &str, verb: &str, words: &str) {
     row.word(line);
     if is_row(line) && !cores::take_line(row, &mut given.core, verb, words) {
-        push_answer(row, given, verb, words);
+        let mut answer = Row::new(row.alloc());
+        push_answer(&mut answer, given, verb, words);
+        row.answer(&answer);
     }
 }
 
@@ -158,8 +160,8 @@ fn take_file(alloc: Global, file: &mut Vec<u8>, verb: &str, words: &str) -> Resu
     Ok(true)
 }
 
-/// A line as it is printed. A row that is answered twice, and the file that it reads, tell that memory was refused.
-fn printed(alloc: Global, given: &mut Given, line: &str) -> Result<String> {
+/// A line as it should stand. A row that is answered twice, and the file that it reads, tell that memory was refused.
+fn due(alloc: Global, given: &mut Given, line: &str) -> Result<String> {
     let (verb, words) = line.split_once(' ').unwrap_or((line, ""));
     if verb == "twice" {
         return memory::twice_text(alloc, line, words, given.file.as_slice());
@@ -172,16 +174,35 @@ fn printed(alloc: Global, given: &mut Given, line: &str) -> Result<String> {
     row.finish()
 }
 
+/// A line as it stands, without its answer, and as it should.
+fn answered(alloc: Global, given: &mut Given, line: String) -> Result<Standing> {
+    let due = due(alloc, given, line.as_str())?;
+    Ok(Standing { stands: line, due })
+}
+
+/// Prints a row as it should stand, where it stands otherwise.
+fn print_difference(rt: &HostRuntime, row: &Standing) -> Result<()> {
+    if let Some(due) = row.difference() {
+        println!(rt; "{due}")?;
+    }
+    Ok(())
+}
+
 fn main(rt: HostRuntime) -> Result<()> {
     let alloc = rt.alloc();
     let mut given = Given {
         file: Vec::new(alloc),
         core: cores::first_setup(alloc),
     };
+    let mut row = Standing::new(alloc);
     for line in rt.lines(alloc) {
         let line = line?;
-        let text = printed(alloc, &mut given, line.as_str())?;
-        println!(rt; "{text}")?;
+        if is_answer(line.as_str()) {
+            row.push_answer(line.as_str())?;
+        } else {
+            print_difference(&rt, &row)?;
+            row = answered(alloc, &mut given, line)?;
+        }
     }
-    Ok(())
+    print_difference(&rt, &row)
 }

@@ -72,7 +72,7 @@ fn push_answer(alloc: Global, out: &mut String, words: &str, file: &[u8]) -> Res
 /// The row `twice show TEXT` with its answer.
 pub(crate) fn twice_text(alloc: Global, line: &str, words: &str, file: &[u8]) -> Result<String> {
     let mut out = String::from_str(alloc, line)?;
-    out.push_str(" > ")?;
+    out.push_str("\n= ")?;
     push_answer(alloc, &mut out, words, file)?;
     Ok(out)
 }

@@ -70,10 +70,7 @@ pub(crate) fn push_megabyte(row: &mut Row) {
         return row.spoil();
     };
     match count_bytes(&mut deframer, stream.as_slice()) {
-        Ok(bytes) => {
-            row.word(" ");
-            row.show(&bytes);
-        }
+        Ok(bytes) => row.show(&bytes),
         Err(_) => row.spoil(),
     }
     row.word(" bytes in records");

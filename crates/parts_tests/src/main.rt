@@ -1,8 +1,9 @@
 //! Runs the codec, the wire, lists in the order of places, and the screen with its keys and answers over lines of a script, and
-//! prints each line with what they answer.
+//! compares what they answer.
 //!
-//! The script is `stdin`, and what must come out `stdout`, whose answers were worked out by hand from the rules of
-//! docs/PROFILE.md. Data in place of test functions: neither is proved.
+//! The script is `stdin`, in which the answer of each row stands below it, after `= `. A row that is answered otherwise is printed as
+//! it should stand, and nothing else is. The answers were worked out by hand from the rules of docs/PROFILE.md. Data in place of test
+//! functions: it isn't proved.
 //!
 //! `addresses 16` or `addresses 14` says how addresses are spelled in the lines below, `screen 2x10 3x10` gives the sizes and
 //! `after RECORD; RECORD` the records of the screens that they begin with, each on a new one. `places 800 store 7 1; list` makes
@@ -28,8 +29,9 @@ mod words;
 
 use anyhow::Result;
 use ds_codec::{Mode, Size};
+use std::alloc::Global;
 use std::env;
-use test_words::{Row, is_row};
+use test_words::{Row, Standing, is_answer, is_row};
 
 /// What the lines of a script begin with.
 #[derive(Drop)]
@@ -112,21 +114,18 @@ fn push_answer(row: &mut Row, setup: &Setup, verb: &str, words: &str) -> bool {
 
 /// Adds the answer of a row.
 fn push_row(row: &mut Row, setup: &Setup, verb: &str, words: &str) {
-    row.word(" >");
-    if push_listed(row, verb, words) {
-        return;
-    }
-    row.word(" ");
-    let is_verb = push_answer(row, setup, verb, words);
+    let is_verb = push_listed(row, verb, words) || push_answer(row, setup, verb, words);
     row.word_if(!is_verb, "no such verb");
 }
 
-/// Adds a line as it is printed: of a row with its answer.
+/// Adds a line as it should stand: a row with its answer.
 fn push_line(row: &mut Row, setup: &mut Setup, line: &str) {
     row.word(line);
     let (verb, words) = parted(line, " ");
     if is_row(line) && !take_line(row, setup, verb, words) {
-        push_row(row, setup, verb, words);
+        let mut answer = Row::new(row.alloc());
+        push_row(&mut answer, setup, verb, words);
+        row.answer(&answer);
     }
 }
 
@@ -137,19 +136,37 @@ pub(crate) fn print_row(rt: &impl Print, row: Row) -> Result<()> {
     Ok(())
 }
 
-/// Prints a line of the script with its answer.
-fn print_line(rt: &HostRuntime, setup: &mut Setup, line: &str) -> Result<()> {
-    let mut row = Row::new(rt.alloc());
-    push_line(&mut row, setup, line);
-    print_row(rt, row)
+/// A line as it stands, without its answer, and as it should.
+fn answered(alloc: Global, setup: &mut Setup, line: String) -> Result<Standing> {
+    let mut row = Row::new(alloc);
+    push_line(&mut row, setup, line.as_str());
+    Ok(Standing {
+        stands: line,
+        due: row.finish()?,
+    })
 }
 
-/// Prints each line of the script with its answer.
-fn print_lines(rt: &HostRuntime, setup: &mut Setup) -> Result<()> {
-    for line in rt.lines(rt.alloc()) {
-        print_line(rt, setup, line?.as_str())?;
+/// Prints a row as it should stand, where it stands otherwise.
+fn print_difference(rt: &HostRuntime, row: &Standing) -> Result<()> {
+    if let Some(due) = row.difference() {
+        println!(rt; "{due}")?;
     }
     Ok(())
+}
+
+/// Prints each row of the script that stands otherwise than it should.
+fn print_differences(rt: &HostRuntime, setup: &mut Setup) -> Result<()> {
+    let mut row = Standing::new(rt.alloc());
+    for line in rt.lines(rt.alloc()) {
+        let line = line?;
+        if is_answer(line.as_str()) {
+            row.push_answer(line.as_str())?;
+        } else {
+            print_difference(rt, &row)?;
+            row = answered(rt.alloc(), setup, line)?;
+        }
+    }
+    print_difference(rt, &row)
 }
 
 fn print_script(rt: &HostRuntime) -> Result<()> {
@@ -160,7 +177,7 @@ fn print_script(rt: &HostRuntime) -> Result<()> {
         mode: Mode::Bits14,
         after: String::new(rt.alloc()),
     };
-    print_lines(rt, &mut setup)
+    print_differences(rt, &mut setup)
 }
 
 fn main(rt: HostRuntime) -> Result<()> {

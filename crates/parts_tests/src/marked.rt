@@ -41,11 +41,18 @@ pub(crate) fn entry_of(row: &mut Row, words: &str) -> Marked {
     Marked { at, mark }
 }
 
+/// A space after what stands.
+pub(crate) fn push_space(row: &mut Row) {
+    let is_first = row.says("");
+    row.word_if(!is_first, " ");
+}
+
 /// An entry, or that there is none.
 pub(crate) fn push_entry(row: &mut Row, entry: Option<Marked>) {
+    push_space(row);
     let Some(entry) = entry else {
-        return row.word(" none");
+        return row.word("none");
     };
-    row.word_number(" ", entry.at);
+    row.number(entry.at);
     row.word_number(":", entry.mark);
 }

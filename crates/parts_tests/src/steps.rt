@@ -1,13 +1,14 @@
 //! Steps of a list in blocks.
 
-use crate::marked::{Add, Marked, entry_of, push_entry};
+use crate::marked::{Add, Marked, entry_of, push_entry, push_space};
 use crate::parted;
 use ds_places::Pages;
 use test_words::Row;
 
 /// The number of entries, and each of them.
 fn push_list(row: &mut Row, pages: &Pages<Marked>) {
-    row.word_length(" ", pages.len());
+    push_space(row);
+    row.length(pages.len());
     for index in 0..pages.len() {
         push_entry(row, pages.get(index));
     }

@@ -8,6 +8,11 @@ abbrev pub is_row : List ℕ → Bool
 is_row [] = false
 is_row (b ∷ bs) = not (b == 0x23)
 
+-- of the answer to the row above it
+abbrev pub is_answer : List ℕ → Bool
+is_answer [] = false
+is_answer (b ∷ bs) = b == 0x3D
+
 abbrev pub is_space : ℕ → Bool
 is_space c = c == 0x20
 

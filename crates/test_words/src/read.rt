@@ -3,7 +3,7 @@
 ghost use Rattle.std.specs.Prelude.{◌≡◌, [], ◌∷◌, ◌++◌, IfOk, OnOk};
 ghost use Rattle.std.specs.Str.Parse.{ParsesUnsigned};
 ghost use Rattle.test_words.specs.Printed.{GoesOn};
-ghost use Rattle.test_words.specs.Read.{is_row, AreParts, AreWritten};
+ghost use Rattle.test_words.specs.Read.{is_row, is_answer, AreParts, AreWritten};
 
 use anyhow::{Context, Result};
 use std::alloc::{AllocError, Global};
@@ -15,6 +15,16 @@ pub fn is_row(line: &str) -> bool
     match line.as_bytes() {
         [] => false,
         [first, ..] => *first != b'#',
+    }
+}
+
+/// Whether a line is one of the answer to the row above it.
+pub fn is_answer(line: &str) -> bool
+    ensures { result ≡ is_answer line.now }
+{
+    match line.as_bytes() {
+        [] => false,
+        [first, ..] => *first == b'=',
     }
 }
 

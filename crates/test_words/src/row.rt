@@ -1,8 +1,8 @@
 //! A row's answer, and whether all went well on the way to it.
 
-ghost use Rattle.std.specs.Prelude.{◌≡◌, ◌++◌, [], IfOk, IsErr, IsOk, false, true, string_bytes};
+ghost use Rattle.std.specs.Prelude.{◌≡◌, ◌++◌, [], IfOk, IsErr, IsOk, codes, false, true, string_bytes};
 ghost use Rattle.std.specs.Fmt.{decimal};
-ghost use Rattle.test_words.specs.Printed.{hex_word, bool_word};
+ghost use Rattle.test_words.specs.Printed.{hex_word, bool_word, GoesOn};
 
 use crate::printed::{
     push_bool, push_bytes, push_hex, push_length, push_letters, push_number, push_word_hex,
@@ -44,7 +44,8 @@ impl Row {
 
     /// Keeps that something went wrong.
     pub fn spoil(&mut self)
-        ensures { self.new.is_spoilt ≡ true }
+        ensures spoilt { self.new.is_spoilt ≡ true }
+        ensures text { self.new.text ≡ self.old.text }
     {
         self.is_spoilt = true;
     }
@@ -63,6 +64,7 @@ impl Row {
     /// What was tried; spoils the row where it failed.
     pub fn take<T: Drop, E: Drop>(&mut self, tried: Result<T, E>) -> Option<T>
         ensures kept { self.old.is_spoilt ≡ true → self.new.is_spoilt ≡ true }
+        ensures text { self.new.text ≡ self.old.text }
     {
         match tried {
             Ok(value) => Some(value),
@@ -199,6 +201,22 @@ impl Row {
     {
         self.word(other.text.as_str());
         if other.is_spoilt {
+            self.spoil();
+        }
+    }
+
+    /// What a row answers, below it: each line of it after `= `. Spoils this row where the answer is spoilt.
+    pub fn answer(&mut self, answer: &Row)
+        ensures kept { self.old.is_spoilt ≡ true → self.new.is_spoilt ≡ true }
+        ensures joined { self.new.is_spoilt ≡ false → answer.now.is_spoilt ≡ false }
+        ensures begun { self.new.is_spoilt ≡ false
+            → GoesOn (string_bytes self.old.text ++ codes "\n= ") (string_bytes self.new.text) }
+    {
+        let lines = answer.text.as_str().replace(self.alloc, '\n', "\n= ");
+        let lines = self.take(lines).unwrap_or(String::new(self.alloc));
+        self.word("\n= ");
+        self.word(lines.as_str());
+        if answer.is_spoilt {
             self.spoil();
         }
     }
