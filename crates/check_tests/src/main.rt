@@ -33,7 +33,7 @@ use promise::Told;
 use scr_layout::Layout;
 use script::{copied, keep, layout_of};
 use std::alloc::Global;
-use test_words::{Row, Standing, is_answer, is_row};
+use test_words::{Answers, Row, print_differences};
 
 /// What the lines of a script begin with.
 #[derive(Drop)]
@@ -126,34 +126,18 @@ pub(crate) fn push_answer(row: &mut Row, setup: &Setup, verb: &str, words: &str)
     row.word_if(!is_verb, "no such verb");
 }
 
-/// Adds what a row answers, or asked twice.
-fn push_row(row: &mut Row, setup: &Setup, verb: &str, words: &str) {
-    if verb == "twice" {
-        memory::push_twice(row, setup, words);
-    } else {
-        push_answer(row, setup, verb, words);
+impl Answers for Setup {
+    fn take_line(&mut self, row: &mut Row, verb: &str, words: &str) -> bool {
+        take_line(row, self, verb, words)
     }
-}
 
-/// Adds a line as it should stand: a row with its answer.
-fn push_line(row: &mut Row, setup: &mut Setup, line: &str) {
-    row.word(line);
-    let (verb, words) = line.split_once(' ').unwrap_or((line, ""));
-    if is_row(line) && !take_line(row, setup, verb, words) {
-        let mut answer = Row::new(row.alloc());
-        push_row(&mut answer, setup, verb, words);
-        row.answer(&answer);
+    fn push_answer(&mut self, row: &mut Row, verb: &str, words: &str) {
+        if verb == "twice" {
+            memory::push_twice(row, self, words);
+        } else {
+            push_answer(row, self, verb, words);
+        }
     }
-}
-
-/// A line as it stands, without its answer, and as it should.
-fn answered(alloc: Global, setup: &mut Setup, line: String) -> Result<Standing> {
-    let mut row = Row::new(alloc);
-    push_line(&mut row, setup, line.as_str());
-    Ok(Standing {
-        stands: line,
-        due: row.finish()?,
-    })
 }
 
 /// Nothing to begin with.
@@ -166,26 +150,7 @@ fn no_setup(alloc: Global) -> Setup {
     }
 }
 
-/// Prints a row as it should stand, where it stands otherwise.
-fn print_difference(rt: &HostRuntime, row: &Standing) -> Result<()> {
-    if let Some(due) = row.difference() {
-        println!(rt; "{due}")?;
-    }
-    Ok(())
-}
-
 fn main(rt: HostRuntime) -> Result<()> {
     let alloc = rt.alloc();
-    let mut setup = no_setup(alloc);
-    let mut row = Standing::new(alloc);
-    for line in rt.lines(alloc) {
-        let line = line?;
-        if is_answer(line.as_str()) {
-            row.push_answer(line.as_str())?;
-        } else {
-            print_difference(&rt, &row)?;
-            row = answered(alloc, &mut setup, line)?;
-        }
-    }
-    print_difference(&rt, &row)
+    print_differences(&rt, alloc, rt.lines(alloc), &mut no_setup(alloc))
 }

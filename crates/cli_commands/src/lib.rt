@@ -18,7 +18,7 @@ pub use commands::{
 };
 pub use fault::{CommandError, Fault, failure};
 pub use input::ahead::ReadAhead;
-pub use input::bytes::{read_text, within_limit};
+pub use input::bytes::{MOST_BYTES, read_text, within_limit};
 pub use input::keys::{Keys, keys_in, read_keys};
 pub use input::last_layout::LastLayout;
 pub use input::layout::{layout_in, read_layout};

@@ -2,7 +2,6 @@ pub mod Plain
 mod RecordLines
 mod Known
 pub mod Logged
-mod Places
 mod Limited
 mod Helped
 mod SameFound

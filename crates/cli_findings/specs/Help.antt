@@ -6,7 +6,6 @@ use Rattle.ds_codec.specs.declared.size.Mode.{Mode}
 use Rattle.ds_codec.specs.declared.size.Size.{Size}
 use Rattle.ds_codec.specs.Address.{written_address}
 use Rattle.ds_codec.specs.Geometry.{cells_of}
-use Rattle.ds_screen.specs.Ring.{ring_back}
 use Rattle.scr_layout.specs.declared.entry.Kind.{Kind}
 use Rattle.scr_layout.specs.declared.entry.Kind.TheVariants.{Input, Fixed}
 use Rattle.scr_layout.specs.Entry.{Declared}
@@ -17,15 +16,12 @@ use Rattle.scr_check.specs.declared.finding.Finding.TheVariants.{NotAWrite, Unde
 use Rattle.scr_check.specs.declared.origins.Origin.{Origin}
 use Rattle.scr_check.specs.declared.traced.Traced.{Traced}
 use Rattle.scr_check.specs.FindingText.{name_at}
+use Rattle.scr_check.specs.Traced.{attribute_place}
 use Rattle.cli_findings.specs.FieldName.{field_name}
 use Rattle.cli_findings.specs.Facts.{row_at, column_at}
 use Rattle.cli_findings.specs.Rule.{rule_of, change_of}
 
 -- ---- a field without an entry
-
--- the position of the attribute that begins a field at a place
-abbrev pub attribute_place : Size → ℕ → ℕ
-attribute_place size place = ring_back (cells_of size) place 1
 
 abbrev pub names_in : List Declared → List (List ℕ)
 names_in entries = map (λ entry. entry.name) entries

@@ -4,7 +4,7 @@ ghost use Rattle.std.specs.Prelude.{◌≡◌, ◌++◌, ◌<◌, ◌≤◌, opt
 ghost use Rattle.std.specs.String.{string_bytes};
 ghost use Rattle.ds_codec.specs.Geometry.{cells_of, IsGood};
 ghost use Rattle.scr_check.specs.FindingText.{name_at};
-ghost use Rattle.cli_findings.specs.Help.{attribute_place, entry_keys, undeclared_help, modified_help, selectable_help, undeclared_fixed_help, address_digits, missing_text, missing_help, no_cell_text, absent_help, too_long_help, kind_words, other_kind_help, leave_out_help, begin_help, entry_help, field_help, built_help, help_for, help_of};
+ghost use Rattle.cli_findings.specs.Help.{entry_keys, undeclared_help, modified_help, selectable_help, undeclared_fixed_help, address_digits, missing_text, missing_help, no_cell_text, absent_help, too_long_help, kind_words, other_kind_help, leave_out_help, begin_help, entry_help, field_help, built_help, help_for, help_of};
 
 use crate::facts::{column_at, row_at};
 use crate::free_name::field_name;
@@ -12,21 +12,9 @@ use crate::rule::rule_of;
 use ds_codec::{Geometry, Size, encode_address};
 use ds_screen::ring::previous;
 use order_lines::push_bytes;
-use scr_check::{Finding, Origin, Overlong, Traced, name_at};
+use scr_check::{Finding, Origin, Overlong, Traced, attribute_place, name_at};
 use scr_layout::{Entry, Kind, Layout};
 use std::alloc::{AllocError, Global};
-
-/// The position of the attribute that begins a field at a place.
-#[tactic(auto, using(crate::proofs::Places::before_first, crate::proofs::Places::before_later))]
-fn attribute_place(size: Size, place: u32) -> u32
-    ensures { result ≡ attribute_place size place }
-{
-    if place == 0 {
-        size.cells().saturating_sub(1)
-    } else {
-        place - 1
-    }
-}
 
 /// The keys of an entry for a field at a place, but for its length.
 fn push_entry(

@@ -7,13 +7,10 @@ ghost use Rattle.cli_findings.specs.Region.{digit_ends, record_ends, standing_in
 use crate::facts::{byte_of, record_of};
 use crate::record_line::{is_silent, record_numbers};
 use bstr::ByteSlice;
-use cli_commands::Fault;
+use cli_commands::{Fault, MOST_BYTES};
 use scr_check::{Origin, Traced};
 use std::alloc::{AllocError, Global};
 use std::marker::Model;
-
-/// The most bytes of a text that is looked at.
-const MOST_BYTES: usize = 16_777_216;
 
 /// The columns of a byte's two digits, counted from 1.
 #[derive(Clone, Copy)]

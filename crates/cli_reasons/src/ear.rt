@@ -29,14 +29,13 @@ use crate::walk::{Lines, Walk};
 use bstr::ByteSlice;
 use cli_characters::convert_back_characters_text;
 use cli_commands::{
-    Answer, CommandError, convert_back_text, convert_text, is_turn, layout_in, show_text,
+    Answer, CommandError, MOST_BYTES, convert_back_text, convert_text, is_turn, layout_in,
+    show_text,
 };
 use memchr::memchr;
 use std::alloc::{AllocError, Global};
 use std::mem::replace;
 
-/// The most bytes of an input.
-const MOST_BYTES: u64 = 16_777_216;
 /// The most bytes of a line that is kept.
 const MOST_KEPT: usize = 16_777_219;
 
@@ -354,7 +353,7 @@ impl Ear {
         if self.walk.lines == Lines::Layout {
             return self.layout_said(name);
         }
-        if MOST_BYTES < self.bytes && !self.walk.lines.is_endless() {
+        if (MOST_BYTES as u64) < self.bytes && !self.walk.lines.is_endless() {
             let flaw = Flaw::at(1, Why::TooLong(Limit::Bytes));
             return Ok(Some(sentence(self.alloc, name, 1, flaw, b"")?));
         }

@@ -14,7 +14,7 @@ use crate::head::{Place, push_head};
 use crate::layout_fault::push_key_fault;
 use crate::telling::sentence;
 use crate::toml_place::place_after;
-use cli_commands::{CommandError, Fault, layout_in};
+use cli_commands::{CommandError, Fault, MOST_BYTES, layout_in};
 use scr_layout::LayoutFault;
 use std::alloc::{AllocError, Global};
 
@@ -82,9 +82,6 @@ fn fault_sentence(
     out.push_str("\n")?;
     Ok(out)
 }
-
-/// The most bytes of a layout.
-const MOST_BYTES: usize = 16_777_216;
 
 /// The sentence that says why a layout of this name is refused, where it is.
 ///

@@ -16,7 +16,7 @@ use crate::manifest::{Manifest, has_name, manifest_in};
 use crate::report::{Form, Report, add, log_text, no_report, printed_report};
 use crate::settled::settle;
 use crate::told::job_told;
-use cli_commands::{Answer, LastLayout, Status};
+use cli_commands::{Answer, LastLayout, MOST_BYTES, Status};
 use cli_findings::refused_results;
 use std::alloc::{AllocError, Global};
 
@@ -227,7 +227,7 @@ fn refused_manifest(
 fn is_long(text: &[u8]) -> bool
     ensures { result ≡ is_long text.now }
 {
-    16_777_216 < text.len()
+    MOST_BYTES < text.len()
 }
 
 /// What `suite` prints of the text of a manifest: of all its screens, or of the one of a name. A manifest that is refused is an

@@ -56,7 +56,7 @@ use crate::commands::Command;
 use crate::notation::{bytes_of, read_text, repeated};
 use anyhow::Result;
 use std::alloc::Global;
-use test_words::{Row, Standing, is_answer, is_row};
+use test_words::{Answers, Row, print_differences};
 
 /// What lines above a row gave.
 #[derive(Drop)]
@@ -140,16 +140,6 @@ fn push_answer(row: &mut Row, given: &Given, verb: &str, words: &str) {
     row.word_if(!is_verb, "no such verb");
 }
 
-/// Adds a line as it should stand: a row with its answer.
-fn push_line(row: &mut Row, given: &mut Given, line: &str, verb: &str, words: &str) {
-    row.word(line);
-    if is_row(line) && !cores::take_line(row, &mut given.core, verb, words) {
-        let mut answer = Row::new(row.alloc());
-        push_answer(&mut answer, given, verb, words);
-        row.answer(&answer);
-    }
-}
-
 /// Takes a line that gives the file; whether it is one.
 fn take_file(alloc: Global, file: &mut Vec<u8>, verb: &str, words: &str) -> Result<bool> {
     match verb {
@@ -160,32 +150,31 @@ fn take_file(alloc: Global, file: &mut Vec<u8>, verb: &str, words: &str) -> Resu
     Ok(true)
 }
 
-/// A line as it should stand. A row that is answered twice, and the file that it reads, tell that memory was refused.
-fn due(alloc: Global, given: &mut Given, line: &str) -> Result<String> {
-    let (verb, words) = line.split_once(' ').unwrap_or((line, ""));
-    if verb == "twice" {
-        return memory::twice_text(alloc, line, words, given.file.as_slice());
+impl Answers for Given {
+    fn take_line(&mut self, row: &mut Row, verb: &str, words: &str) -> bool {
+        match take_file(row.alloc(), &mut self.file, verb, words) {
+            Ok(is_file) => is_file || cores::take_line(row, &mut self.core, verb, words),
+            Err(_) => {
+                row.spoil();
+                true
+            }
+        }
     }
-    if take_file(alloc, &mut given.file, verb, words)? {
-        return Ok(String::from_str(alloc, line)?);
-    }
-    let mut row = Row::new(alloc);
-    push_line(&mut row, given, line, verb, words);
-    row.finish()
-}
 
-/// A line as it stands, without its answer, and as it should.
-fn answered(alloc: Global, given: &mut Given, line: String) -> Result<Standing> {
-    let due = due(alloc, given, line.as_str())?;
-    Ok(Standing { stands: line, due })
-}
-
-/// Prints a row as it should stand, where it stands otherwise.
-fn print_difference(rt: &HostRuntime, row: &Standing) -> Result<()> {
-    if let Some(due) = row.difference() {
-        println!(rt; "{due}")?;
+    fn push_answer(&mut self, row: &mut Row, verb: &str, words: &str) {
+        push_answer(row, self, verb, words);
     }
-    Ok(())
+
+    /// A row that is answered twice, which tells that memory was refused.
+    fn whole(&self, alloc: Global, line: &str) -> Result<Option<String>> {
+        match line.split_once(' ') {
+            Some(("twice", words)) => {
+                let text = memory::twice_text(alloc, line, words, self.file.as_slice())?;
+                Ok(Some(text))
+            }
+            _ => Ok(None),
+        }
+    }
 }
 
 fn main(rt: HostRuntime) -> Result<()> {
@@ -194,15 +183,5 @@ fn main(rt: HostRuntime) -> Result<()> {
         file: Vec::new(alloc),
         core: cores::first_setup(alloc),
     };
-    let mut row = Standing::new(alloc);
-    for line in rt.lines(alloc) {
-        let line = line?;
-        if is_answer(line.as_str()) {
-            row.push_answer(line.as_str())?;
-        } else {
-            print_difference(&rt, &row)?;
-            row = answered(alloc, &mut given, line)?;
-        }
-    }
-    print_difference(&rt, &row)
+    print_differences(&rt, alloc, rt.lines(alloc), &mut given)
 }

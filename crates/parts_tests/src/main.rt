@@ -29,9 +29,8 @@ mod words;
 
 use anyhow::Result;
 use ds_codec::{Mode, Size};
-use std::alloc::Global;
 use std::env;
-use test_words::{Row, Standing, is_answer, is_row};
+use test_words::{Answers, Row, print_differences};
 
 /// What the lines of a script begin with.
 #[derive(Drop)]
@@ -112,23 +111,6 @@ fn push_answer(row: &mut Row, setup: &Setup, verb: &str, words: &str) -> bool {
         || screens::push_answer(row, setup, verb, words)
 }
 
-/// Adds the answer of a row.
-fn push_row(row: &mut Row, setup: &Setup, verb: &str, words: &str) {
-    let is_verb = push_listed(row, verb, words) || push_answer(row, setup, verb, words);
-    row.word_if(!is_verb, "no such verb");
-}
-
-/// Adds a line as it should stand: a row with its answer.
-fn push_line(row: &mut Row, setup: &mut Setup, line: &str) {
-    row.word(line);
-    let (verb, words) = parted(line, " ");
-    if is_row(line) && !take_line(row, setup, verb, words) {
-        let mut answer = Row::new(row.alloc());
-        push_row(&mut answer, setup, verb, words);
-        row.answer(&answer);
-    }
-}
-
 /// Prints a row's text.
 pub(crate) fn print_row(rt: &impl Print, row: Row) -> Result<()> {
     let text = row.finish()?;
@@ -136,37 +118,15 @@ pub(crate) fn print_row(rt: &impl Print, row: Row) -> Result<()> {
     Ok(())
 }
 
-/// A line as it stands, without its answer, and as it should.
-fn answered(alloc: Global, setup: &mut Setup, line: String) -> Result<Standing> {
-    let mut row = Row::new(alloc);
-    push_line(&mut row, setup, line.as_str());
-    Ok(Standing {
-        stands: line,
-        due: row.finish()?,
-    })
-}
-
-/// Prints a row as it should stand, where it stands otherwise.
-fn print_difference(rt: &HostRuntime, row: &Standing) -> Result<()> {
-    if let Some(due) = row.difference() {
-        println!(rt; "{due}")?;
+impl Answers for Setup {
+    fn take_line(&mut self, row: &mut Row, verb: &str, words: &str) -> bool {
+        take_line(row, self, verb, words)
     }
-    Ok(())
-}
 
-/// Prints each row of the script that stands otherwise than it should.
-fn print_differences(rt: &HostRuntime, setup: &mut Setup) -> Result<()> {
-    let mut row = Standing::new(rt.alloc());
-    for line in rt.lines(rt.alloc()) {
-        let line = line?;
-        if is_answer(line.as_str()) {
-            row.push_answer(line.as_str())?;
-        } else {
-            print_difference(rt, &row)?;
-            row = answered(rt.alloc(), setup, line)?;
-        }
+    fn push_answer(&mut self, row: &mut Row, verb: &str, words: &str) {
+        let is_verb = push_listed(row, verb, words) || push_answer(row, self, verb, words);
+        row.word_if(!is_verb, "no such verb");
     }
-    print_difference(rt, &row)
 }
 
 fn print_script(rt: &HostRuntime) -> Result<()> {
@@ -177,7 +137,7 @@ fn print_script(rt: &HostRuntime) -> Result<()> {
         mode: Mode::Bits14,
         after: String::new(rt.alloc()),
     };
-    print_differences(rt, &mut setup)
+    print_differences(rt, rt.alloc(), rt.lines(rt.alloc()), &mut setup)
 }
 
 fn main(rt: HostRuntime) -> Result<()> {

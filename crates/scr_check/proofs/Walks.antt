@@ -1,4 +1,4 @@
--- What the walk of `history` takes: the empty struct. Assumes `Logic`.
+-- What the walk of `taken_records` takes: the empty struct. Assumes `Logic`.
 use Rattle.std.proofs.Common.{List, [], ◌∷◌, refl}
 use seplogic.Ra.Ura.{Ura}
 use mir.Val.{Val, vstruct, vnil}

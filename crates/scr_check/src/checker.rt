@@ -5,9 +5,9 @@ ghost use Rattle.scr_check.specs.Checker.{LeadsOn};
 ghost use Rattle.scr_check.specs.Seen.{IsOpening};
 
 use crate::finding::Finding;
-use crate::history::History;
 use crate::opening::{Opening, ready};
 use crate::reached::Reached;
+use crate::taken_records::TakenRecords;
 use scr_layout::Layout;
 use std::alloc::{AllocError, Global};
 use std::marker::Model;
@@ -20,7 +20,7 @@ pub struct Checker<'l> {
     reached: Reached,
     count: usize,
     stands: Option<Finding>,
-    taken: History,
+    taken: TakenRecords,
 }
 
 impl<'l> Model for Checker<'l> {
@@ -69,7 +69,7 @@ impl<'l> Checker<'l> {
             reached,
             count: 0,
             stands: None,
-            taken: History::new(),
+            taken: TakenRecords::new(),
         })
     }
 

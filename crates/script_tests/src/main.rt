@@ -22,8 +22,7 @@ mod words;
 
 use crate::setup::{Setup, new_setup, take_line};
 use anyhow::{Context, Result};
-use std::alloc::Global;
-use test_words::{Row, Standing, is_answer, is_row};
+use test_words::{Answers, Row, print_differences};
 
 /// What stands before and after a mark, or all and nothing where there is none.
 pub(crate) fn parted<'a>(words: &'a str, mark: &str) -> (&'a str, &'a str) {
@@ -33,57 +32,23 @@ pub(crate) fn parted<'a>(words: &'a str, mark: &str) -> (&'a str, &'a str) {
     }
 }
 
-/// Adds the answer of a row.
-fn push_row(row: &mut Row, setup: &mut Setup, verb: &str, words: &str) {
-    let is_verb = readings::push_answer(row, setup, verb, words)
-        || checks::push_answer(row, setup, verb, words)
-        || keys::push_answer(row, setup, verb, words)
-        || lu_names::push_answer(row, verb, words)
-        || left::push_answer(row, verb, words);
-    row.word_if(!is_verb, "no such verb");
-}
-
-/// Adds a line as it should stand: a row with its answer.
-fn push_line(row: &mut Row, setup: &mut Setup, line: &str) {
-    row.word(line);
-    let (verb, words) = parted(line, " ");
-    if is_row(line) && !take_line(row, setup, verb, words) {
-        let mut answer = Row::new(row.alloc());
-        push_row(&mut answer, setup, verb, words);
-        row.answer(&answer);
+impl Answers for Setup {
+    fn take_line(&mut self, row: &mut Row, verb: &str, words: &str) -> bool {
+        take_line(row, self, verb, words)
     }
-}
 
-/// A line as it stands, without its answer, and as it should.
-fn answered(alloc: Global, setup: &mut Setup, line: String) -> Result<Standing> {
-    let mut row = Row::new(alloc);
-    push_line(&mut row, setup, line.as_str());
-    Ok(Standing {
-        stands: line,
-        due: row.finish()?,
-    })
-}
-
-/// Prints a row as it should stand, where it stands otherwise.
-fn print_difference(rt: &HostRuntime, row: &Standing) -> Result<()> {
-    if let Some(due) = row.difference() {
-        println!(rt; "{due}")?;
+    fn push_answer(&mut self, row: &mut Row, verb: &str, words: &str) {
+        let is_verb = readings::push_answer(row, self, verb, words)
+            || checks::push_answer(row, self, verb, words)
+            || keys::push_answer(row, self, verb, words)
+            || lu_names::push_answer(row, verb, words)
+            || left::push_answer(row, verb, words);
+        row.word_if(!is_verb, "no such verb");
     }
-    Ok(())
 }
 
 fn main(rt: HostRuntime) -> Result<()> {
     let alloc = rt.alloc();
     let mut setup = new_setup(alloc).context("a terminal of 24 rows of 80")?;
-    let mut row = Standing::new(alloc);
-    for line in rt.lines(alloc) {
-        let line = line?;
-        if is_answer(line.as_str()) {
-            row.push_answer(line.as_str())?;
-        } else {
-            print_difference(&rt, &row)?;
-            row = answered(alloc, &mut setup, line)?;
-        }
-    }
-    print_difference(&rt, &row)
+    print_differences(&rt, alloc, rt.lines(alloc), &mut setup)
 }

@@ -9,7 +9,7 @@ use std::io::{Read, Write};
 use std::{fs, io};
 use tn_session::Device;
 
-/// How many bytes a layout's file has at most; what comes after them is not read, so that it is too long.
+/// How many bytes of a file are read at most: an input's, and one more, by which a longer one shows that it is too long.
 pub(crate) const MOST_BYTES: u64 = 16_777_217;
 
 /// The end of the name of a layout's file.

@@ -2,6 +2,7 @@
 
 use crate::commands::output;
 use crate::last_files::LastFiles;
+use crate::script_layouts::MOST_BYTES;
 use crate::walk::paths_below;
 use cli_commands::{Answer, CommandError, Status, failure, finish};
 use cli_reasons::{Ear, Lines};
@@ -11,9 +12,6 @@ use std::cell::RefCell;
 use std::fs::metadata;
 use std::io::{IsTerminal, Read};
 use std::{fs, io};
-
-/// The bytes of an input, and one more, by which a longer one shows that it is too long.
-const MOST_BYTES: u64 = 16_777_217;
 
 /// Room for a screen's records or a layout, so that most files are read at once.
 const ROOM: usize = 8_192;

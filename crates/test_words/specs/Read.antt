@@ -1,5 +1,6 @@
 -- Words as they are read.
-use Rattle.std.specs.Prelude.{ℕ, ◌≡◌, Bool, true, false, not, ◌==◌, List, [], ◌∷◌}
+use Rattle.std.specs.Prelude.{ℕ, ◌≡◌, Bool, false, not, ◌==◌, List, [], ◌∷◌, Option, Result, All, IsOk}
+use Rattle.std.specs.Iterator.{Drains}
 use Rattle.std.specs.List.{before_first, after_first}
 use Rattle.std.specs.Str.Parse.{IsNumeral, without_leading_plus, digits_value}
 
@@ -27,3 +28,7 @@ IsWritten base text n = IsNumeral base (without_leading_plus text) × (n ≡ dig
 -- two numbers to this base, each a word
 abbrev pub AreWritten : ℕ → List ℕ → ℕ → ℕ → Type 0
 AreWritten base words first second = IsWritten base (before_first is_space words) first × IsWritten base (after_first is_space words) second
+
+-- every item is there, and each could be read
+abbrev pub AreRead : {S A E : Type 0} → (S → Option (Result A E) → S → Type 0) → S → Type 0
+AreRead {A = A} {E = E} steps s = (all : List (Result A E)) × Drains steps s all × All IsOk all

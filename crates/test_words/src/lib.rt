@@ -4,6 +4,7 @@
 mod printed;
 mod read;
 mod row;
+mod script;
 mod standing;
 
 pub use printed::{
@@ -14,4 +15,5 @@ pub use read::{
     between_bars, byte, cut_word, is_answer, is_row, number, push_words, two_bytes, two_numbers,
 };
 pub use row::Row;
+pub use script::{Answers, print_differences};
 pub use standing::Standing;

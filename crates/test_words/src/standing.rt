@@ -1,6 +1,6 @@
 //! A row as it stands in a script.
 
-ghost use Rattle.std.specs.Prelude.{◌≡◌, ◌++◌, ◌∷◌, None, IfSome, OnOk, string_bytes};
+ghost use Rattle.std.specs.Prelude.{◌≡◌, ◌↔◌, ◌++◌, ◌∷◌, None, IfSome, OnOk, string_bytes};
 
 use std::alloc::{AllocError, Global};
 
@@ -36,7 +36,7 @@ impl Standing {
 
     /// The row as it should stand, where it stands otherwise.
     pub fn difference(&self) -> Option<&str>
-        ensures same { result ≡ None → string_bytes self.now.stands ≡ string_bytes self.now.due }
+        ensures same { result ≡ None ↔ (string_bytes self.now.stands ≡ string_bytes self.now.due) }
         ensures due { IfSome result (λ text. text.now ≡ string_bytes self.now.due) }
     {
         if self.stands.as_str() == self.due.as_str() {

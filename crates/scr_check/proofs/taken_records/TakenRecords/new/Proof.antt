@@ -24,11 +24,11 @@ use denote.Triple.Spec.{Meets, triple_of}
 use denote.Triple.Table.{entered}
 use denote.Triple.Walked.{says, Stays, walk_of, ends_at, walk_Meets}
 use Rattle.scr_check.proofs.Walks.{none, none_made}
-use Rattle.scr_check.specs.contracts.history.History as History
-use Rattle.scr_check.specs.contracts.history.History.new as F
-use Rattle.scr_check.specs.contracts.history.History.new.Key.{name as #self}
-use Rattle.scr_check.proofs.history.History.new.Statement as stated
-use Rattle.scr_check.proofs.history.History.new.Code as code
+use Rattle.scr_check.specs.contracts.taken_records.TakenRecords as TakenRecords
+use Rattle.scr_check.specs.contracts.taken_records.TakenRecords.new as F
+use Rattle.scr_check.specs.contracts.taken_records.TakenRecords.new.Key.{name as #self}
+use Rattle.scr_check.proofs.taken_records.TakenRecords.new.Statement as stated
+use Rattle.scr_check.proofs.taken_records.TakenRecords.new.Code as code
 
 abbrev function : Fn
 function = code.function
@@ -56,7 +56,7 @@ module _ {M : Type 1} {𝓤 : Ura M} (𝓛 : Logic 𝓤) (at_mem : Memory → SP
     walks =
         let a = z.0.3 in
         let vss = z.0.4 in
-        let made : (History.the_row).Denot = record { items = [] } in
+        let made : (TakenRecords.the_row).Denot = record { items = [] } in
         qed 𝓛 ((raw toks ⊛ ‵ (owns (types_at ended.signature.params z.0.0) a vss)) ∷ raw ((held z.0.0 a).requires z.1) ∷ []) ∵
         keep ! (0 ∷ []) $ split ! $ move ! (1 ∷ []) $ drop ! $
         enter ! C Λ function [] Post $ alloc_all ! (λ l. pass_all ! refl tt $

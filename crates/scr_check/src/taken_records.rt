@@ -7,20 +7,20 @@ use std::marker::Model;
 
 /// Records one after the other. A clause reads them as `items`.
 #[derive(Drop)]
-pub(crate) struct History {
+pub(crate) struct TakenRecords {
     pub ghost items: { List (List ℕ) },
 }
 
-impl Model for History {
+impl Model for TakenRecords {
     ghost also_owns = { λ _. ftrue };
 }
 
-impl History {
+impl TakenRecords {
     /// No record yet.
-    pub(crate) fn new() -> History
+    pub(crate) fn new() -> TakenRecords
         ensures { result.items ≡ [] }
     {
-        History {}
+        TakenRecords {}
     }
 
     /// One more record, after the others.
