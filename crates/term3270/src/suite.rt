@@ -131,12 +131,11 @@ impl Disk<'_> {
 
     /// The path of a file from where the program was started.
     fn whole(&self, alloc: Global, path: &str) -> Result<String, AllocError> {
-        let base = self.base;
-        if path.starts_with('/') {
-            String::from_str(alloc, path)
-        } else {
-            format!(in alloc; "{base}{path}")
-        }
+        let base = if path.starts_with('/') { "" } else { self.base };
+        let mut whole = String::with_capacity(alloc, base.len().saturating_add(path.len()))?;
+        whole.push_str(base)?;
+        whole.push_str(path)?;
+        Ok(whole)
     }
 
     /// Why the first of the files of a job is refused that is: of the layouts in their order, or of the records.
