@@ -1,7 +1,7 @@
 //! What the checker finds.
 
 use crate::script::keep;
-use scr_check::{Checker, Demo, Finding, Verdict, check};
+use scr_check::{Checker, Demo, Finding, Verdict, check, check_on};
 use scr_layout::Layout;
 use test_words::Row;
 
@@ -99,17 +99,34 @@ fn push_in_turn(row: &mut Row, layout: &Layout, records: &[Vec<u8>]) {
     }
 }
 
-/// What is said of the records, and also of them one at a time where that differs.
+/// What the checker says of records twice, on one outline, of which the second is said.
+fn push_again(row: &mut Row, layout: &Layout, records: &[Vec<u8>]) {
+    let slices = lent(row, records);
+    let mut kept = None;
+    let _ = check_on(row.alloc(), &mut kept, slices.as_slice(), layout);
+    let verdict = check_on(row.alloc(), &mut kept, slices.as_slice(), layout).ok();
+    push_verdict(row, layout, &verdict);
+}
+
+/// Adds what is said another way, where it differs.
+fn push_unless_same(row: &mut Row, told: &Row, way: &str, other: &Row) {
+    if !other.says(told.text.as_str()) {
+        row.word(way);
+        row.join(other);
+    }
+}
+
+/// What is said of the records, and also of them one at a time, and once more on the same outline, where that differs.
 pub(crate) fn push_judged(row: &mut Row, layout: &Layout, records: &[Vec<u8>]) {
     let mut told = Row::new(row.alloc());
     push_at_once(&mut told, layout, records);
     let mut in_turn = Row::new(row.alloc());
     push_in_turn(&mut in_turn, layout, records);
+    let mut again = Row::new(row.alloc());
+    push_again(&mut again, layout, records);
     row.join(&told);
-    if !in_turn.says(told.text.as_str()) {
-        row.word(" but in turn ");
-        row.join(&in_turn);
-    }
+    push_unless_same(row, &told, " but in turn ", &in_turn);
+    push_unless_same(row, &told, " but again ", &again);
 }
 
 /// What the checker says of some records and a layout.

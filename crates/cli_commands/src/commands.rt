@@ -13,6 +13,7 @@ mod talk;
 mod talked;
 
 pub use back::{convert_back_text, run_convert_back};
+pub(crate) use check::check_on_last;
 pub use check::{check_answer, check_texts, lent, run_check};
 pub use convert::{convert_text, run_convert};
 pub use found::findings_of;

@@ -4,7 +4,6 @@ ghost use Rattle.std.specs.Prelude.{◌≡◌, ◌<◌, ◌≤◌, length};
 ghost use Rattle.ds_screen.specs.Picture.{ruled};
 ghost use Rattle.ds_keys.specs.KeyStep.{step, inhibited, marked_cell, typed_step, erase_eof_step, delete_step};
 
-use crate::fields::position_count;
 use crate::moves::settle;
 use crate::pressed::Pressed;
 use crate::runs::{end_of_run, null_on, positions_to_end, shift_back};
@@ -46,7 +45,7 @@ pub(crate) fn type_code<C: Cells>(screen: &mut Screen<C>, code: u8) -> Pressed
         return Pressed::Ignored;
     }
     let character = Char::new(code, false).unwrap();
-    let n = position_count(screen);
+    let n = screen.position_count();
     let cursor = screen.cursor();
     if !screen.is_open(cursor) {
         return inhibit(screen);
@@ -62,7 +61,7 @@ pub(crate) fn type_code<C: Cells>(screen: &mut Screen<C>, code: u8) -> Pressed
 pub(crate) fn erase_eof<C: Cells>(screen: &mut Screen<C>) -> Pressed
     ensures { step screen.new result ≡ erase_eof_step screen.old }
 {
-    let n = position_count(screen);
+    let n = screen.position_count();
     let cursor = screen.cursor();
     if !screen.is_open(cursor) {
         return inhibit(screen);

@@ -5,7 +5,6 @@ ghost use Rattle.ds_keys.specs.KeyStep.{step, erase_input_step, attention_step, 
 ghost use Rattle.ds_keys.specs.Kept.{place_after};
 
 use crate::edits::{delete, erase_eof, type_code};
-use crate::fields::position_count;
 use crate::key::Key;
 use crate::moves::{place_back, row_after};
 use crate::pressed::Pressed;
@@ -27,7 +26,7 @@ fn place_of<C: Cells>(screen: &Screen<C>, key: Key) -> u32
     ensures place { result ≡ place_after screen.now key }
     ensures inside { result < length screen.now.cells }
 {
-    let n = position_count(screen);
+    let n = screen.position_count();
     let cursor = screen.cursor();
     let cols = u32::from(screen.size().cols);
     match key {

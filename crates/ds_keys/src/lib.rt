@@ -17,3 +17,4 @@ pub use keyboard::press;
 pub use laws::{keep_law, one_step, quiet_keep_law, shape_law, sound_law, touched_law};
 pub use line::key_of_line;
 pub use pressed::Pressed;
+pub use runs::end_of_row;

@@ -4,7 +4,7 @@ ghost use Rattle.std.specs.Prelude.{◌≡◌, ◌<◌, ◌≤◌, length};
 ghost use Rattle.ds_keys.specs.Moves.{start_back, settled, next_row};
 ghost use Rattle.ds_keys.specs.Kept.{AreBack};
 
-use crate::fields::{position_count, starts_field};
+use crate::fields::starts_field;
 use ds_codec::Cell;
 use ds_screen::ring::{backward, distance, forward};
 use ds_screen::{Cells, Screen};
@@ -20,7 +20,7 @@ fn characters_back<C: Cells>(screen: &Screen<C>, at: u32, most: u32) -> u32
     ensures within { result ≤ most }
     ensures characters { AreBack screen.now.cells at result }
 {
-    let n = position_count(screen);
+    let n = screen.position_count();
     'near: for run in 0..most.min(NEAR) {
         if let Cell::Field(_) = screen.cell(backward(n, at, run)) {
             return run;
@@ -39,7 +39,7 @@ pub(crate) fn place_back<C: Cells>(screen: &Screen<C>, from: u32) -> u32
     ensures start { result ≡ start_back screen.now.cells from }
     ensures inside { result < length screen.now.cells }
 {
-    let n = position_count(screen);
+    let n = screen.position_count();
     let mut at = backward(n, backward(n, from, 1), 1);
     let mut gone = 0;
     'attributes: while gone < n {
@@ -66,7 +66,7 @@ pub(crate) fn settle<C: Cells>(screen: &Screen<C>, from: u32) -> u32
     ensures settles { result ≡ settled screen.now.cells from }
     ensures inside { result < length screen.now.cells }
 {
-    let n = position_count(screen);
+    let n = screen.position_count();
     let mut at = from;
     'steps: for steps in 0..n {
         match screen.cell(at) {

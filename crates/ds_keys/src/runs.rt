@@ -8,7 +8,6 @@ ghost use Rattle.ds_keys.specs.Moves.{row_end};
 ghost use Rattle.ds_keys.specs.KeyStep.{run_end};
 ghost use Rattle.ds_keys.specs.Kept.{so_far, steps_to, moved_back, AreCharacters};
 
-use crate::fields::position_count;
 use ds_codec::{Cell, Char};
 use ds_screen::ring::{distance, forward};
 use ds_screen::{Cells, Screen};
@@ -37,21 +36,21 @@ pub(crate) fn null_on<C: Cells>(screen: &mut Screen<C>, from: u32, count: u32)
           (so_far screen.old.cells from count (λ p. blank));
     } }
 {
-    let n = position_count(screen);
+    let n = screen.position_count();
     if count == 0 {
         return;
     }
     screen.repeat_char(from, forward(n, from, count), Char::null());
 }
 
-/// The position behind the last one of a row.
-fn end_of_row<C: Cells>(screen: &Screen<C>, p: u32) -> u32
+/// The position behind the last one of the row of a position; on the last row the number of positions.
+pub fn end_of_row<C: Cells>(screen: &Screen<C>, p: u32) -> u32
     requires { p < length screen.now.cells }
     ensures end { result ≡ row_end screen.now.size.cols p }
     ensures within { result ≤ length screen.now.cells }
     ensures ahead { p < result }
 {
-    let _count = position_count(screen);
+    let _count = screen.position_count();
     let cols = u32::from(screen.size().cols);
     p - p % cols + cols
 }

@@ -69,6 +69,18 @@ impl Outline {
         })
     }
 
+    /// The outline of a new terminal of the same geometry again. Takes no memory.
+    pub fn restart(&mut self)
+        ensures { IsOutlineOf self.new (new_picture self.old.geometry) }
+    {
+        let size = self.geometry.default_size();
+        let _alternate = self.geometry.alternate_size();
+        self.marks.make_blank(size.cells());
+        self.size = size;
+        self.cursor = 0;
+        self.lock = Lock::Waiting;
+    }
+
     /// The two sizes and the addressing mode.
     pub fn geometry(&self) -> Geometry
         ensures { result ≡ self.now.geometry }

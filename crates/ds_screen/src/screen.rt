@@ -117,6 +117,15 @@ impl<C: Cells> Screen<C> {
         self.size
     }
 
+    /// The number of positions of the size in use.
+    pub fn position_count(&self) -> u32
+        ensures count { result ≡ length self.now.cells }
+        ensures sound { IsSound self.now }
+        ensures cursor_inside { self.now.cursor < length self.now.cells }
+    {
+        self.size().cells()
+    }
+
     /// The two sizes and the addressing mode.
     pub fn geometry(&self) -> Geometry
         ensures value { result ≡ self.now.geometry }

@@ -3,24 +3,16 @@
 ghost use Rattle.std.specs.Prelude.{◌≡◌, ◌+◌, ◌-◌, ◌<◌, ◌≤◌, true, false, length, IfSome};
 ghost use Rattle.ds_codec.specs.declared.cell.Cell.{Cell};
 ghost use Rattle.ds_screen.specs.Ring.{ring_on};
-ghost use Rattle.ds_screen.specs.Picture.{cell_at, IsSound};
+ghost use Rattle.ds_screen.specs.Picture.{cell_at};
 ghost use Rattle.ds_screen.specs.Fields.{is_attribute, is_open};
 ghost use Rattle.ds_keys.specs.Moves.{row_end};
 ghost use Rattle.ds_strokes.specs.Room.{is_null, rest_of_field, before_null, shifted, readied};
 ghost use Rattle.ds_strokes.specs.Kept.{AreCharactersOn, Readied};
 
 use ds_codec::{Cell, Char};
+use ds_keys::end_of_row;
 use ds_screen::ring::{distance, forward};
 use ds_screen::{Cells, Screen};
-
-/// The number of positions.
-fn position_count<C: Cells>(screen: &Screen<C>) -> u32
-    ensures count { result ≡ length screen.now.cells }
-    ensures sound { IsSound screen.now }
-    ensures cursor_inside { screen.now.cursor < length screen.now.cells }
-{
-    screen.size().cells()
-}
 
 /// Whether a cell is a null.
 fn is_null(cell: Cell) -> bool
@@ -32,18 +24,6 @@ fn is_null(cell: Cell) -> bool
     }
 }
 
-/// The position after the last one of a row.
-fn end_of_row<C: Cells>(screen: &Screen<C>, p: u32) -> u32
-    requires { p < length screen.now.cells }
-    ensures end { result ≡ row_end screen.now.size.cols p }
-    ensures within { result ≤ length screen.now.cells }
-    ensures ahead { p < result }
-{
-    let _count = position_count(screen);
-    let cols = u32::from(screen.size().cols);
-    p - p % cols + cols
-}
-
 /// How many positions from one on belong to the rest of its field: those up to the next attribute, round the buffer; without
 /// attributes those up to the end of the row.
 fn positions_in_rest<C: Cells>(screen: &Screen<C>, at: u32) -> u32
@@ -52,7 +32,7 @@ fn positions_in_rest<C: Cells>(screen: &Screen<C>, at: u32) -> u32
     ensures within { result ≤ length screen.now.cells }
     ensures row { row_end screen.now.size.cols at ≤ length screen.now.cells }
 {
-    let n = position_count(screen);
+    let n = screen.position_count();
     let end = end_of_row(screen, at);
     match screen.attr_from(at) {
         Some(stop) => distance(n, at, stop),
@@ -66,7 +46,7 @@ fn characters_before_null<C: Cells>(screen: &Screen<C>, at: u32) -> Option<u32>
     ensures found { result ≡ before_null screen.now.cells screen.now.size.cols at }
     ensures row { row_end screen.now.size.cols at ≤ length screen.now.cells }
 {
-    let n = position_count(screen);
+    let n = screen.position_count();
     let rest = positions_in_rest(screen, at);
     'places: for steps in 0..rest {
         if is_null(screen.cell(forward(n, at, steps))) {
@@ -94,7 +74,7 @@ fn shift_on<C: Cells>(screen: &mut Screen<C>, count: u32)
     requires characters { AreCharactersOn screen.old.cells screen.old.cursor (count + 1) }
     ensures { screen.new ≡ shifted screen.old count }
 {
-    let n = position_count(screen);
+    let n = screen.position_count();
     let at = screen.cursor();
     let mut carried = character_at(screen, at);
     'places: for steps in 0..count {
@@ -112,7 +92,7 @@ pub(crate) fn make_room<C: Cells>(screen: &mut Screen<C>, inserts: bool) -> bool
     ensures opens { result ≡ true → is_open screen.new.cells screen.new.cursor ≡ true }
     ensures lock { screen.new.lock ≡ screen.old.lock }
 {
-    let _count = position_count(screen);
+    let _count = screen.position_count();
     let cursor = screen.cursor();
     if !screen.is_open(cursor) {
         return false;

@@ -20,6 +20,7 @@ pub mod DemoLaws
 pub mod VerdictLaws
 pub mod UserLaw
 pub mod FieldLaws
+mod FoundLaws
 pub mod UnderCells
 pub mod UnderOrders
 pub mod FewerTags

@@ -1,5 +1,5 @@
 -- What stands against a picture: its fields by their attributes in rising order, then the layout's entries.
-use Rattle.std.specs.Prelude.{◌≡◌, ℕ, ◌+◌, Bool, not, ◌&&◌, ◌==◌, nat_lt, List, [], ◌∷◌, ◌++◌, length, position, option_to_list, Option, Some, None, Result, Ok, Err, slice_get, if◌then◌else◌}
+use Rattle.std.specs.Prelude.{◌≡◌, ℕ, ◌+◌, ◌<◌, get_or, true, Bool, not, ◌&&◌, ◌==◌, nat_lt, List, [], ◌∷◌, ◌++◌, length, position, option_to_list, Option, Some, None, Result, Ok, Err, slice_get, if◌then◌else◌}
 use Rattle.std.specs.List.{flat_map}
 use Rattle.ds_codec.specs.declared.cell.Cell.{Cell}
 use Rattle.ds_codec.specs.Attribute.{is_protected, is_modified}
@@ -63,6 +63,10 @@ abbrev pub entry_finding : Picture → FieldAt → List Declared → Option ℕ 
 entry_finding v field entries None = undeclared_finding v field
 entry_finding v field entries (Some index) = at_entry v field index (slice_get entries index)
 
+-- the index of the entry of a field, where it governs cells and has one
+abbrev pub entry_of : List Declared → FieldAt → Option ℕ
+entry_of entries field = if field.length == 0 then None else entry_at entries field.place
+
 -- what stands against a field
 unfoldable pub field_finding : List Declared → Picture → FieldAt → Option Finding
 field_finding entries v field =
@@ -72,6 +76,10 @@ field_finding entries v field =
 unfoldable pub has_field : List Cell → ℕ → Bool
 has_field cells place =
     is_attribute (cell_at cells (ring_back (length cells) place 1)) && nat_lt 0 (length (span_of cells (ring_back (length cells) place 1)))
+
+-- so many of the first entries have a field
+abbrev pub HaveFields : List Cell → List Declared → ℕ → Type 0
+HaveFields cells entries first = (k : ℕ) (entry : Declared) → k < first → k < length entries → has_field cells (get_or entries k entry).place ≡ true
 
 abbrev pub missing_finding : List Cell → ℕ → Declared → Option Finding
 missing_finding cells index entry = if has_field cells entry.place then None else Some (Missing index)

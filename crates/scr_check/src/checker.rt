@@ -3,11 +3,14 @@
 ghost use Rattle.std.specs.Prelude.{◌≡◌, ◌<◌, [], ◌∷◌, ◌++◌, length, map, IfOk};
 ghost use Rattle.scr_check.specs.Checker.{LeadsOn};
 ghost use Rattle.scr_check.specs.Seen.{IsOpening};
+ghost use Rattle.ds_screen.specs.Records.{new_picture};
+ghost use Rattle.ds_screen.specs.Outline.{IsOutlineOf};
 
 use crate::finding::Finding;
 use crate::opening::{Opening, ready};
 use crate::reached::Reached;
 use crate::taken_records::TakenRecords;
+use ds_screen::Outline;
 use scr_layout::Layout;
 use std::alloc::{AllocError, Global};
 use std::marker::Model;
@@ -63,14 +66,22 @@ impl<'l> Checker<'l> {
         ensures { IfOk result (λ checker. checker
             ≡ record { layout = layout.now; records = [] }) }
     {
-        let reached = Reached::new(alloc, layout.geometry())?;
-        Ok(Checker {
+        let outline = Outline::new(alloc, layout.geometry())?;
+        Ok(Checker::over(alloc, outline, layout))
+    }
+
+    /// The same on an outline of the new terminal.
+    fn over(alloc: Global, outline: Outline, layout: &'l Layout) -> Checker<'l>
+        requires { IsOutlineOf outline (new_picture layout.now.geometry) }
+        ensures { result ≡ record { layout = layout.now; records = [] } }
+    {
+        Checker {
             layout,
-            reached,
+            reached: Reached::over(alloc, outline),
             count: 0,
             stands: None,
             taken: TakenRecords::new(),
-        })
+        }
     }
 
     /// How many records it took.
@@ -124,8 +135,28 @@ impl<'l> Checker<'l> {
     }
 }
 
+/// The checker on an outline of a new terminal that took these records.
+pub(crate) fn checker_over<'l>(
+    alloc: Global,
+    outline: Outline,
+    records: &[&[u8]],
+    layout: &'l Layout,
+) -> Checker<'l>
+    requires { IsOutlineOf outline (new_picture layout.now.geometry) }
+    ensures { result ≡ record {
+      layout = layout.now;
+      records = map (λ bytes. bytes.now) records.now;
+    } }
+{
+    let mut checker = Checker::over(alloc, outline, layout);
+    for bytes in records {
+        checker.take(bytes);
+    }
+    checker
+}
+
 /// The checker that took these records.
-pub(crate) fn checker_of<'l>(
+fn checker_of<'l>(
     alloc: Global,
     records: &[&[u8]],
     layout: &'l Layout,
@@ -135,11 +166,8 @@ pub(crate) fn checker_of<'l>(
       records = map (λ bytes. bytes.now) records.now;
     }) }
 {
-    let mut checker = Checker::new(alloc, layout)?;
-    for bytes in records {
-        checker.take(bytes);
-    }
-    Ok(checker)
+    let outline = Outline::new(alloc, layout.geometry())?;
+    Ok(checker_over(alloc, outline, records, layout))
 }
 
 /// Opens a new terminal of the layout's geometry with the records.

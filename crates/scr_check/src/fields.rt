@@ -1,11 +1,11 @@
 //! What stands against the fields of a screen, and against the entries without one.
 
-ghost use Rattle.std.specs.Prelude.{◌≡◌, ℕ, ◌+◌, ◌<◌, ◌++◌, length, position, option_to_list, slice_index_or, All, OnOk, IfOk, None};
+ghost use Rattle.std.specs.Prelude.{◌≡◌, ℕ, ◌+◌, ◌<◌, ◌≤◌, ◌++◌, length, position, option_to_list, slice_index_or, All, OnOk, IfOk, Some, None};
 ghost use Rattle.std.specs.List.{flat_map};
 ghost use Rattle.ds_screen.specs.Picture.{Picture};
 ghost use Rattle.ds_screen.specs.Fields.{fields_of};
 ghost use Rattle.ds_screen.specs.Outline.{IsOutlineOf};
-ghost use Rattle.scr_check.specs.Findings.{is_of_kind, demo_at, length_demo, empty_finding, undeclared_finding, declared_finding, at_entry, entry_finding, field_finding, has_field, missing_from, findings_of};
+ghost use Rattle.scr_check.specs.Findings.{HaveFields, entry_of, is_of_kind, demo_at, length_demo, empty_finding, undeclared_finding, declared_finding, at_entry, entry_finding, field_finding, has_field, missing_from, findings_of};
 ghost use Rattle.scr_check.specs.Seen.{IsCursorOf, FromCursor};
 
 use crate::cursor::Cursor;
@@ -108,21 +108,42 @@ fn entry_finding(
     }
 }
 
-/// What stands against a field.
+/// The index of the entry of a field, if it governs cells and has one.
+fn entry_of(field: &FieldAt, layout: &Layout, guess: &mut usize) -> Option<usize>
+    ensures { result ≡ entry_of layout.now.entries field.now }
+{
+    if field.length == 0 {
+        return None;
+    }
+    layout.entry_near(field.place, guess)
+}
+
+/// What stands against a field, of whose entry this is the index.
 #[tactic(auto, unfolding(crate::specs::Findings::field_finding))]
 fn field_finding(
     cursor: Cursor,
     field: &FieldAt,
-    layout: &Layout,
-    guess: &mut usize,
+    entries: &[Entry],
+    index: Option<usize>,
 ) -> Option<Finding>
-    ensures { FromCursor cursor (λ v. result ≡ field_finding layout.now.entries v field.now) }
+    ensures { index ≡ entry_of entries.now field.now
+        → FromCursor cursor (λ v. result ≡ field_finding entries.now v field.now) }
 {
     if field.length == 0 {
         return empty_finding(field);
     }
-    let index = layout.entry_near(field.place, guess);
-    entry_finding(cursor, field, layout.entries(), index)
+    entry_finding(cursor, field, entries, index)
+}
+
+/// How many of the first entries have a field, where so many had one before and this is the index of another's.
+fn first_found(first: usize, index: Option<usize>) -> usize
+    ensures within { result ≤ first + 1 }
+    ensures found { first < result → index ≡ Some first }
+{
+    match index {
+        Some(index) if index == first => first.saturating_add(1),
+        _ => first,
+    }
 }
 
 /// Whether a field that governs cells begins at a place of the screen.
@@ -140,38 +161,47 @@ fn has_field(outline: &Outline, place: u32, guess: &mut usize) -> bool
     !outline.has_attribute_near(place, guess)
 }
 
-/// Adds what stands against the fields, in the order of their attributes.
+/// Adds what stands against the fields, in the order of their attributes. Returns how many of the first entries have a field:
+/// all, where the entries stand in the order of the screen and none is missing.
 fn add_fields(
     findings: &mut Vec<Finding>,
     cursor: Cursor,
     outline: &Outline,
     layout: &Layout,
-) -> Result<(), AllocError>
-    ensures { OnOk result ((v : Picture) → IsOutlineOf outline.now v → IsCursorOf cursor v
+) -> Result<usize, AllocError>
+    ensures added { OnOk result ((v : Picture) → IsOutlineOf outline.now v → IsCursorOf cursor v
         → findings.new.items ≡ findings.old.items
         ++ flat_map (λ field. option_to_list (field_finding layout.now.entries v field)) (fields_of v.cells)) }
+    ensures found { IfOk result (λ first. (v : Picture) → IsOutlineOf outline.now v
+        → HaveFields v.cells layout.now.entries first) }
 {
     let mut guess = 0;
+    let mut first = 0;
     for field in outline.fields() {
-        if let Some(finding) = field_finding(cursor, &field, layout, &mut guess) {
+        let index = entry_of(&field, layout, &mut guess);
+        first = first_found(first, index);
+        if let Some(finding) = field_finding(cursor, &field, layout.entries(), index) {
             findings.push(finding)?;
         }
     }
-    Ok(())
+    Ok(first)
 }
 
-/// Adds the entries that have no field.
+/// Adds the entries that have no field, where so many of the first have one.
 fn add_missing(
     findings: &mut Vec<Finding>,
     outline: &Outline,
     entries: &[Entry],
+    first: usize,
 ) -> Result<(), AllocError>
     ensures { OnOk result ((v : Picture) → IsOutlineOf outline.now v
         → All (λ entry. entry.place < length v.cells) entries.now
+        → HaveFields v.cells entries.now first
         → findings.new.items ≡ findings.old.items ++ missing_from v.cells 0 entries.now) }
 {
     let mut guess = 0;
-    for (index, entry) in entries.iter().enumerate() {
+    for index in first..entries.len() {
+        let entry = &entries[index];
         if !has_field(outline, entry.place, &mut guess) {
             findings.push(Finding::Missing(index))?;
         }
@@ -194,7 +224,7 @@ pub(crate) fn findings_of(
         at: outline.cursor(),
     };
     let mut findings = Vec::new(alloc);
-    add_fields(&mut findings, cursor, outline, layout)?;
-    add_missing(&mut findings, outline, layout.entries())?;
+    let first = add_fields(&mut findings, cursor, outline, layout)?;
+    add_missing(&mut findings, outline, layout.entries(), first)?;
     Ok(findings)
 }

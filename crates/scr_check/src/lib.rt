@@ -33,4 +33,4 @@ pub use pen::{check_with_pen, find_selectable};
 pub use taking::{TurnRule, take_by};
 pub use talk::{TalkVerdict, Turn, check_talk, have_one_geometry};
 pub use traced::{Traced, attribute_place, trace_findings};
-pub use verdict::{Verdict, check};
+pub use verdict::{Verdict, check, check_on};

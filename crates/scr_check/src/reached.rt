@@ -1,7 +1,8 @@
 //! Where records lead that are taken one at a time: to an outline, but for the last of them where that one can wait.
 
-ghost use Rattle.std.specs.Prelude.{◌≡◌, Some, None, IfOk, if◌then◌else◌};
-ghost use Rattle.ds_screen.specs.Records.{new_picture};
+ghost use Rattle.std.specs.Prelude.{◌≡◌, Some, None, if◌then◌else◌};
+ghost use Rattle.ds_screen.specs.Picture.{Picture};
+ghost use Rattle.ds_screen.specs.Outline.{IsOutlineOf};
 ghost use Rattle.scr_check.specs.Checker.{IsReachedBy, CatchesUp, AppliesOn, TakesAnew, TakesFrom, cells_anew};
 
 use crate::finding::Finding;
@@ -10,7 +11,7 @@ use crate::taking::TurnRule;
 use ds_codec::{Command, Geometry, Record};
 use ds_screen::Outline;
 use ds_terminal::{apply_record, read_record, take_record};
-use std::alloc::{AllocError, Global};
+use std::alloc::Global;
 use std::marker::Model;
 
 /// The outline to which the records led that were taken. A record that erases, frees the keyboard and can't be refused leads to
@@ -48,20 +49,16 @@ fn cells_anew(geometry: &Geometry, command: &Command) -> Option<u32>
 }
 
 impl Reached {
-    /// No record yet.
-    ///
-    /// # Errors
-    ///
-    /// Where a request for memory was refused.
-    pub(crate) fn new(alloc: Global, geometry: Geometry) -> Result<Reached, AllocError>
-        ensures { IfOk result
-            (λ reached. IsReachedBy reached.outline reached.waiting (new_picture geometry)) }
+    /// No record yet, on an outline.
+    pub(crate) fn over(alloc: Global, outline: Outline) -> Reached
+        ensures { (v : Picture) → IsOutlineOf outline v
+            → IsReachedBy result.outline result.waiting v }
     {
-        Ok(Reached {
-            outline: Outline::new(alloc, geometry)?,
+        Reached {
+            outline,
             waiting: Vec::new(alloc),
             waits: false,
-        })
+        }
     }
 
     /// Applies the record that waits.

@@ -4,7 +4,6 @@ ghost use Rattle.std.specs.Prelude.{◌≡◌, ◌<◌, ◌≤◌, length, IfSom
 ghost use Rattle.ds_screen.specs.Ring.{greatest};
 ghost use Rattle.script_keys.specs.Ends.{is_filled, field_length, is_filled_at, end_steps, field_end};
 
-use crate::places::position_count;
 use ds_codec::Cell;
 use ds_screen::ring::{distance, forward};
 use ds_screen::{Cells, Screen};
@@ -26,7 +25,7 @@ fn field_length<C: Cells>(screen: &Screen<C>, start: u32) -> u32
     ensures inside { result ≤ length screen.now.cells }
 {
     match screen.attr_from(start) {
-        Some(stop) => distance(position_count(screen), start, stop),
+        Some(stop) => distance(screen.position_count(), start, stop),
         None => 0,
     }
 }
@@ -38,7 +37,7 @@ fn last_filled<C: Cells>(screen: &Screen<C>, start: u32, count: u32) -> Option<u
     ensures last { result ≡ greatest count (is_filled_at screen.now.cells start) }
     ensures inside { IfSome result (λ d. d < count) }
 {
-    let n = position_count(screen);
+    let n = screen.position_count();
     let mut left = count;
     'places: while 0 < left {
         let d = left - 1;
@@ -71,5 +70,5 @@ pub(crate) fn field_end<C: Cells>(screen: &Screen<C>, start: u32) -> u32
 {
     let count = field_length(screen, start);
     let last = last_filled(screen, start, count);
-    forward(position_count(screen), start, end_steps(count, last))
+    forward(screen.position_count(), start, end_steps(count, last))
 }

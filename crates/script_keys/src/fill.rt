@@ -5,7 +5,7 @@ ghost use Rattle.ds_screen.specs.Ring.{greatest};
 ghost use Rattle.ds_screen.specs.Picture.{cell_at};
 ghost use Rattle.script_keys.specs.Fill.{is_null, is_null_back, is_empty_row, is_row_end, ends_fill, fill_reach, first_null, fill_key, filled_from, fill_to, is_in_field, fill_runs, typed_runs};
 
-use crate::places::{is_field, position_count};
+use crate::places::is_field;
 use crate::run::{Run, once, repeated};
 use ds_codec::Cell;
 use ds_keys::Key;
@@ -58,7 +58,7 @@ fn fill_reach<C: Cells>(screen: &Screen<C>, columns: u32, place: u32) -> u32
     ensures reach { result ≡ fill_reach screen.now.cells columns place }
     ensures few { result ≤ length screen.now.cells }
 {
-    let n = position_count(screen);
+    let n = screen.position_count();
     'steps: for steps in 0..n {
         if ends_fill(screen, columns, backward(n, place, steps + 1)) {
             return steps;
@@ -74,7 +74,7 @@ fn farthest_null<C: Cells>(screen: &Screen<C>, place: u32, count: u32) -> Option
     ensures farthest { result ≡ greatest count (is_null_back screen.now.cells place) }
     ensures inside { IfSome result (λ d. d < count) }
 {
-    let n = position_count(screen);
+    let n = screen.position_count();
     let mut left = count;
     'places: while 0 < left {
         if is_null(screen.cell(backward(n, place, left))) {
@@ -107,7 +107,7 @@ fn push_filled<C: Cells>(
     ensures { IfOk result (λ done. runs.new.items
         ≡ runs.old.items ++ filled_from screen.now.cells start count) }
 {
-    let n = position_count(screen);
+    let n = screen.position_count();
     'places: for d in 0..count {
         runs.push(once(fill_key(screen.cell(forward(n, start, d)))))?;
     }
@@ -118,7 +118,7 @@ fn push_filled<C: Cells>(
 fn push_fill<C: Cells>(runs: &mut Vec<Run>, screen: &Screen<C>) -> Result<(), AllocError>
     ensures { IfOk result (λ done. runs.new.items ≡ runs.old.items ++ fill_runs screen.now) }
 {
-    let n = position_count(screen);
+    let n = screen.position_count();
     let cursor = screen.cursor();
     if !is_in_field(screen) {
         return Ok(());
@@ -137,7 +137,7 @@ fn push_fill<C: Cells>(runs: &mut Vec<Run>, screen: &Screen<C>) -> Result<(), Al
 fn is_in_field<C: Cells>(screen: &Screen<C>) -> bool
     ensures { result ≡ is_in_field screen.now }
 {
-    let _count = position_count(screen);
+    let _count = screen.position_count();
     let cursor = screen.cursor();
     screen.is_open(cursor) && screen.attr_before(cursor).is_some()
 }

@@ -5,7 +5,7 @@ ghost use Rattle.script_keys.specs.Steps.{is_error, freed, rights_to, erase_runs
 
 use crate::ends::field_end;
 use crate::keys::Keys;
-use crate::places::{is_field, position_count};
+use crate::places::is_field;
 use crate::run::{Run, once, repeated};
 use crate::target::place_of;
 use ds_keys::Key;
@@ -36,7 +36,7 @@ fn push_freed<C: Cells>(runs: &mut Vec<Run>, screen: &Screen<C>) -> Result<(), A
 fn rights_to<C: Cells>(screen: &Screen<C>, place: u32) -> Run
     ensures { result ≡ rights_to screen.now place }
 {
-    let n = position_count(screen);
+    let n = screen.position_count();
     repeated(Key::Right, distance(n, screen.cursor(), place))
 }
 
@@ -44,7 +44,7 @@ fn rights_to<C: Cells>(screen: &Screen<C>, place: u32) -> Run
 fn push_erase<C: Cells>(runs: &mut Vec<Run>, screen: &Screen<C>) -> Result<(), AllocError>
     ensures { IfOk result (λ done. runs.new.items ≡ runs.old.items ++ erase_runs screen.now) }
 {
-    let n = position_count(screen);
+    let n = screen.position_count();
     if !is_field(screen.cell(backward(n, screen.cursor(), 1))) {
         runs.push(once(Key::Left))?;
         runs.push(once(Key::Delete))?;
@@ -56,7 +56,7 @@ fn push_erase<C: Cells>(runs: &mut Vec<Run>, screen: &Screen<C>) -> Result<(), A
 fn push_field_end<C: Cells>(runs: &mut Vec<Run>, screen: &Screen<C>) -> Result<(), AllocError>
     ensures { IfOk result (λ done. runs.new.items ≡ runs.old.items ++ field_end_runs screen.now) }
 {
-    let n = position_count(screen);
+    let n = screen.position_count();
     let cursor = screen.cursor();
     if !screen.is_open(cursor) {
         return Ok(());
@@ -73,7 +73,7 @@ fn push_delete_field<C: Cells>(runs: &mut Vec<Run>, screen: &Screen<C>) -> Resul
     ensures { IfOk result (λ done. runs.new.items
         ≡ runs.old.items ++ delete_field_runs screen.now) }
 {
-    let n = position_count(screen);
+    let n = screen.position_count();
     let cursor = screen.cursor();
     let Some(attribute) = screen.attr_before(cursor) else {
         return Ok(());
@@ -122,7 +122,7 @@ pub fn runs_of<C: Cells>(
 pub fn margin_run<C: Cells>(screen: &Screen<C>, column: u32) -> Option<Run>
     ensures { result ≡ margin_run screen.now column }
 {
-    let _count = position_count(screen);
+    let _count = screen.position_count();
     let at = screen.cursor() % u32::from(screen.size().cols);
     if at < column {
         Some(repeated(Key::Right, column - at))

@@ -19,7 +19,7 @@ pub trait Answers {
     /// Adds what a row answers.
     fn push_answer(&mut self, row: &mut Row, verb: &str, words: &str);
 
-    /// A row as it should stand that isn't a row and what `push_answer` adds; none of most.
+    /// The whole of a row and its answer, where they are made in another way than by `push_answer`; none of most.
     fn whole(&self, _alloc: Global, _line: &str) -> Result<Option<String>> {
         Ok(None)
     }

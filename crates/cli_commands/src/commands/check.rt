@@ -17,7 +17,7 @@ ghost use Rattle.cli_commands.specs.Streams.{Prints};
 use crate::fault::CommandError;
 use crate::input::checking::verdict_of;
 use crate::input::layout::read_layout;
-use crate::input::records::read_records;
+use crate::input::records::{read_records, records_in};
 use crate::input::sizes::SizeLine;
 use crate::input::source::{Source, Text};
 use crate::output::answer::{Answer, finish};
@@ -25,7 +25,7 @@ use crate::output::demo::{Demos, demo_terminal};
 use crate::output::findings::push_findings;
 use crate::status::Status;
 use crate::streams::{GivesBytes, TakesBytes};
-use scr_check::{Finding, Verdict, check};
+use scr_check::{Finding, Outline, Verdict, check, check_on};
 use scr_layout::Layout;
 use std::alloc::{AllocError, Global};
 
@@ -124,6 +124,34 @@ pub fn check_answer(
     let slices = lent(alloc, records)?;
     let verdict = check(alloc, slices.as_slice(), layout)?;
     verdict_text(alloc, layout, records, demos, &verdict)
+}
+
+/// The same without demos, on an outline that is kept for the next.
+fn check_answer_on(
+    alloc: Global,
+    kept: &mut Option<Outline>,
+    layout: &Layout,
+    records: &[Vec<u8>],
+) -> Result<Answer, AllocError>
+    ensures { IfOk result (λ answer. answer_seen answer
+        ≡ printed_answer Omitted layout.now (records_held records.now)) }
+{
+    let slices = lent(alloc, records)?;
+    let verdict = check_on(alloc, kept, slices.as_slice(), layout)?;
+    verdict_text(alloc, layout, records, Demos::Omitted, &verdict)
+}
+
+/// The same to a text of records.
+pub(crate) fn check_on_last(
+    alloc: Global,
+    kept: &mut Option<Outline>,
+    layout: &Layout,
+    records: &[u8],
+) -> Result<Answer, CommandError>
+    ensures { Gives answer_seen result (check_records Omitted layout.now records.now) }
+{
+    let told = records_in(alloc, records, SizeLine::Refused)?;
+    Ok(check_answer_on(alloc, kept, layout, told.records.as_slice())?)
 }
 
 /// What `check` answers without demos to a layout and the records of a source, each of which is checked as its line comes.

@@ -3,9 +3,15 @@
 ghost use Rattle.std.specs.Prelude.{◌≡◌, true, Ok, IfOk};
 ghost use Rattle.cli_commands.specs.Fault.{Gives};
 ghost use Rattle.cli_commands.specs.LayoutText.{layout_in};
+ghost use Rattle.cli_commands.specs.declared.output.demo.Demos.TheVariants.{Omitted};
+ghost use Rattle.cli_commands.specs.Check.{check};
+ghost use Rattle.cli_commands.specs.Held.{answer_seen};
 
+use crate::commands::check_on_last;
 use crate::fault::CommandError;
 use crate::input::layout::layout_in;
+use crate::output::answer::Answer;
+use scr_check::Outline;
 use scr_layout::Layout;
 use std::alloc::Global;
 use std::marker::Model;
@@ -15,6 +21,7 @@ use std::marker::Model;
 pub struct LastLayout {
     text: Vec<u8>,
     layout: Layout,
+    outline: Option<Outline>,
 }
 
 impl Model for LastLayout {
@@ -39,6 +46,7 @@ impl LastLayout {
         Ok(LastLayout {
             text: text.to_vec(alloc)?,
             layout,
+            outline: None,
         })
     }
 
@@ -55,6 +63,14 @@ impl LastLayout {
         ensures read { layout_in self.now.text ≡ Ok result.now }
     {
         &self.layout
+    }
+
+    /// What `check` answers without demos by the layout to a text of records. The outline on which it works is kept for the next.
+    pub fn check(&mut self, alloc: Global, records: &[u8]) -> Result<Answer, CommandError>
+        ensures answer { Gives answer_seen result (check Omitted self.old.text records.now) }
+        ensures kept { self.new ≡ self.old }
+    {
+        check_on_last(alloc, &mut self.outline, &self.layout, records)
     }
 
     /// The layout once more.

@@ -49,6 +49,13 @@ fn push_after(row: &mut Row, setup: &Setup, outline: &mut Outline, records: &str
     push_outline(row, outline);
 }
 
+/// The outline of a new terminal again, after the setup's records.
+fn push_restarted(row: &mut Row, setup: &Setup, outline: &mut Outline) {
+    take_all(row, outline, setup.after.as_str());
+    outline.restart();
+    push_outline(row, outline);
+}
+
 /// After how many generated records an outline and a screen are alike.
 fn push_alike(row: &mut Row, setup: &Setup, outline: &mut Outline, words: &str) {
     let count = row.read_number(words);
@@ -64,10 +71,10 @@ fn push_alike(row: &mut Row, setup: &Setup, outline: &mut Outline, words: &str) 
 
 /// Adds what a verb answers of an outline.
 fn push_told(row: &mut Row, setup: &Setup, outline: &mut Outline, verb: &str, words: &str) {
-    if verb == "outline" {
-        push_after(row, setup, outline, words);
-    } else {
-        push_alike(row, setup, outline, words);
+    match verb {
+        "outline" => push_after(row, setup, outline, words),
+        "restarted" => push_restarted(row, setup, outline),
+        _ => push_alike(row, setup, outline, words),
     }
 }
 
@@ -82,7 +89,7 @@ fn push_outlined(row: &mut Row, setup: &Setup, verb: &str, words: &str) {
 /// Adds what a verb answers; whether it is one of these.
 pub(crate) fn push_answer(row: &mut Row, setup: &Setup, verb: &str, words: &str) -> bool {
     match verb {
-        "outline" | "alike" => push_outlined(row, setup, verb, words),
+        "outline" | "restarted" | "alike" => push_outlined(row, setup, verb, words),
         _ => return false,
     }
     true

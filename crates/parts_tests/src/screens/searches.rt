@@ -3,11 +3,12 @@
 use crate::codes::push_char;
 use crate::words::push_name;
 use ds_codec::Cell;
+use ds_keys::end_of_row;
 use ds_screen::{Cells, Screen};
 use test_words::Row;
 
 /// The verbs of a place.
-const OF_A_PLACE: &[&str] = &["around", "open", "cell"];
+const OF_A_PLACE: &[&str] = &["around", "open", "row-end", "cell"];
 
 /// The attribute that governs a place, and the next one from there on.
 fn push_around<C: Cells>(row: &mut Row, screen: &Screen<C>, place: u32) {
@@ -26,6 +27,16 @@ fn push_open<C: Cells>(row: &mut Row, screen: &Screen<C>, place: u32) {
     }
     row.truth(screen.is_open(place));
     row.word_number(" ", screen.first_open(place));
+}
+
+/// The position behind the last one of the row of a place, and how many positions there are.
+fn push_row_end<C: Cells>(row: &mut Row, screen: &Screen<C>, place: u32) {
+    let count = screen.position_count();
+    if place >= count {
+        return row.spoil();
+    }
+    row.number(end_of_row(screen, place));
+    row.word_number(" ", count);
 }
 
 fn push_cell(row: &mut Row, cell: Cell) {
@@ -82,6 +93,7 @@ pub(crate) fn push_answer<C: Cells>(
     match verb {
         "around" => push_around(row, screen, place),
         "open" => push_open(row, screen, place),
+        "row-end" => push_row_end(row, screen, place),
         _ => push_cell_at(row, screen, place),
     }
     true

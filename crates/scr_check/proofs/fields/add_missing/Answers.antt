@@ -2,11 +2,12 @@ use Rattle.std.proofs.Common.{◌≡◌, ◌<◌, ◌+◌, ◌++◌, drop, lengt
 use Rattle.scr_layout.specs.Entry.{Declared}
 use Rattle.scr_check.specs.Findings.{has_field, missing_from}
 use Rattle.scr_check.proofs.FieldLaws.{missing_there, missing_told}
+use Rattle.scr_check.proofs.FoundLaws.{missing_behind}
 use Rattle.scr_check.proofs.fields.add_missing.Goals as goal
 use Rattle.scr_check.proofs.fields.add_missing.Goals.{then-not-has_field+in_ok-push, else-not-has_field}
 
 pub loop-index-preserved : goal.loop-index-preserved
-loop-index-preserved c = λ v is all.
+loop-index-preserved c = λ v is all have.
     let i = c.loop-index.index in
     let entry : Declared = c.index-entries-index.result in
     let place = ap (λ (e : Declared). e.place) c.entry.view_is in
@@ -19,4 +20,7 @@ loop-index-preserved c = λ v is all.
       | else-not-has_field w ↦
           ap (λ l. l.items ++ missing_from v.cells (i + 1) (drop (i + 1) c.args.entries.now)) w.findings-is ∙ missing_there v.cells c.args.entries.now i entry c.loop-index.findings.items (omega (arith, c.loop-index-test.true)) c.index-entries-index.is
           (sym w.if-not-has_field.false ∙ told)
-    ]) ∙ c.loop-index.invariant v is all
+    ]) ∙ c.loop-index.invariant v is all have
+
+pub loop-index-init : goal.loop-index-init
+loop-index-init c = λ v is all have. ap (λ l. c.args.findings.now.items ++ l) (missing_behind v.cells c.args.entries.now c.args.first have)

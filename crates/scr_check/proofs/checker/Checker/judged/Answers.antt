@@ -2,7 +2,7 @@ use Rattle.std.proofs.Common.{ℕ, List, Ok, sym, ◌∙◌, subst}
 use Rattle.scr_layout.specs.Layout.{Declaration}
 use Rattle.scr_check.specs.Seen.{IsOpening}
 use Rattle.scr_check.proofs.VerdictLaws.{yes_promised, yes_for_any, all_shown, found_opened, all_listed, yes_means}
-use Rattle.scr_check.proofs.checker.Checker.verdict.Goals as goal
+use Rattle.scr_check.proofs.checker.Checker.judged.Goals as goal
 
 pub returns-in_ok-findings_of-in-Leads-clause-promise : goal.returns-in_ok-findings_of-in-Leads-clause-promise
 returns-in_ok-findings_of-in-Leads-clause-promise c =
