@@ -556,15 +556,16 @@ def prompt_output(program):
 TRIALS = [crowd, idle, limits, scan, held, per_second, few_files, terminated, in_turn, closed_output, full_output, unread_output, prompt_output]
 
 
-def main():
-    program, names = os.path.abspath(sys.argv[1]), sys.argv[2:]
+def run_trials(kind, trials, words):
+    """Runs the trials of these names, or all, with a program, and prints what is wrong: PROGRAM [NAME..]. Whether one failed."""
+    program, names = os.path.abspath(words[0]), words[1:]
     passed = failed = 0
-    for trial in TRIALS:
+    for trial in trials:
         if names and trial.__name__ not in names:
             continue
         wrong = trial(program)
         for line in wrong[:10]:
-            print(f"many {trial.__name__}: {line}")
+            print(f"{kind} {trial.__name__}: {line}")
         if wrong:
             failed += 1
         else:
@@ -574,4 +575,4 @@ def main():
 
 
 if __name__ == "__main__":
-    sys.exit(main())
+    sys.exit(run_trials("many", TRIALS, sys.argv[1:]))

@@ -200,10 +200,8 @@ def records(words, trace):
     return re.sub(r" at line \d+", " at line 1", ran.stdout.decode()).splitlines()
 
 
-def session_told(name, pieces):
-    """A session of these pieces, each sent once the one before it has arrived; and what is told of it."""
-    tap = Tap(1)
-    terminal, host = tap.pair()
+def handed_on(terminal, host, pieces):
+    """Whether each of these pieces arrives before the next is sent, and then the end of either side, and nothing else."""
     good = True
     for side, data in pieces:
         one, other = (host, terminal) if side == "<" else (terminal, host)
@@ -211,7 +209,14 @@ def session_told(name, pieces):
         good = good and read_some(other, len(data)) == data
     for it in (terminal, host):
         it.shutdown(socket.SHUT_WR)
-    good = good and (read_all(terminal), read_all(host)) == (b"", b"")
+    return good and (read_all(terminal), read_all(host)) == (b"", b"")
+
+
+def session_told(name, pieces):
+    """A session of these pieces, each sent once the one before it has arrived; and what is told of it."""
+    tap = Tap(1)
+    terminal, host = tap.pair()
+    good = handed_on(terminal, host, pieces)
     tell(f"{name}, bytes", True, good)
     printed, said, status = tap.end()
     lines = printed.splitlines()
@@ -422,14 +427,7 @@ def played(pieces, options):
     """What is printed of records of plain TN3270, and of bytes; what is said; the status; and whether all were handed on."""
     tap = Tap(1, options=options)
     terminal, host = tap.pair()
-    good = True
-    for side, data in pieces:
-        one, other = (host, terminal) if side == "<" else (terminal, host)
-        one.sendall(data)
-        good = good and read_some(other, len(data)) == data
-    for it in (terminal, host):
-        it.shutdown(socket.SHUT_WR)
-    good = good and (read_all(terminal), read_all(host)) == (b"", b"")
+    good = handed_on(terminal, host, pieces)
     return (*tap.end(), good)
 
 

@@ -4,7 +4,6 @@
 Each trial is a function below. The application is the README's sign-on and menu; its terminals are `attach`, s3270 by a script where it
 is installed, and bytes. The last line is 'N passed, M failed'.
 """
-import os
 import pathlib
 import shutil
 import socket
@@ -15,7 +14,7 @@ import threading
 import time
 
 sys.path.insert(0, str(pathlib.Path(__file__).parent))
-from many import CLASSIC, received
+from many import CLASSIC, received, run_trials
 
 EXAMPLES = pathlib.Path(__file__).parent.parent / "examples"
 LONGEST = 60
@@ -241,22 +240,5 @@ def by_s3270(program):
 TRIALS = [worked, again, undeclared, raw, any_records, deaf, crowd, terminated, by_s3270]
 
 
-def main():
-    program, names = os.path.abspath(sys.argv[1]), sys.argv[2:]
-    passed = failed = 0
-    for trial in TRIALS:
-        if names and trial.__name__ not in names:
-            continue
-        wrong = trial(program)
-        for line in wrong[:10]:
-            print(f"turns {trial.__name__}: {line}")
-        if wrong:
-            failed += 1
-        else:
-            passed += 1
-    print(f"{passed} passed, {failed} failed")
-    return failed > 0
-
-
 if __name__ == "__main__":
-    sys.exit(main())
+    sys.exit(run_trials("turns", TRIALS, sys.argv[1:]))
