@@ -11,7 +11,7 @@ use bstr::ByteSlice;
 use std::alloc::{AllocError, Global};
 
 /// Whether a line is empty but for spaces, or a comment.
-fn is_ignored(line: &[u8]) -> bool
+fn is_ignored_without_spaces(line: &[u8]) -> bool
     ensures { result ≡ is_ignored (without_spaces line.now) }
 {
     for byte in line {
@@ -35,7 +35,7 @@ fn is_text(line: &[u8]) -> bool
 pub fn is_silent(line: &[u8]) -> bool
     ensures { result ≡ is_silent line.now }
 {
-    is_text(line) && is_ignored(line)
+    is_text(line) && is_ignored_without_spaces(line)
 }
 
 /// The line on which the record of an index stands, counted from 1: the lines that are not ignored are records. None

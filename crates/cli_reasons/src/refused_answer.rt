@@ -8,15 +8,13 @@ ghost use Rattle.cli_reasons.specs.RefusedAnswer.{answer_reason, answer_said, an
 
 use crate::head::{Place, push_head};
 use crate::refusal::byte_column;
+use crate::walk::MOST_RECORD_BYTES;
 use bstr::ByteSlice;
 use cli_commands::{CommandError, SizeLine, is_turn, records_in};
 use ds_inbound::{Inbound, Refused, Why};
 use scr_check::{BindError, BindFault, bind};
 use scr_layout::Layout;
 use std::alloc::{AllocError, Global};
-
-/// The most bytes of an answer.
-const MOST_BYTES: usize = 32_768;
 
 /// Where an answer stands: the input's name, the line's number, counted from 1, and the line.
 #[derive(Clone, Copy)]
@@ -63,7 +61,7 @@ fn push_refused(
     ensures { OnOk result (string_bytes out.new ≡ string_bytes out.old
         ++ refused_said standing.entry.name.now standing.entry.number standing.entry.line.now refused) }
 {
-    let column = byte_column(standing.line, refused.at.min(MOST_BYTES));
+    let column = byte_column(standing.line, refused.at.min(MOST_RECORD_BYTES));
     push_head(out, standing.name, Place::Column(standing.number, column))?;
     out.push_str(answer_reason(refused.why))?;
     out.push_str("\n")

@@ -10,13 +10,11 @@ ghost use Rattle.cli_reasons.specs.RefusedRecord.{apply_reason, flaw_line, flaw_
 
 use crate::head::{Place, push_head};
 use crate::refusal::{byte_column, order_line, record_line};
+use crate::walk::MOST_RECORD_BYTES;
 use cli_commands::Fault;
 use ds_codec::{Unwritable, Why};
 use ds_terminal::Refused;
 use std::alloc::{AllocError, Global};
-
-/// The most bytes of a record.
-const MOST_BYTES: usize = 32_768;
 
 /// Why bytes are no record.
 fn read_reason(why: Why) -> &'static str
@@ -100,7 +98,7 @@ fn refused_sentence(
         return Ok(None);
     };
     let mut out = String::new(alloc);
-    let column = byte_column(line, refused.at().min(MOST_BYTES));
+    let column = byte_column(line, refused.at().min(MOST_RECORD_BYTES));
     push_head(&mut out, name, Place::Column(number as u64, column))?;
     out.push_str(refused_reason(refused))?;
     out.push_str("\n")?;

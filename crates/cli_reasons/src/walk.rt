@@ -23,7 +23,8 @@ const MOST_KEPT: usize = 16_777_219;
 
 const MOST_RECORDS: u64 = 1_000;
 
-const MOST_RECORD_BYTES: usize = 32_768;
+/// The most bytes of a record, and of an answer.
+pub(crate) const MOST_RECORD_BYTES: usize = 32_768;
 
 const MOST_KEYS: u64 = 100_000;
 
