@@ -1,7 +1,6 @@
 pub mod Ring
 pub mod Picture
 pub mod Fields
-pub mod Ruling
 pub mod Shown
 pub mod Orders
 pub mod State

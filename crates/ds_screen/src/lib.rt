@@ -22,8 +22,6 @@ mod ranges;
 mod records;
 mod refused;
 pub mod ring;
-mod ruled_cell;
-mod ruled_cells;
 mod ruling;
 mod screen;
 mod shown;

@@ -5,10 +5,8 @@ ghost use Rattle.std.specs.Prelude.{◌≡◌, ◌<◌, length};
 ghost use Rattle.ds_screen.specs.Ring.{ring_back};
 ghost use Rattle.ds_screen.specs.Picture.{cell_at};
 ghost use Rattle.ds_screen.specs.Fields.{ruling_bits, ruling_after, is_open_under, is_open};
-ghost use Rattle.ds_screen.specs.Ruling.{ruled_cell};
 
 use crate::cells::Cells;
-use crate::ruled_cell::RuledCell;
 use ds_codec::{Attr, Cell};
 
 /// What rules a position that holds this cell, by what rules the position before it.
@@ -18,21 +16,6 @@ pub(crate) fn ruled_on(before: Attr, cell: &Cell) -> Attr
     match cell {
         Cell::Field(attribute) => *attribute,
         Cell::Char(_) => before,
-    }
-}
-
-/// The cell of a position with what rules it, by what rules the position before it.
-pub(crate) fn ruled_cell<C: Cells>(cells: &C, at: u32, before: Attr) -> RuledCell
-    requires inside { at < length (C.content cells.now) }
-    requires ruled { before ≡ ruling_bits (C.content cells.now)
-        (ring_back (length (C.content cells.now)) at 1) }
-    ensures { result ≡ ruled_cell (C.content cells.now) at }
-{
-    let cell = cells.cell(at);
-    RuledCell {
-        at,
-        ruling: ruled_on(before, &cell),
-        cell,
     }
 }
 

@@ -1,11 +1,12 @@
 //! The text of a row.
 
-ghost use Rattle.std.specs.Prelude.{◌≡◌, ◌+◌, ◌<◌, ◌≤◌, map, length, IfOk, string_bytes};
+ghost use Rattle.std.specs.Prelude.{◌≡◌, ◌+◌, ◌<◌, ◌≤◌, All, map, length, IfOk, string_bytes};
 ghost use Rattle.std.specs.List.{range_with_len};
 ghost use Rattle.ds_screen.specs.Shown.{printed_code, text_of, printed_under, printed_cell};
 
 use crate::cells::Cells;
-use crate::ruled_cells::RuledCells;
+use crate::ring::previous;
+use crate::ruling::ruled_on;
 use ds_codec::{Attr, Cell, Char};
 use std::alloc::{AllocError, Global};
 
@@ -70,6 +71,29 @@ pub fn printed_under(ruling: Attr, cell: &Cell) -> u8
     }
 }
 
+/// What is printed of the cells from a position on, of one row.
+fn row_bytes<C: Cells>(
+    alloc: Global,
+    cells: &C,
+    start: u32,
+    columns: u32,
+) -> Result<Vec<u8>, AllocError>
+    requires some { 0 < columns }
+    requires inside { start + columns ≤ length (C.content cells.now) }
+    ensures printed { IfOk result (λ bytes. bytes.items
+        ≡ map (printed_cell (C.content cells.now)) (range_with_len start columns)) }
+    ensures ascii { IfOk result (λ bytes. All (λ byte. byte < 128) bytes.items) }
+{
+    let mut bytes = Vec::with_capacity(alloc, columns as usize)?;
+    let mut ruling = cells.ruling(previous(cells.len(), start));
+    'places: for at in start..start + columns {
+        let cell = cells.cell(at);
+        ruling = ruled_on(ruling, &cell);
+        bytes.push(printed_under(ruling, &cell))?;
+    }
+    Ok(bytes)
+}
+
 /// The text of the cells from a position on, of one row.
 pub(crate) fn row_text<C: Cells>(
     alloc: Global,
@@ -82,9 +106,6 @@ pub(crate) fn row_text<C: Cells>(
     ensures { IfOk result (λ text. string_bytes text
         ≡ map (printed_cell (C.content cells.now)) (range_with_len start columns)) }
 {
-    let mut text = String::with_capacity(alloc, columns as usize)?;
-    'places: for found in RuledCells::new(cells, start, columns) {
-        text.push(char::from(printed_under(found.ruling, &found.cell)))?;
-    }
-    Ok(text)
+    let bytes = row_bytes(alloc, cells, start, columns)?;
+    Ok(String::from_utf8(bytes).unwrap())
 }
