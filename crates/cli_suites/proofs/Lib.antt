@@ -5,3 +5,4 @@ mod Known
 mod Ruled
 mod PathLaws
 mod NameLaws
+mod SameLaws

@@ -1,5 +1,5 @@
 -- What is found of one job: what its command prints of its files.
-use Rattle.std.specs.Prelude.{◌≡◌, ℕ, false, List, [], ◌∷◌, ◌++◌, codes, Option, Some, None, ok_or, slice_get, Result, Ok, Err}
+use Rattle.std.specs.Prelude.{◌≡◌, ℕ, false, List, [], ◌∷◌, ◌++◌, map, codes, Option, Some, None, ok_or, slice_get, Result, Ok, Err}
 use Rattle.std.specs.String.{string_bytes}
 use Rattle.cli_commands.specs.declared.fault.Fault.{Fault}
 use Rattle.cli_commands.specs.declared.fault.Fault.TheVariants.{BadLine, BadKeyLine, TooLong, LayoutRefused, RecordRefused, Unwritable, TurnLayoutRefused, OtherGeometry, OtherCount}
@@ -69,6 +69,14 @@ job_read files job = do
   layouts ← layouts_read files [] job.layouts
   records ← read_one files job.records
   Ok (record { layouts = layouts; records = records })
+
+-- these are the bytes of the files of paths
+abbrev pub AreLayouts : Held → List (List ℕ) → List (List ℕ) → Type 0
+AreLayouts files paths layouts = layouts_read files [] paths ≡ Ok layouts
+
+-- the layouts are those of their paths
+abbrev pub AreOf : Held → held.Inputs → Type 0
+AreOf files inputs = AreLayouts files (map string_bytes inputs.paths.now) (records_held inputs.layouts.items)
 
 -- ---- what the command of a job answers
 

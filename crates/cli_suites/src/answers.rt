@@ -1,11 +1,11 @@
 //! What is found of one job: what `check`, `talk` or `check --map` prints of its files.
 
-ghost use Rattle.std.specs.Prelude.{◌≡◌, [], ◌∷◌, IfOk, IfSome, map, Result as AResult, string_bytes, slice_get, option_map};
+ghost use Rattle.std.specs.Prelude.{◌≡◌, [], ◌∷◌, true, Ok, IfOk, IfSome, map, Result as AResult, string_bytes, slice_get, option_map};
 ghost use Rattle.cli_commands.specs.Fault.{Gives, fault_line};
 ghost use Rattle.cli_commands.specs.Held.{answer_seen, records_held};
 ghost use Rattle.cli_commands.specs.Printed.{Printed};
 ghost use Rattle.cli_commands.specs.declared.fault.Fault.{Fault as AFault};
-ghost use Rattle.cli_suites.specs.Answers.{Reads, alone, answer_in, answer_of, at_path, check_first, check_maps, explain_first, fault_answer, front_of, inputs_seen, job_read, layouts_read, missing, path_of_fault, path_or_none, read_one, told, told_answer, with_read};
+ghost use Rattle.cli_suites.specs.Answers.{AreLayouts, AreOf, Held, Reads, alone, answer_in, answer_of, at_path, check_first, check_maps, explain_first, fault_answer, front_of, inputs_seen, job_read, layouts_read, missing, path_of_fault, path_or_none, read_one, told, told_answer, with_read};
 
 use crate::files::Files;
 use crate::job::{Job, Kind};
@@ -54,7 +54,9 @@ impl<T: Drop> From<AllocFailed<T>> for ReadError {
 
 /// The files of a job.
 #[derive(Drop)]
-pub(crate) struct Inputs {
+pub(crate) struct Inputs<'j> {
+    /// The paths of the layouts.
+    paths: &'j [String],
     pub layouts: Vec<Vec<u8>>,
     pub records: Vec<u8>,
 }
@@ -214,7 +216,7 @@ pub(crate) fn answer_of(
     last: &mut Option<LastLayout>,
     detail: Detail,
     job: &Job,
-    inputs: &Inputs,
+    inputs: &Inputs<'_>,
 ) -> Result<Answer, AllocError>
     ensures { IfOk result (λ answer. answer_seen answer
         ≡ answer_of detail job.now (inputs_seen inputs.now)) }
@@ -231,12 +233,17 @@ pub(crate) fn answer_of(
     told(alloc, job, answer)
 }
 
-/// The bytes of one file.
-fn read_one<F: Files>(alloc: Global, files: &F, path: &str) -> Result<Vec<u8>, ReadError>
+/// The bytes of one file, for which there is room.
+fn read_one<F: Files>(
+    alloc: Global,
+    files: &F,
+    room: Vec<u8>,
+    path: &str,
+) -> Result<Vec<u8>, ReadError>
     ensures { IfSome (F.contents files.now)
         (λ held. Reads (λ v. v.items) result (read_one held path.now)) }
 {
-    match files.read(alloc, path)? {
+    match files.read(alloc, path, room)? {
         Some(bytes) => Ok(bytes),
         None => Err(ReadError::Missing(String::from_str(alloc, path)?)),
     }
@@ -252,7 +259,7 @@ fn with_read<F: Files>(
     ensures { IfSome (F.contents files.now) (λ held. Reads (λ v. records_held v.items) result
         (with_read held (records_held before.items) path.now)) }
 {
-    let bytes = read_one(alloc, files, path)?;
+    let bytes = read_one(alloc, files, Vec::new(alloc), path)?;
     let mut read = before;
     read.push(bytes)?;
     Ok(read)
@@ -274,14 +281,71 @@ fn layouts_read<F: Files>(
     Ok(read)
 }
 
-/// The files of a job: its layouts, and then its records.
-pub(crate) fn job_read<F: Files>(alloc: Global, files: &F, job: &Job) -> Result<Inputs, ReadError>
-    ensures { IfSome (F.contents files.now)
-        (λ held. Reads inputs_seen result (job_read held job.now)) }
+/// The same, where the files of other paths are known: of the same paths they aren't read again.
+fn layouts_after<F: Files>(
+    alloc: Global,
+    files: &F,
+    known: &[String],
+    before: Vec<Vec<u8>>,
+    paths: &[String],
+) -> Result<Vec<Vec<u8>>, ReadError>
+    requires { IfSome (F.contents files.now) (λ held. AreLayouts held
+        (map string_bytes known.now) (records_held before.items)) }
+    ensures { IfSome (F.contents files.now) (λ held. Reads (λ v. records_held v.items) result
+        (layouts_read held [] (map string_bytes paths.now))) }
 {
-    let layouts = layouts_read(alloc, files, job.layouts.as_slice())?;
-    let records = read_one(alloc, files, job.records.as_str())?;
-    Ok(Inputs { layouts, records })
+    if are_same(known, paths) {
+        Ok(before)
+    } else {
+        layouts_read(alloc, files, paths)
+    }
+}
+
+#[tactic(auto, using(crate::proofs::SameLaws::same_texts))]
+fn are_same(known: &[String], paths: &[String]) -> bool
+    ensures { result ≡ true → map string_bytes known.now ≡ map string_bytes paths.now }
+{
+    known == paths
+}
+
+impl<'j> Inputs<'j> {
+    /// Of no job.
+    pub(crate) fn none(alloc: Global) -> Inputs<'j>
+        ensures { (held : Held) → AreOf held result }
+    {
+        Inputs {
+            paths: &[],
+            layouts: Vec::new(alloc),
+            records: Vec::new(alloc),
+        }
+    }
+
+    /// The files of a job, its layouts and then its records, after those of another, of which what serves is used again.
+    pub(crate) fn read<F: Files>(
+        alloc: Global,
+        files: &F,
+        before: Inputs<'j>,
+        job: &'j Job,
+    ) -> Result<Inputs<'j>, ReadError>
+        requires { IfSome (F.contents files.now) (λ held. AreOf held before) }
+        ensures read { IfSome (F.contents files.now)
+            (λ held. Reads inputs_seen result (job_read held job.now)) }
+        ensures paths { IfSome (F.contents files.now)
+            (λ held. IfOk result (AreOf held)) }
+    {
+        let Inputs {
+            paths,
+            layouts,
+            records,
+        } = before;
+        let layouts = layouts_after(alloc, files, paths, layouts, job.layouts.as_slice())?;
+        let records = read_one(alloc, files, records, job.records.as_str())?;
+        Ok(Inputs {
+            paths: job.layouts.as_slice(),
+            layouts,
+            records,
+        })
+    }
 }
 
 /// What is told of a file that can't be read.

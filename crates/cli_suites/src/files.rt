@@ -10,12 +10,13 @@ pub trait Files {
     /// The bytes of the file at a path, or that there is none which can be read; where that is known.
     ghost contents: { Self → Option (List ℕ → Option (List ℕ)) };
 
-    /// The bytes of a file, of which one byte more than 16,777,216 is enough; `None` where it can't be read.
+    /// The bytes of a file, of which one byte more than 16,777,216 is enough; `None` where it can't be read. They may take the
+    /// place of what is in `room`, which saves a request for memory.
     ///
     /// # Errors
     ///
     /// Where a request for memory was refused.
-    fn read(&self, alloc: Global, path: &str) -> Result<Option<Vec<u8>>, AllocError>
+    fn read(&self, alloc: Global, path: &str, room: Vec<u8>) -> Result<Option<Vec<u8>>, AllocError>
         ensures { IfSome (contents self.now) (λ held. IfOk result (λ bytes.
             option_map (λ v. v.items) bytes ≡ held path.now)) };
 

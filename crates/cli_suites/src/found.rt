@@ -244,7 +244,7 @@ fn input_results(
     base: &str,
     accepted: &[Accepted],
     job: &Job,
-    inputs: &Inputs,
+    inputs: &Inputs<'_>,
 ) -> Result<Results, AllocError>
     ensures { IfOk result (λ results. results_seen results
         ≡ input_results base.now accepted.now job.now (inputs_seen inputs.now)) }
@@ -333,7 +333,7 @@ fn results_unless_yes(
     base: &str,
     accepted: &[Accepted],
     job: &Job,
-    inputs: &Inputs,
+    inputs: &Inputs<'_>,
     status: Status,
 ) -> Result<Results, AllocError>
     ensures { IfOk result (λ results. results_seen results ≡ unless_yes status
@@ -354,7 +354,7 @@ pub(crate) fn answered_results(
     base: &str,
     accepted: &[Accepted],
     job: &Job,
-    inputs: &Inputs,
+    inputs: &Inputs<'_>,
     answer: &Answer,
 ) -> Result<Results, AllocError>
     ensures { IfOk result (λ results. results_seen results ≡ answered_results base.now

@@ -12,6 +12,7 @@ mod found;
 mod job;
 mod json;
 mod junit;
+mod kept;
 mod last_layout;
 mod manifest;
 mod named_jobs;

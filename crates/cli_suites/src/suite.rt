@@ -2,6 +2,7 @@
 
 ghost use Rattle.std.specs.Prelude.{◌≡◌, IfOk, IfSome, OnOk, map, option_map, string_bytes};
 ghost use Rattle.cli_commands.specs.Held.{answer_seen};
+ghost use Rattle.cli_suites.specs.Answers.{AreOf};
 ghost use Rattle.cli_suites.specs.Manifest.{manifest_seen};
 ghost use Rattle.cli_suites.specs.Report.{no_report, report_seen};
 ghost use Rattle.cli_suites.specs.Suite.{add_job, after_job, all_jobs, fault_words, has_asked, is_asked, is_long, printed_folder, printed_jobs, printed_suite, refused_log, refused_suite, refused_text, some_jobs, told_suite};
@@ -12,11 +13,12 @@ use crate::folder::jobs_of_paths;
 use crate::job::{Accepted, Job};
 use crate::json::push_json_refusal;
 use crate::junit::push_junit_refusal;
+use crate::kept::Kept;
 use crate::manifest::{Manifest, has_name, manifest_in};
 use crate::report::{Form, Report, add, log_text, no_report, printed_report};
 use crate::settled::settle;
 use crate::told::job_told;
-use cli_commands::{Answer, LastLayout, MOST_BYTES, Status};
+use cli_commands::{Answer, MOST_BYTES, Status};
 use cli_findings::refused_results;
 use std::alloc::{AllocError, Global};
 
@@ -30,42 +32,48 @@ fn is_asked(only: Option<&str>, job: &Job) -> bool
     }
 }
 
-/// Adds a screen to a report: it is judged, and its inputs are let go.
-fn add_job<F: Files>(
+/// Adds a screen to a report: it is judged, and its inputs are kept for the next.
+fn add_job<'j, F: Files>(
     alloc: Global,
     files: &F,
-    last: &mut Option<LastLayout>,
+    kept: &mut Kept<'j>,
     form: Form,
     accepted: &[Accepted],
     report: &mut Report,
-    job: &Job,
+    job: &'j Job,
 ) -> Result<(), AllocError>
-    ensures { IfSome (F.contents files.now) (λ held. OnOk result (report_seen report.new
+    requires { IfSome (F.contents files.now) (λ held. AreOf held kept.old.inputs) }
+    ensures report { IfSome (F.contents files.now) (λ held. OnOk result (report_seen report.new
         ≡ add_job form (F.base files.now) held accepted.now (report_seen report.old) job.now)) }
+    ensures kept { IfSome (F.contents files.now)
+        (λ held. OnOk result (AreOf held kept.new.inputs)) }
 {
-    let told = job_told(alloc, files, last, form, accepted, job)?;
+    let told = job_told(alloc, files, kept, form, accepted, job)?;
     let name = job.name.as_str();
     let settled = settle(alloc, name, accepted, &told.answer)?;
     add(alloc, form, report, name, &settled, told.results)
 }
 
 /// The same, where the screen is asked for.
-fn after_job<F: Files>(
+fn after_job<'j, F: Files>(
     alloc: Global,
     files: &F,
-    last: &mut Option<LastLayout>,
+    kept: &mut Kept<'j>,
     form: Form,
     accepted: &[Accepted],
     only: Option<&str>,
     report: &mut Report,
-    job: &Job,
+    job: &'j Job,
 ) -> Result<(), AllocError>
-    ensures { IfSome (F.contents files.now) (λ held. OnOk result (report_seen report.new
+    requires { IfSome (F.contents files.now) (λ held. AreOf held kept.old.inputs) }
+    ensures report { IfSome (F.contents files.now) (λ held. OnOk result (report_seen report.new
         ≡ after_job form (F.base files.now) held accepted.now
         (option_map (λ name. name.now) only.entry) (report_seen report.old) job.now)) }
+    ensures kept { IfSome (F.contents files.now)
+        (λ held. OnOk result (AreOf held kept.new.inputs)) }
 {
     if is_asked(only, job) {
-        add_job(alloc, files, last, form, accepted, report, job)
+        add_job(alloc, files, kept, form, accepted, report, job)
     } else {
         Ok(())
     }
@@ -85,13 +93,13 @@ fn all_jobs<F: Files>(
         (option_map (λ name. name.now) only.entry) no_report jobs.now)) }
 {
     let mut report = no_report(alloc);
-    let mut last = None;
+    let mut kept = Kept::none(alloc);
     for job in jobs {
         files.hear(report.totals.screens, jobs.len(), job.name.as_str());
         after_job(
             alloc,
             files,
-            &mut last,
+            &mut kept,
             form,
             accepted,
             only,

@@ -1,20 +1,22 @@
 //! What is told of one job: what its command prints of its files, and in the log of a suite its results.
 
-ghost use Rattle.std.specs.Prelude.{◌≡◌, IfOk, IfSome};
+ghost use Rattle.std.specs.Prelude.{◌≡◌, IfOk, IfSome, OnOk};
 ghost use Rattle.cli_commands.specs.Held.{answer_seen};
 ghost use Rattle.cli_findings.specs.Results.{results_seen};
-ghost use Rattle.cli_suites.specs.Answers.{inputs_seen};
+ghost use Rattle.cli_suites.specs.Answers.{AreOf, inputs_seen};
 ghost use Rattle.cli_suites.specs.Found.{alone_results, answered_results, missing_results};
 ghost use Rattle.cli_suites.specs.Told.{alone_told, detail_of, in_log, inputs_told, job_told, missing_told, read_told, told_seen};
 
-use crate::answers::{Detail, Inputs, ReadError, alone, answer_of, job_read, missing};
+use crate::answers::{Detail, Inputs, ReadError, alone, answer_of, missing};
 use crate::files::Files;
 use crate::found::{alone_results, answered_results, missing_results};
 use crate::job::{Accepted, Job, Kind};
+use crate::kept::Kept;
 use crate::report::Form;
 use cli_commands::{Answer, LastLayout, Status};
 use cli_findings::Results;
 use std::alloc::{AllocError, Global};
+use std::mem;
 
 /// What is told of a job.
 #[derive(Drop)]
@@ -41,7 +43,7 @@ fn results_of(
     base: &str,
     accepted: &[Accepted],
     job: &Job,
-    inputs: &Inputs,
+    inputs: &Inputs<'_>,
     answer: &Answer,
 ) -> Result<Results, AllocError>
     ensures { IfOk result (λ results. results_seen results ≡ in_log form
@@ -61,7 +63,7 @@ fn inputs_told<F: Files>(
     form: Form,
     accepted: &[Accepted],
     job: &Job,
-    inputs: &Inputs,
+    inputs: &Inputs<'_>,
 ) -> Result<Told, AllocError>
     ensures { IfOk result (λ told. told_seen told ≡ inputs_told form (F.base files.now)
         accepted.now job.now (inputs_seen inputs.now)) }
@@ -105,19 +107,28 @@ fn alone_told(alloc: Global, form: Form, base: &str, job: &Job) -> Result<Told, 
 }
 
 /// What is told of the files of a job, or of the first that can't be read.
-fn read_told<F: Files>(
+fn read_told<'j, F: Files>(
     alloc: Global,
     files: &F,
-    last: &mut Option<LastLayout>,
+    kept: &mut Kept<'j>,
     form: Form,
     accepted: &[Accepted],
-    job: &Job,
+    job: &'j Job,
 ) -> Result<Told, AllocError>
-    ensures { IfSome (F.contents files.now) (λ held. IfOk result (λ told. told_seen told
+    requires { IfSome (F.contents files.now) (λ held. AreOf held kept.old.inputs) }
+    ensures told { IfSome (F.contents files.now) (λ held. IfOk result (λ told. told_seen told
         ≡ read_told form (F.base files.now) held accepted.now job.now)) }
+    ensures kept { IfSome (F.contents files.now)
+        (λ held. OnOk result (AreOf held kept.new.inputs)) }
 {
-    match job_read(alloc, files, job) {
-        Ok(inputs) => inputs_told(alloc, files, last, form, accepted, job, &inputs),
+    let before = mem::replace(&mut kept.inputs, Inputs::none(alloc));
+    match Inputs::read(alloc, files, before, job) {
+        Ok(inputs) => {
+            let last = &mut kept.last;
+            let told = inputs_told(alloc, files, last, form, accepted, job, &inputs)?;
+            kept.inputs = inputs;
+            Ok(told)
+        }
         Err(ReadError::Missing(path)) => {
             missing_told(alloc, form, files.folder(), path.as_str())
         }
@@ -126,21 +137,24 @@ fn read_told<F: Files>(
 }
 
 /// What is told of a job: what its command prints of its files, or that one can't be read.
-pub(crate) fn job_told<F: Files>(
+pub(crate) fn job_told<'j, F: Files>(
     alloc: Global,
     files: &F,
-    last: &mut Option<LastLayout>,
+    kept: &mut Kept<'j>,
     form: Form,
     accepted: &[Accepted],
-    job: &Job,
+    job: &'j Job,
 ) -> Result<Told, AllocError>
-    ensures { IfSome (F.contents files.now) (λ held. IfOk result (λ told. told_seen told
+    requires { IfSome (F.contents files.now) (λ held. AreOf held kept.old.inputs) }
+    ensures told { IfSome (F.contents files.now) (λ held. IfOk result (λ told. told_seen told
         ≡ job_told form (F.base files.now) held accepted.now job.now)) }
+    ensures kept { IfSome (F.contents files.now)
+        (λ held. OnOk result (AreOf held kept.new.inputs)) }
 {
     match job.kind {
         Kind::Alone => alone_told(alloc, form, files.folder(), job),
         Kind::Screen | Kind::Dialogue | Kind::Map => {
-            read_told(alloc, files, last, form, accepted, job)
+            read_told(alloc, files, kept, form, accepted, job)
         }
     }
 }

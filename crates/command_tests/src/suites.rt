@@ -31,11 +31,17 @@ impl Files for InMemory<'_> {
 
     fn refuse(&self, _alloc: Global, _job: &Job, _layouts: &[Vec<u8>], _records: &[u8]) {}
 
-    fn read(&self, alloc: Global, path: &str) -> Result<Option<Vec<u8>>, AllocError> {
+    fn read(
+        &self,
+        _alloc: Global,
+        path: &str,
+        room: Vec<u8>,
+    ) -> Result<Option<Vec<u8>>, AllocError> {
         for file in self.text.split('|') {
             let (own, bytes) = file.split_once('=').unwrap_or((file, ""));
             if own == path {
-                let mut copy = Vec::new(alloc);
+                let mut copy = room;
+                copy.clear();
                 copy.extend_from_slice(bytes.as_bytes())?;
                 return Ok(Some(copy));
             }

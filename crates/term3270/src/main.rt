@@ -7,7 +7,6 @@ mod commands;
 mod drafts;
 mod file;
 mod help;
-mod last_files;
 mod manners;
 mod many;
 mod offers;

@@ -1,14 +1,12 @@
 //! `suite`: the files of a manifest, or those of a folder.
 
 use crate::commands::output;
-use crate::last_files::LastFiles;
 use crate::script_layouts::MOST_BYTES;
 use crate::walk::paths_below;
 use cli_commands::{Answer, CommandError, Status, failure, finish};
 use cli_reasons::{Ear, Lines};
 use cli_suites::{Files, Form, Job, Kind, suite_folder, suite_text};
 use std::alloc::{AllocError, Global};
-use std::cell::RefCell;
 use std::fs::metadata;
 use std::io::{IsTerminal, Read};
 use std::{fs, io};
@@ -26,25 +24,32 @@ struct Disk<'a> {
     base: &'a str,
     /// Whether it is shown how far the suite has come.
     is_shown: bool,
-    last: RefCell<LastFiles>,
 }
 
-/// What a file holds, up to one byte more than an input can have.
-fn text_at(rt: &HostRuntime, path: &str) -> io::Result<Vec<u8>> {
-    let mut text = Vec::with_capacity(rt.alloc(), ROOM)?;
+/// What a file holds, up to one byte more than an input can have, in place of what is in the room.
+fn text_at(rt: &HostRuntime, path: &str, room: Vec<u8>) -> io::Result<Vec<u8>> {
+    let mut text = room;
+    text.clear();
+    text.reserve(ROOM)?;
     fs::open(rt, path)?.take(MOST_BYTES).read_to_end(&mut text)?;
     Ok(text)
 }
 
-/// The bytes of a file of the disk, up to one more than an input can have. That it can't be read is said.
-pub(crate) fn read_file(rt: &HostRuntime, path: &str) -> Result<Vec<u8>, CommandError> {
-    match text_at(rt, path) {
+/// The bytes of a file of the disk, up to one more than an input can have, in place of what is in the room. That it can't be
+/// read is said.
+fn read_into(rt: &HostRuntime, path: &str, room: Vec<u8>) -> Result<Vec<u8>, CommandError> {
+    match text_at(rt, path, room) {
         Ok(text) => Ok(text),
         Err(error) => {
             let _ = eprintln!(rt; "term3270: {path}: {error}");
             Err(CommandError::from(error))
         }
     }
+}
+
+/// The bytes of a file of the disk, up to one more than an input can have. That it can't be read is said.
+pub(crate) fn read_file(rt: &HostRuntime, path: &str) -> Result<Vec<u8>, CommandError> {
+    read_into(rt, path, Vec::new(rt.alloc()))
 }
 
 impl Files for Disk<'_> {
@@ -71,18 +76,16 @@ impl Files for Disk<'_> {
         }
     }
 
-    fn read(&self, alloc: Global, path: &str) -> Result<Option<Vec<u8>>, AllocError> {
-        let found = self.find(alloc, path)?;
-        if found.is_some() {
-            return Ok(found);
-        }
+    fn read(
+        &self,
+        alloc: Global,
+        path: &str,
+        room: Vec<u8>,
+    ) -> Result<Option<Vec<u8>>, AllocError> {
         let whole = self.whole(alloc, path)?;
         self.clear();
-        match read_file(self.rt, whole.as_str()) {
-            Ok(bytes) => {
-                self.keep(alloc, path, bytes.as_slice())?;
-                Ok(Some(bytes))
-            }
+        match read_into(self.rt, whole.as_str(), room) {
+            Ok(bytes) => Ok(Some(bytes)),
             Err(CommandError::OutOfMemory) => Err(AllocError),
             Err(CommandError::ReadFailed | CommandError::Fault(_)) => Ok(None),
         }
@@ -113,22 +116,6 @@ pub(crate) fn heard(alloc: Global, lines: Lines, name: &str, text: &[u8]) -> Opt
 }
 
 impl Disk<'_> {
-    /// The bytes of a file that was read just before.
-    fn find(&self, alloc: Global, path: &str) -> Result<Option<Vec<u8>>, AllocError> {
-        match self.last.try_borrow_mut() {
-            Ok(mut last) => last.find(alloc, path),
-            Err(_) => Ok(None),
-        }
-    }
-
-    /// Keeps the bytes of a file for the jobs that come.
-    fn keep(&self, alloc: Global, path: &str, bytes: &[u8]) -> Result<(), AllocError> {
-        match self.last.try_borrow_mut() {
-            Ok(mut last) => last.keep(alloc, path, bytes),
-            Err(_) => Ok(()),
-        }
-    }
-
     /// The path of a file from where the program was started.
     fn whole(&self, alloc: Global, path: &str) -> Result<String, AllocError> {
         let base = if path.starts_with('/') { "" } else { self.base };
@@ -200,7 +187,6 @@ fn folder_answer(
         start: path,
         base: "",
         is_shown: rt.stderr().is_terminal(),
-        last: RefCell::new(LastFiles::new(rt.alloc())),
     };
     let answer = suite_folder(rt.alloc(), &disk, form, only, paths.as_slice())?;
     disk.clear();
@@ -220,7 +206,6 @@ fn manifest_answer(
         start: path,
         base: folder_of(path),
         is_shown: rt.stderr().is_terminal(),
-        last: RefCell::new(LastFiles::new(rt.alloc())),
     };
     let answer = suite_text(rt.alloc(), &disk, form, only, manifest.as_slice())?;
     disk.clear();
