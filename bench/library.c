@@ -1,6 +1,6 @@
 /* Times takvorn_show and takvorn_check, and a key, a record of a full screen of 60 fields and a check at a terminal that a program holds: by its state, and
- * by a handle. library LAYOUT RECORDS COUNT prints the least of 21 runs of so many calls, each call in turn, in microseconds a call: of show and check of the
- * records; of a key, a record and a check by state; and of these by handle. */
+ * by a handle. library LAYOUT RECORDS COUNT prints the least of 21 runs of so many calls, each call in turn and with a rest after each turn, in microseconds a
+ * call: of show and check of the records; of a key, a record and a check by state; and of these by handle. */
 #define _POSIX_C_SOURCE 200809L
 #include "takvorn.h"
 #include <stdio.h>
@@ -54,6 +54,8 @@ static size_t contents(const char *name, uint8_t *bytes, size_t room) {
   return length;
 }
 
+static const struct timespec rest = {0, 200000000};
+
 static double once(int (*call)(void), long count) {
   struct timespec from, to;
   clock_gettime(CLOCK_MONOTONIC, &from);
@@ -71,11 +73,13 @@ int main(int count, char **words) {
   layout_length = contents(words[1], layout, sizeof layout);
   records_length = contents(words[2], records, sizeof records);
   hold();
-  for (int run = 0; run < RUNS; run++)
+  for (int run = 0; run < RUNS; run++) {
     for (int at = 0; at < CALLS; at++) {
       double spent = once(calls[at], atol(words[3]));
       if (run == 0 || spent < least[at]) least[at] = spent;
     }
+    nanosleep(&rest, NULL);
+  }
   for (int at = 0; at < CALLS; at++) printf("%s%.2f", at ? " " : "", least[at]);
   puts("");
   takvorn_held_free(&held);

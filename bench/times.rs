@@ -1,10 +1,14 @@
 //! Times programs on one input, in turn, so that a machine whose speed moves disturbs all of them alike: the least of so many
-//! runs of each, in microseconds, on one line. Arguments: the input, where the output goes, how many runs, and the programs with
+//! runs of each, in microseconds, on one line. After each turn it rests, so that the runs go over some seconds: a machine that is
+//! slowed down for one of them isn't for all. Arguments: the input, where the output goes, how many runs, and the programs with
 //! their words, with `::` between them.
 use std::fs::File;
 use std::io::{self, Error};
 use std::process::Command;
+use std::thread::sleep;
 use std::time::{Duration, Instant};
+
+const REST: Duration = Duration::from_millis(100);
 
 /// One run, from its start to its end. Status 1 tells of findings.
 fn run(words: &[String], input: &str, output: &str) -> io::Result<Duration> {
@@ -31,6 +35,7 @@ fn main() -> io::Result<()> {
         for (least, words) in least.iter_mut().zip(&programs) {
             *least = run(words, input, output)?.min(*least);
         }
+        sleep(REST);
     }
     let told: Vec<String> = least.iter().map(|least| least.as_micros().to_string()).collect();
     println!("{}", told.join(" "));
