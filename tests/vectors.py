@@ -30,20 +30,25 @@ def all_cases():
 
 
 def profile():
-    """The headings of docs/PROFILE.md, and below each the first cells of its tables' rows; and the table of its last part, file by file."""
-    rules, files, heading = {}, {}, None
+    """The headings of docs/PROFILE.md, and below each the first cells of its tables' rows."""
+    rules, heading = {}, None
     for line in lines_of("docs/PROFILE.md"):
         if found := re.match(r"#+ (.*?)(?: \(.*\))?$", line):
             heading = found[1]
             rules.setdefault(heading, [])
-        elif found := re.match(r"\| `(\w+)` \| (.*) \|$", line) if heading == "Vectors" else None:
-            files[found[1]] = set(found[2].split("; "))
         elif found := re.match(r"\| (.+?) \|", line):
             rules[heading].append(found[1])
         elif heading:
             # Two rules stand in sentences.
             rules[heading] += re.findall(r"Settling(?=: from)|H[12] \w+", line)
-    return rules, files
+    return rules
+
+
+def files_told():
+    """The table of vectors/README.md: the rules of each file."""
+    lines = lines_of("vectors/README.md")
+    rows = (re.match(r"\| `(\w+)` \| (.*) \|$", line) for line in lines[lines.index("| File | Rules |"):])
+    return {found[1]: set(found[2].split("; ")) for found in rows if found}
 
 
 def differing(wanted, found, what):
@@ -51,11 +56,11 @@ def differing(wanted, found, what):
 
 
 def rules_agree():
-    rules, files = profile()
+    rules, files = profile(), files_told()
     told = {name: {rule for case in cases for rule in case["rules"]} for name, cases in all_cases()}
-    wrong = differing(set(files), set(told), "a file that one of docs/PROFILE.md and cases/ lacks")
+    wrong = differing(set(files), set(told), "a file that one of README.md and cases/ lacks")
     for name in set(files) & set(told):
-        wrong += differing(files[name], told[name], f"{name}, a rule that one of docs/PROFILE.md and cases/ lacks")
+        wrong += differing(files[name], told[name], f"{name}, a rule that one of README.md and cases/ lacks")
     known = {*rules, *(row for rows in rules.values() for row in rows)}
     named = {rule for each in told.values() for rule in each}
     wrong += [f"no heading and no row: {it}" for it in sorted(named - known)]
