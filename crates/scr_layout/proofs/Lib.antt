@@ -11,3 +11,4 @@ pub mod SizeLaw
 pub mod SaysLaw
 pub mod ReadLaw
 pub mod LocatedLaws
+pub mod PlainLaws

@@ -13,6 +13,7 @@ use crate::fault::{LayoutError, LayoutFault};
 use crate::field::with_table;
 use crate::listed::Listed;
 use crate::located::Located;
+use crate::plain::plain_table;
 use crate::top::{
     Version, alternate_of, default_of, fields_of, mode_of, screen_of, top_of, version_of,
 };
@@ -185,6 +186,9 @@ fn copied(alloc: Global, entries: &[Entry]) -> Result<Vec<Entry>, AllocError>
 fn table_of(alloc: Global, text: &str) -> Result<Table, LayoutError>
     ensures { Gives table_view result (table_of text.now) }
 {
+    if let Some(table) = plain_table(alloc, text)? {
+        return Ok(table);
+    }
     match toml::table_from_str(alloc, text) {
         Ok(table) => Ok(table),
         Err(error) => {

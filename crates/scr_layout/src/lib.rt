@@ -8,6 +8,7 @@ mod layout;
 mod listed;
 mod located;
 mod name;
+mod plain;
 mod rows;
 mod size_text;
 mod top;

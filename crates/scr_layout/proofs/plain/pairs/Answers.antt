@@ -1,0 +1,34 @@
+use Rattle.std.proofs.Common.{◌-◌, ◌∙◌, refl, sym, rules, arith}
+use Rattle.scr_layout.proofs.PlainLaws.{none_of, pair_goes_on}
+use Rattle.scr_layout.proofs.plain.pairs.Goals as goal
+
+pub pairs-init : goal.pairs-init
+pairs-init c = (c.utf8.s, (omega arith, λ around section place n few. (n, few, refl)))
+
+pub returns-in_default : goal.returns-in_default
+returns-in_default c = c.pairs.invariant.1
+
+pub pairs-smaller : goal.pairs-smaller
+pairs-smaller c =
+    let read = rw c.in-Some.is at c.in_ok-found.ensures in
+    omega (arith, read.1, c.skip_blank.ensures.within)
+
+pub pairs-preserved : goal.pairs-preserved
+pairs-preserved c =
+    let l = c.pairs in
+    let (shorter, goes_on) = l.invariant.1 in
+    let within = rw c.skip_blank.ensures.rest at c.skip_blank.ensures.within in
+    let read = rw (c.in-Some.is, c.skip_blank.ensures.rest) at c.in_ok-found.ensures in
+    let missing = sym c.in_ok-insert.ensures.old ∙ none_of c.in_ok-insert.field-0 (sym c.if-is_some.ensures) in (
+      search rules,
+      (
+        omega (arith, shorter, within, read.1),
+        λ around section place n few.
+            let (m, room, so_far) = goes_on around section place n few in (
+              m - 1,
+              omega (arith, room, read.1, within),
+              rw c.in_ok-insert.ensures.entries
+                  (so_far ∙ pair_goes_on around section place l.table.entries c.in-Some.found.0 c.in-Some.found.1 m l.rest.now c.in-Some.after.now (omega (arith, room)) read.0 read.1 missing),
+            ),
+      ),
+    )
