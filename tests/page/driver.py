@@ -82,7 +82,7 @@ class Chromium(Browser):
         data = None if body is None else json.dumps(body).encode()
         request = urllib.request.Request(self.base + path, data, {"Content-Type": "application/json"}, method=method)
         try:
-            with urllib.request.urlopen(request, timeout=SECONDS) as answer:
+            with urllib.request.urlopen(request, timeout=3 * SECONDS) as answer:
                 return json.load(answer)["value"]
         except urllib.error.HTTPError as error:
             raise RuntimeError(json.load(error)["value"]["message"]) from None
@@ -141,7 +141,7 @@ class Firefox(Browser):
     @staticmethod
     def called(port):
         try:
-            return socket.create_connection(("127.0.0.1", port), timeout=SECONDS)
+            return socket.create_connection(("127.0.0.1", port), timeout=3 * SECONDS)
         except OSError:
             return None
 
