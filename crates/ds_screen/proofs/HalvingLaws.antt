@@ -1,15 +1,11 @@
 -- What a search of the index finds, on the screen.
-use Rattle.std.proofs.Common.{◌≡◌, ◌≢◌, ℕ, zero, suc, ◌+◌, ◌-◌, ◌*◌, ◌^◌, ◌<◌, ◌≤◌, true, false, List, length, get_or, Option, Some, None, refl, sym, ◌∙◌, ap, arith, inl, inr}
+use Rattle.std.proofs.Common.{◌≡◌, ℕ, ◌+◌, ◌-◌, ◌<◌, true, false, List, length, Option, Some, None, refl, sym, ◌∙◌, ap, arith, inl, inr}
 use Rattle.std.specs.Option.{IfSome}
-use Rattle.std.proofs.Math.Nat.{pow-suc, mul-le-mul_left}
-use Rattle.std.proofs.Math.Pow.{pow_mono}
-use Rattle.std.proofs.lemmas.Bool.{cases_lt, cases_eq}
-use Rattle.std.proofs.lemmas.List.{get_or_default}
+use Rattle.std.proofs.lemmas.Bool.{cases_lt}
 use Rattle.ds_codec.specs.declared.cell.Cell.{Cell}
 use Rattle.ds_codec.specs.declared.cell.Cell.TheVariants.{Field, Char}
-use Rattle.ds_places.specs.Places.{at_place, IsRising}
+use Rattle.ds_places.specs.Places.{at_place}
 use Rattle.ds_places.specs.Nearest.{IsFirstFrom, IsLastBelow}
-use Rattle.ds_places.proofs.ListLaws.{rises_order, at_none, at_held}
 use Rattle.ds_screen.specs.Ring.{ring_on, ring_back}
 use Rattle.ds_screen.specs.Picture.{cell_at}
 use Rattle.ds_screen.specs.Fields.{is_attribute, attribute_before, attribute_from}

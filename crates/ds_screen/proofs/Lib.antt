@@ -1,5 +1,6 @@
 pub mod RingLaws
 pub mod FieldLaws
+pub mod RowLaws
 pub mod RuledLaws
 pub mod RunLaws
 pub mod EraseLaws

@@ -7,7 +7,6 @@ use Rattle.ds_codec.specs.declared.cell.Cell.TheVariants.{Field, Char}
 use Rattle.ds_codec.specs.Attribute.{is_protected, with_modified}
 use Rattle.ds_codec.specs.Character.{Glyph}
 use Rattle.ds_places.specs.Places.{at_place, IsRising, is_round}
-use Rattle.ds_places.specs.Nearest.{IsFirstFrom}
 use Rattle.ds_screen.specs.declared.mark.Mark.{Mark}
 use Rattle.ds_screen.specs.declared.records.Reset.{Reset}
 use Rattle.ds_screen.specs.declared.records.Reset.TheVariants.{Every, Unprotected}

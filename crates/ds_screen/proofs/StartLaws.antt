@@ -4,13 +4,11 @@ use Rattle.std.specs.Option.{option_map, unwrap_or}
 use Rattle.std.proofs.lemmas.Bool.{cases_lt, false≢true}
 use Rattle.ds_codec.specs.declared.cell.Cell.{Cell}
 use Rattle.ds_codec.specs.declared.cell.Cell.TheVariants.{Field, Char}
-use Rattle.ds_places.specs.Nearest.{IsFirstFrom}
 use Rattle.ds_screen.specs.Ring.{ring_on, ring_back}
 use Rattle.ds_screen.specs.Picture.{cell_at}
 use Rattle.ds_screen.specs.Fields.{is_attribute, is_character, ruling_bits, ruling_after, is_open_under, is_open, first_open}
 use Rattle.ds_screen.specs.Orders.{is_unprotected_attribute}
 use Rattle.ds_screen.specs.Starts.{is_field_start, start_ahead}
-use Rattle.ds_screen.specs.Planes.{itself}
 use Rattle.ds_screen.specs.Listed.{is_opening, IsFirstFree, IsFirstOpening}
 use Rattle.ds_screen.proofs.RingLaws.{on_cases, on-zero, on_lt, on_more, on_inside, least_at, least_none, search_cases}
 use Rattle.ds_screen.proofs.RuledLaws.{place_before}

@@ -5,7 +5,8 @@ ghost use Rattle.std.specs.List.{list_all};
 ghost use Rattle.ds_codec.specs.declared.cell.Cell.{Cell};
 ghost use Rattle.ds_codec.specs.Character.{is_text};
 ghost use Rattle.ds_screen.specs.Picture.{blank, cell_at, ruled};
-ghost use Rattle.ds_screen.specs.Fields.{is_attribute, attribute_of, attribute_before, attribute_from, ruling_bits, first_open};
+ghost use Rattle.ds_screen.specs.Fields.{is_attribute, attribute_of, attribute_before, attribute_from, ruling_bits, ruling_after, first_open};
+ghost use Rattle.ds_screen.specs.Shown.{printed_under};
 ghost use Rattle.ds_screen.specs.Orders.{text_cell, repeated_cell, erased_cell, nulled_cell, first_from, tab_stop};
 ghost use Rattle.ds_screen.specs.Reset.{after_reset};
 ghost use Rattle.ds_screen.specs.Starts.{start_ahead};
@@ -14,6 +15,7 @@ use crate::ranges::reach;
 use crate::records::{Reset, reset_cell};
 use crate::ring::{next, previous};
 use crate::ruling::{is_open_cell, ruled_on};
+use crate::shown::printed_under;
 use crate::tab::{is_unprotected_field, starts_field};
 use ds_codec::{Attr, Cell, Char};
 use std::alloc::{AllocError, Global};
@@ -95,6 +97,18 @@ pub trait Cells: Drop {
             Some(q) => ruled_on(Attr::new(0), &self.cell(q)),
             None => Attr::new(0),
         }
+    }
+
+    /// What rules a position, by what rules the one before it, and what is printed there.
+    fn print(&self, p: u32, ruling: Attr) -> (Attr, u8)
+        requires { p < length (content self.now) }
+        ensures ruled { result.0 ≡ ruling_after ruling (cell_at (content self.now) p) }
+        ensures printed { result.1 ≡ printed_under result.0 (cell_at (content self.now) p) }
+        ensures ascii { result.1 < 128 }
+    {
+        let cell = self.cell(p);
+        let ruled = ruled_on(ruling, &cell);
+        (ruled, printed_under(ruled, &cell))
     }
 
     /// Stores a run of text round the buffer, and gives the position after it.

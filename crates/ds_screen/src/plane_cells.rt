@@ -316,6 +316,11 @@ impl Cells for PlaneCells {
     }
 
     #[inline(always)]
+    fn print(&self, p: u32, ruling: Attr) -> (Attr, u8) {
+        self.planes.print(p, ruling)
+    }
+
+    #[inline(always)]
     fn put_text(&mut self, b: u32, run: &[u8]) -> u32 {
         let n = self.planes.len();
         let steps = run.len().min(n as usize) as u32;

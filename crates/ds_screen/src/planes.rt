@@ -3,7 +3,10 @@
 ghost use Rattle.std.specs.Prelude.{◌≡◌, ◌≤◌, ◌+◌, ◌-◌, ◌&&◌, ℕ, length, slice_index, slice_index_or, nat_le, nat_lt, true, if◌then◌else◌};
 ghost use Rattle.ds_screen.specs.Planes.{AreAllPlain};
 
-use crate::stored::{Kind, Stored, attribute_of, cell_of, cell_stored, character_stored, is_plain};
+use crate::shown::printed_stored;
+use crate::stored::{
+    Kind, Stored, attribute_of, cell_of, cell_stored, character_stored, is_plain, ruled_by,
+};
 use ds_codec::{Attr, Cell, Char};
 use std::alloc::{AllocError, Global};
 use std::marker::Model;
@@ -88,7 +91,8 @@ fn copy_part(items: &mut [u8], at: usize, run: &[u8], from: usize, count: usize)
 impl Planes {
     ghost use Rattle.std.specs.Prelude.{◌≡◌, ◌≤◌, ◌<◌, ◌+◌, [], IfOk, true, length, replicate, slice_set};
     ghost use Rattle.ds_screen.specs.Picture.{blank, cell_at, ruled};
-    ghost use Rattle.ds_screen.specs.Fields.{is_attribute, attribute_of};
+    ghost use Rattle.ds_screen.specs.Fields.{is_attribute, attribute_of, ruling_after};
+    ghost use Rattle.ds_screen.specs.Shown.{printed_under};
     ghost use Rattle.std.specs.List.{list_all};
     ghost use Rattle.ds_codec.specs.Character.{is_text};
     ghost use Rattle.ds_screen.specs.Planes.{filled_cell, written_cell};
@@ -160,6 +164,22 @@ impl Planes {
             code: self.codes[p as usize],
         };
         cell_of(stored)
+    }
+
+    /// What rules a position, by what rules the one before it, and what is printed there.
+    #[inline(always)]
+    pub(crate) fn print(&self, p: u32, ruling: Attr) -> (Attr, u8)
+        requires { p < length self.now.cells }
+        ensures ruled { result.0 ≡ ruling_after ruling (cell_at self.now.cells p) }
+        ensures printed { result.1 ≡ printed_under result.0 (cell_at self.now.cells p) }
+        ensures ascii { result.1 < 128 }
+    {
+        let stored = Stored {
+            kind: self.kinds[p as usize],
+            code: self.codes[p as usize],
+        };
+        let ruled = ruled_by(ruling, stored);
+        (ruled, printed_stored(ruled, stored))
     }
 
     /// Stores a cell at a position.

@@ -2,16 +2,22 @@
 
 ghost use Rattle.std.specs.Prelude.{◌≡◌, ◌+◌, ◌<◌, ◌≤◌, All, map, length, IfOk, string_bytes};
 ghost use Rattle.std.specs.List.{range_with_len};
+ghost use Rattle.ds_screen.specs.Planes.{stored_cell};
+ghost use Rattle.ds_screen.specs.declared.stored.Kind.TheVariants.{Plain, Alternate};
 ghost use Rattle.ds_screen.specs.Shown.{printed_code, text_of, printed_under, printed_cell};
 
 use crate::cells::Cells;
 use crate::ring::previous;
-use crate::ruling::ruled_on;
+use crate::stored::{Kind, Stored};
 use ds_codec::{Attr, Cell, Char};
 use std::alloc::{AllocError, Global};
 
-/// The characters that are printed for the codes from 40 to FF, `?` where a code has none.
-const PRINTED: [u8; 192] = [
+/// The characters that are printed for the codes, `?` where a code has none.
+const PRINTED: [u8; 256] = [
+    b'?', b'?', b'?', b'?', b'?', b'?', b'?', b'?', b'?', b'?', b'?', b'?', b'?', b'?', b'?', b'?', //
+    b'?', b'?', b'?', b'?', b'?', b'?', b'?', b'?', b'?', b'?', b'?', b'?', b'?', b'?', b'?', b'?', //
+    b'?', b'?', b'?', b'?', b'?', b'?', b'?', b'?', b'?', b'?', b'?', b'?', b'?', b'?', b'?', b'?', //
+    b'?', b'?', b'?', b'?', b'?', b'?', b'?', b'?', b'?', b'?', b'?', b'?', b'?', b'?', b'?', b'?', //
     b' ', b'?', b'?', b'?', b'?', b'?', b'?', b'?', b'?', b'?', b'?', b'.', b'<', b'(', b'+', b'|', //
     b'&', b'?', b'?', b'?', b'?', b'?', b'?', b'?', b'?', b'?', b'!', b'$', b'*', b')', b';', b'?', //
     b'-', b'/', b'?', b'?', b'?', b'?', b'?', b'?', b'?', b'?', b'?', b',', b'%', b'_', b'>', b'?', //
@@ -33,11 +39,7 @@ fn printed(code: u8) -> u8
     ensures value { result ≡ printed_code code }
     ensures ascii { result < 128 }
 {
-    if code < 0x40 {
-        b'?'
-    } else {
-        PRINTED[usize::from(code) - 0x40]
-    }
+    PRINTED[usize::from(code)]
 }
 
 /// What is printed for a character: one of 95 for its code, `?` where that has none and for one of the alternate set.
@@ -71,6 +73,46 @@ pub fn printed_under(ruling: Attr, cell: &Cell) -> u8
     }
 }
 
+#[inline(always)]
+fn printed_plain(ruling: Attr, code: u8) -> u8
+    ensures value { result ≡ printed_under ruling (stored_cell Plain code) }
+    ensures ascii { result < 128 }
+{
+    if code == 0 {
+        b'.'
+    } else if ruling.hidden() {
+        b'*'
+    } else {
+        printed(code)
+    }
+}
+
+fn printed_alternate(ruling: Attr, code: u8) -> u8
+    ensures value { result ≡ printed_under ruling (stored_cell Alternate code) }
+    ensures ascii { result < 128 }
+{
+    if code == 0 {
+        b'.'
+    } else if ruling.hidden() {
+        b'*'
+    } else {
+        b'?'
+    }
+}
+
+/// What is printed of a kind and a code, by what rules them.
+#[inline(always)]
+pub(crate) fn printed_stored(ruling: Attr, stored: Stored) -> u8
+    ensures value { result ≡ printed_under ruling (stored_cell stored.kind stored.code) }
+    ensures ascii { result < 128 }
+{
+    match stored.kind {
+        Kind::Attribute => b'@',
+        Kind::Plain => printed_plain(ruling, stored.code),
+        Kind::Alternate => printed_alternate(ruling, stored.code),
+    }
+}
+
 /// What is printed of the cells from a position on, of one row.
 fn row_bytes<C: Cells>(
     alloc: Global,
@@ -84,12 +126,15 @@ fn row_bytes<C: Cells>(
         ≡ map (printed_cell (C.content cells.now)) (range_with_len start columns)) }
     ensures ascii { IfOk result (λ bytes. All (λ byte. byte < 128) bytes.items) }
 {
-    let mut bytes = Vec::with_capacity(alloc, columns as usize)?;
+    let mut bytes = Vec::new(alloc);
+    bytes.resize(columns as usize, b'.')?;
     let mut ruling = cells.ruling(previous(cells.len(), start));
     'places: for at in start..start + columns {
-        let cell = cells.cell(at);
-        ruling = ruled_on(ruling, &cell);
-        bytes.push(printed_under(ruling, &cell))?;
+        let (ruled, byte) = cells.print(at, ruling);
+        ruling = ruled;
+        if byte != b'.' {
+            bytes[(at - start) as usize] = byte;
+        }
     }
     Ok(bytes)
 }

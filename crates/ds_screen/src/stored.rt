@@ -1,7 +1,7 @@
 //! A cell as it is stored: a kind and a code.
 
 ghost use Rattle.std.specs.Prelude.{◌≡◌, true};
-ghost use Rattle.ds_screen.specs.Fields.{attribute_of};
+ghost use Rattle.ds_screen.specs.Fields.{attribute_of, ruling_after};
 ghost use Rattle.ds_screen.specs.Planes.{stored_cell, is_storable};
 ghost use Rattle.ds_screen.specs.declared.stored.Kind.TheVariants.{Plain};
 
@@ -86,5 +86,17 @@ pub(crate) fn attribute_of(stored: Stored) -> Option<Attr>
     match stored.kind {
         Kind::Attribute => Some(Attr::new(stored.code)),
         Kind::Plain | Kind::Alternate => None,
+    }
+}
+
+/// What rules a position of this kind and code, by what rules the one before it.
+#[inline(always)]
+pub(crate) fn ruled_by(before: Attr, stored: Stored) -> Attr
+    requires { is_storable stored.kind stored.code ≡ true }
+    ensures { result ≡ ruling_after before (stored_cell stored.kind stored.code) }
+{
+    match stored.kind {
+        Kind::Attribute => Attr::new(stored.code),
+        Kind::Plain | Kind::Alternate => before,
     }
 }

@@ -1,4 +1,4 @@
-use Rattle.std.proofs.Common.{◌≡◌, ◌+◌, ◌<◌, length, ◌∙◌, sym, ap, arith}
+use Rattle.std.proofs.Common.{◌≡◌, ◌+◌, length, ◌∙◌, ap}
 use Rattle.ds_screen.specs.Ring.{ring_on}
 use Rattle.ds_screen.specs.Fields.{attribute_from}
 use Rattle.ds_screen.proofs.RingLaws.{on_inside}

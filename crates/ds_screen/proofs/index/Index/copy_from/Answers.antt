@@ -1,4 +1,4 @@
-use Rattle.std.proofs.Common.{◌≤◌, ◌<◌, ◌≡◌, ℕ, false, List, length, get_or, vec_len, sym, ◌∙◌, ap, subst, arith}
+use Rattle.std.proofs.Common.{◌≡◌, false, List, length, get_or, vec_len, sym, ◌∙◌, ap, subst, arith}
 use Rattle.ds_codec.specs.declared.cell.Cell.{Cell}
 use Rattle.ds_places.specs.Places.{at_place}
 use Rattle.ds_screen.specs.Planes.{itself}

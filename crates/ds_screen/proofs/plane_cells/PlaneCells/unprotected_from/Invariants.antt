@@ -1,6 +1,4 @@
-use Rattle.std.proofs.Common.{◌≡◌, ◌≤◌, ◌<◌, ◌-◌, ℕ, false, length}
-use Rattle.ds_screen.specs.Picture.{cell_at}
-use Rattle.ds_screen.specs.Orders.{is_unprotected_attribute}
+use Rattle.std.proofs.Common.{◌≤◌, ◌-◌}
 use Rattle.ds_screen.proofs.MarkLaws.{NoneFree}
 use Rattle.ds_screen.proofs.plane_cells.PlaneCells.unprotected_from.Given as goal
 
