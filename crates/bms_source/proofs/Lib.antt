@@ -1,3 +1,4 @@
 pub mod Behind
+pub mod ColumnLaws
 pub mod TextTest
 pub mod PrintLaws

@@ -55,6 +55,9 @@ pub(crate) fn text_of(columns: &[u8]) -> &[u8]
 pub(crate) fn columns_of(alloc: Global, line: &[u8]) -> Result<Vec<u8>, AllocError>
     ensures { IfOk result (λ columns. columns.items ≡ columns_of line.now) }
 {
+    if line.is_ascii() {
+        return Vec::from_slice(alloc, line);
+    }
     line.iter()
         .copied()
         .filter(|byte| *byte / 64 != 2)

@@ -32,7 +32,7 @@ fn letters_of(alloc: Global, line: usize, text: &[u8]) -> Result<Vec<Letter>, Al
     requires { length text.now < 2 ^ 63 }
     ensures { IfOk result (λ letters. letters.items ≡ letters_from line 1 text.now) }
 {
-    let mut letters = Vec::new(alloc);
+    let mut letters = Vec::with_capacity(alloc, text.len())?;
     let mut column = 1usize;
     let mut rest = text;
     while let [code, others @ ..] = rest {
