@@ -26,6 +26,7 @@ fn push_own_answer<C: Cells>(row: &mut Row, setup: &Setup, verb: &str, words: &s
         "strokes" => strokes::push_strokes::<C>(row, setup, words),
         "take" => terminal::push_two::<C>(row, setup, words),
         "reserved" => searches::push_reserved::<C>(row, words),
+        "filled" => searches::push_filled::<C>(row, words),
         _ => return false,
     }
     true

@@ -2,7 +2,7 @@
 
 use crate::codes::push_char;
 use crate::words::push_name;
-use ds_codec::Cell;
+use ds_codec::{Attr, Cell, Char};
 use ds_keys::end_of_row;
 use ds_screen::{Cells, Screen};
 use test_words::Row;
@@ -74,6 +74,47 @@ pub(crate) fn push_reserved<C: Cells>(row: &mut Row, words: &str) {
         Ok(mut cells) => {
             cells.clear(count);
             push_buffer(row, &cells);
+        }
+        Err(_) => row.spoil(),
+    }
+}
+
+/// Puts an attribute, and characters behind it.
+fn put_all<C: Cells>(row: &mut Row, cells: &mut C, attribute: u8, codes: &[u8]) {
+    let mut filled = 0u32;
+    if filled < cells.len() {
+        cells.put(0, Cell::Field(Attr::new(attribute)));
+    }
+    for code in codes {
+        filled = filled.saturating_add(1);
+        match Char::new(*code, false) {
+            Some(character) if filled < cells.len() => cells.put(filled, Cell::Char(character)),
+            _ => row.spoil(),
+        }
+    }
+}
+
+/// What is printed at each place.
+fn push_printed<C: Cells>(row: &mut Row, cells: &C) {
+    let mut ruling = Attr::new(0);
+    for p in 0..cells.len() {
+        let (ruled, printed) = cells.print(p, ruling);
+        row.show(&char::from(printed));
+        ruling = ruled;
+    }
+}
+
+/// A buffer of an attribute and characters, as it is printed.
+pub(crate) fn push_filled<C: Cells>(row: &mut Row, words: &str) {
+    let (attribute, codes) = row.cut(words, " ");
+    let attribute = row.read_byte(attribute);
+    let codes = row.read_bytes(codes);
+    let count = u32::try_from(codes.len()).unwrap_or(0).saturating_add(1);
+    match C::reserved(row.alloc(), count) {
+        Ok(mut cells) => {
+            cells.clear(count);
+            put_all(row, &mut cells, attribute, &codes);
+            push_printed(row, &cells);
         }
         Err(_) => row.spoil(),
     }
