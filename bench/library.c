@@ -1,17 +1,37 @@
-/* Times takvorn_show and takvorn_check, and a key, a record of a full screen of 60 fields and a check at a terminal that a program holds: by its state, and
- * by a handle. library LAYOUT RECORDS COUNT prints the least of 21 runs of so many calls, each call in turn and with a rest after each turn, in microseconds a
- * call: of show and check of the records; of a key, a record and a check by state; and of these by handle. */
+/* Times takvorn_show and takvorn_check beside the same work in plain Rust, whose answers are compared, and a key, a record of a full screen of 60 fields and a
+ * check at a terminal that a program holds: by its state, and by a handle. library LAYOUT RECORDS COUNT prints the least of 21 runs of so many calls, each call
+ * in turn and with a rest after each turn, in microseconds a call: of show and check of the records, and of these in plain Rust; of a key, a record and a check
+ * by state; and of these by handle. */
 #define _POSIX_C_SOURCE 200809L
 #include "takvorn.h"
 #include <stdio.h>
 #include <stdlib.h>
+#include <string.h>
 #include <time.h>
 
-static uint8_t layout[65536], records[65536], out[65536];
-static size_t layout_length, records_length, needed;
+/* Of calls.rs. */
+size_t plain_show(const uint8_t *records, size_t records_length, uint8_t *out, size_t room);
+size_t plain_check(const uint8_t *layout, size_t layout_length, const uint8_t *records, size_t records_length, uint8_t *out, size_t room);
+
+static uint8_t layout[65536], records[65536], out[65536], plain[65536];
+static size_t layout_length, records_length, needed, plain_length;
 
 static int show(void) { return takvorn_show(records, records_length, out, sizeof out, &needed); }
 static int check(void) { return takvorn_check(layout, layout_length, records, records_length, false, out, sizeof out, &needed); }
+
+static int show_plainly(void) {
+  plain_length = plain_show(records, records_length, plain, sizeof plain);
+  return TAKVORN_DONE;
+}
+static int check_plainly(void) {
+  plain_length = plain_check(layout, layout_length, records, records_length, plain, sizeof plain);
+  return TAKVORN_DONE;
+}
+
+/* Whether a call and the same work in plain Rust give the same answer. */
+static bool are_alike(int (*call)(void), int (*plainly)(void)) {
+  return call() == TAKVORN_DONE && plainly() == TAKVORN_DONE && needed == plain_length && memcmp(out, plain, needed) == 0;
+}
 
 /* A terminal of 24x80 that shows that screen. */
 static uint8_t state[8192], full[2048], pressed;
@@ -66,12 +86,16 @@ static double once(int (*call)(void), long count) {
 }
 
 int main(int count, char **words) {
-  static int (*const calls[])(void) = {show, check, key, record, state_check, held_key, held_record, held_check};
+  static int (*const calls[])(void) = {show, check, show_plainly, check_plainly, key, record, state_check, held_key, held_record, held_check};
   enum { CALLS = sizeof calls / sizeof calls[0], RUNS = 21 };
   double least[CALLS];
   if (count != 4) return 2;
   layout_length = contents(words[1], layout, sizeof layout);
   records_length = contents(words[2], records, sizeof records);
+  if (!are_alike(show, show_plainly) || !are_alike(check, check_plainly)) {
+    fputs("library: the answers differ\n", stderr);
+    return 1;
+  }
   hold();
   for (int run = 0; run < RUNS; run++) {
     for (int at = 0; at < CALLS; at++) {

@@ -135,19 +135,23 @@ impl Screen {
     }
 }
 
-fn main() -> io::Result<()> {
-    let mut input = Vec::new();
-    io::stdin().read_to_end(&mut input)?;
-    let text = std::str::from_utf8(&input).expect("text");
-    let records: Vec<Vec<u8>> = text.lines().map(|line| record(line).expect("hexadecimal")).collect();
+/// The screen after the records of a text, whose lines of `#` are comments.
+pub fn show(text: &str) -> String {
     let mut screen = Screen {
         cells: vec![Cell::Char(0); CELLS],
         spare: vec![Cell::Char(0); CELLS],
         cursor: 0,
         free: false,
     };
-    for bytes in &records {
-        screen.apply(bytes).expect("a good record");
+    for line in text.lines().filter(|line| !line.starts_with('#')) {
+        screen.apply(&record(line).expect("hexadecimal")).expect("a good record");
     }
-    io::stdout().write_all(screen.text().as_bytes())
+    screen.text()
+}
+
+fn main() -> io::Result<()> {
+    let mut input = Vec::new();
+    io::stdin().read_to_end(&mut input)?;
+    let text = std::str::from_utf8(&input).expect("text");
+    io::stdout().write_all(show(text).as_bytes())
 }

@@ -1,5 +1,6 @@
-//! The work of `term3270 talk` and `check` in plain Rust, to measure beside them: Erase/Write records of text and Start Field
-//! on a screen of 24 rows of 80 columns, of `talk` one a turn, and layouts of inputs as the benchmark writes them.
+//! The work of `term3270 talk` and `check` in plain Rust, to measure beside them: Erase/Write records of text, Start Field, Set
+//! Buffer Address and Insert Cursor on a screen of 24 rows of 80 columns, of `talk` one a turn, and layouts of inputs as the
+//! benchmark writes them.
 mod digits;
 
 use digits::record;
@@ -55,6 +56,15 @@ fn is_text(byte: u8) -> bool {
     byte >= 0x40 || matches!(byte, 0x00 | 0x0C | 0x0D | 0x15 | 0x19 | 0x1C | 0x1E | 0x3F)
 }
 
+fn address(first: u8, second: u8) -> Option<usize> {
+    let place = match first >> 6 {
+        0 => usize::from(first) * 256 + usize::from(second),
+        2 => return None,
+        _ => usize::from(first % 64) * 64 + usize::from(second % 64),
+    };
+    (place < CELLS).then_some(place)
+}
+
 /// The record on a blank screen, and whether the keyboard is free.
 fn shown(cells: &mut [Cell], record: &[u8]) -> Option<bool> {
     let [0x05 | 0xF5, wcc, orders @ ..] = record else { return None };
@@ -64,6 +74,14 @@ fn shown(cells: &mut [Cell], record: &[u8]) -> Option<bool> {
         (cells[at], rest) = match (first, more) {
             (0x1D, [attribute, others @ ..]) => (Cell::Field(attribute % 64), others),
             (byte, others) if is_text(*byte) => (Cell::Char, others),
+            (0x11, [high, low, others @ ..]) => {
+                (at, rest) = (address(*high, *low)?, others);
+                continue;
+            }
+            (0x13, others) => {
+                rest = others;
+                continue;
+            }
             _ => return None,
         };
         at = (at + 1) % CELLS;
@@ -113,21 +131,20 @@ fn leave(cells: &mut [Cell]) {
     }
 }
 
-/// The records in turn on one screen, and then its fields beside the layout.
-fn check(text: &str, path: &str) -> io::Result<&'static str> {
-    let layout = entries(&std::fs::read_to_string(path)?).expect("a layout");
-    let records: Vec<Vec<u8>> = text.lines().map(|line| record(line).expect("hexadecimal")).collect();
+/// The records in turn on one screen, and then its fields beside the layout. Lines of `#` are comments.
+pub fn check(text: &str, layout: &str) -> &'static str {
+    let layout = entries(layout).expect("a layout");
     let mut cells = vec![Cell::Char; CELLS];
     let mut is_free = false;
-    for bytes in &records {
-        is_free |= shown(&mut cells, bytes).expect("a good record");
+    for line in text.lines().filter(|line| !line.starts_with('#')) {
+        is_free |= shown(&mut cells, &record(line).expect("hexadecimal")).expect("a good record");
     }
     assert!(is_free);
     if !cells.iter().any(|cell| matches!(cell, Cell::Field(_))) {
-        return Ok("F7 no field\n");
+        return "F7 no field\n";
     }
     assert!(conforms(&cells, &layout, &mut vec![None; CELLS]));
-    Ok("yes\n")
+    "yes\n"
 }
 
 fn main() -> io::Result<()> {
@@ -136,7 +153,7 @@ fn main() -> io::Result<()> {
     let text = std::str::from_utf8(&input).expect("text");
     if std::env::args().nth(1).as_deref() == Some("check") {
         let path = std::env::args().nth(2).expect("a layout");
-        let words = check(text, &path)?;
+        let words = check(text, &std::fs::read_to_string(path)?);
         io::stdout().write_all(words.as_bytes())?;
         std::process::exit(i32::from(words != "yes\n"));
     }
