@@ -21,6 +21,7 @@ pub mod WorstLaws
 pub mod WriteLaws
 pub mod OutlineFieldLaws
 pub mod PlaneLaws
+pub mod NullLaws
 pub mod HalvingLaws
 pub mod ListedLaws
 pub mod IndexLaws

@@ -1,6 +1,6 @@
 -- What is printed of a screen: all of it is our own rule.
-use Rattle.std.specs.Prelude.{ℕ, ◌+◌, ◌-◌, ◌*◌, ◌&&◌, ◌==◌, nat_le, nat_lt, List, [], ◌∷◌, map, length, slice_index, codes, if◌then◌else◌}
-use Rattle.std.specs.List.{range_with_len}
+use Rattle.std.specs.Prelude.{ℕ, Bool, false, ◌+◌, ◌-◌, ◌*◌, ◌&&◌, ◌==◌, nat_le, nat_lt, List, [], ◌∷◌, map, length, slice_index, codes, if◌then◌else◌}
+use Rattle.std.specs.List.{range_with_len, list_all}
 use Rattle.ds_codec.specs.declared.cell.Cell.{Cell}
 use Rattle.ds_codec.specs.declared.cell.Cell.TheVariants.{Field, Char}
 use Rattle.ds_codec.specs.Attribute.{is_hidden}
@@ -44,6 +44,15 @@ abbrev pub printed_under : ℕ → Cell → ℕ
 printed_under bits (Field attribute) = 64
 printed_under bits (Char character) =
     if character.code == 0 then 46 else (if is_hidden bits then 42 else text_of character)
+
+-- a null, of which a full stop is printed whatever rules it
+abbrev pub is_null : Cell → Bool
+is_null (Field attribute) = false
+is_null (Char character) = character.code == 0
+
+-- so many positions from one on hold nulls alone
+unfoldable pub are_nulls : List Cell → ℕ → ℕ → Bool
+are_nulls cells from count = list_all is_null (map (cell_at cells) (range_with_len from count))
 
 abbrev pub printed_cell : List Cell → ℕ → ℕ
 printed_cell cells p = printed_under (ruling_bits cells p) (cell_at cells p)

@@ -6,7 +6,7 @@ ghost use Rattle.ds_codec.specs.declared.cell.Cell.{Cell};
 ghost use Rattle.ds_codec.specs.Character.{is_text};
 ghost use Rattle.ds_screen.specs.Picture.{blank, cell_at, ruled};
 ghost use Rattle.ds_screen.specs.Fields.{is_attribute, attribute_of, attribute_before, attribute_from, ruling_bits, ruling_after, first_open};
-ghost use Rattle.ds_screen.specs.Shown.{printed_under};
+ghost use Rattle.ds_screen.specs.Shown.{are_nulls, printed_under};
 ghost use Rattle.ds_screen.specs.Orders.{text_cell, repeated_cell, erased_cell, nulled_cell, first_from, tab_stop};
 ghost use Rattle.ds_screen.specs.Reset.{after_reset};
 ghost use Rattle.ds_screen.specs.Starts.{start_ahead};
@@ -15,7 +15,7 @@ use crate::ranges::reach;
 use crate::records::{Reset, reset_cell};
 use crate::ring::{next, previous};
 use crate::ruling::{is_open_cell, ruled_on};
-use crate::shown::printed_under;
+use crate::shown::{is_null, printed_under};
 use crate::tab::{is_unprotected_field, starts_field};
 use ds_codec::{Attr, Cell, Char};
 use std::alloc::{AllocError, Global};
@@ -109,6 +109,20 @@ pub trait Cells: Drop {
         let cell = self.cell(p);
         let ruled = ruled_on(ruling, &cell);
         (ruled, printed_under(ruled, &cell))
+    }
+
+    /// Whether so many positions from one on, never round the buffer, hold nulls alone.
+    fn are_nulls(&self, from: u32, count: u32) -> bool
+        requires { from + count ≤ length (content self.now) }
+        ensures { result ≡ are_nulls (content self.now) from count }
+    {
+        let _places = self.len();
+        'places: for p in from..from + count {
+            if !is_null(&self.cell(p)) {
+                return false;
+            }
+        }
+        true
     }
 
     /// Stores a run of text round the buffer, and gives the position after it.

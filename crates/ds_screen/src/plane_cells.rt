@@ -320,6 +320,10 @@ impl Cells for PlaneCells {
         self.planes.print(p, ruling)
     }
 
+    fn are_nulls(&self, from: u32, count: u32) -> bool {
+        self.planes.are_nulls(from, count)
+    }
+
     #[inline(always)]
     fn put_text(&mut self, b: u32, run: &[u8]) -> u32 {
         let n = self.planes.len();

@@ -1,6 +1,7 @@
 //! The cells of a buffer in two planes: a code for each position, and what the code is.
 
-ghost use Rattle.std.specs.Prelude.{◌≡◌, ◌≤◌, ◌+◌, ◌-◌, ◌&&◌, ℕ, length, slice_index, slice_index_or, nat_le, nat_lt, true, if◌then◌else◌};
+ghost use Rattle.std.specs.Prelude.{◌≡◌, ◌==◌, ◌≤◌, ◌+◌, ◌-◌, ◌&&◌, ℕ, length, slice_index, slice_index_or, nat_le, nat_lt, true, if◌then◌else◌};
+ghost use Rattle.std.specs.List.{list_all};
 ghost use Rattle.ds_screen.specs.Planes.{AreAllPlain};
 
 use crate::shown::printed_stored;
@@ -88,11 +89,22 @@ fn copy_part(items: &mut [u8], at: usize, run: &[u8], from: usize, count: usize)
     items[at..at + count].copy_from_slice(&run[from..from + count]);
 }
 
+/// Whether all codes are 0.
+fn are_zeros(codes: &[u8]) -> bool
+    ensures { result ≡ list_all (λ code. code == 0) codes.now }
+{
+    let Some((first, others)) = codes.split_first() else {
+        return true;
+    };
+    // Each of the others is the one before it: slices are compared many bytes at a time.
+    *first == 0 && others == &codes[..others.len()]
+}
+
 impl Planes {
     ghost use Rattle.std.specs.Prelude.{◌≡◌, ◌≤◌, ◌<◌, ◌+◌, [], IfOk, true, length, replicate, slice_set};
     ghost use Rattle.ds_screen.specs.Picture.{blank, cell_at, ruled};
     ghost use Rattle.ds_screen.specs.Fields.{is_attribute, attribute_of, ruling_after};
-    ghost use Rattle.ds_screen.specs.Shown.{printed_under};
+    ghost use Rattle.ds_screen.specs.Shown.{are_nulls, printed_under};
     ghost use Rattle.std.specs.List.{list_all};
     ghost use Rattle.ds_codec.specs.Character.{is_text};
     ghost use Rattle.ds_screen.specs.Planes.{filled_cell, written_cell};
@@ -180,6 +192,15 @@ impl Planes {
         };
         let ruled = ruled_by(ruling, stored);
         (ruled, printed_stored(ruled, stored))
+    }
+
+    /// Whether so many positions from one on hold nulls alone.
+    pub(crate) fn are_nulls(&self, from: u32, count: u32) -> bool
+        requires { from + count ≤ length self.now.cells }
+        ensures { result ≡ are_nulls self.now.cells from count }
+    {
+        let (from, to) = (from as usize, from as usize + count as usize);
+        are_zeros(&self.codes[from..to]) && !self.kinds[from..to].contains(&Kind::Attribute)
     }
 
     /// Stores a cell at a position.

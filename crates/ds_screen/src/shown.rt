@@ -4,7 +4,7 @@ ghost use Rattle.std.specs.Prelude.{◌≡◌, ◌+◌, ◌<◌, ◌≤◌, All,
 ghost use Rattle.std.specs.List.{range_with_len};
 ghost use Rattle.ds_screen.specs.Planes.{stored_cell};
 ghost use Rattle.ds_screen.specs.declared.stored.Kind.TheVariants.{Plain, Alternate};
-ghost use Rattle.ds_screen.specs.Shown.{printed_code, text_of, printed_under, printed_cell};
+ghost use Rattle.ds_screen.specs.Shown.{printed_code, text_of, is_null, printed_under, printed_cell};
 
 use crate::cells::Cells;
 use crate::ring::previous;
@@ -51,6 +51,16 @@ pub fn text_of(character: Char) -> u8
         b'?'
     } else {
         printed(character.code())
+    }
+}
+
+/// Whether a cell holds a null, of which a full stop is printed whatever rules it.
+pub(crate) fn is_null(cell: &Cell) -> bool
+    ensures { result ≡ is_null cell.now }
+{
+    match cell {
+        Cell::Field(_) => false,
+        Cell::Char(character) => character.code() == 0,
     }
 }
 
@@ -128,6 +138,9 @@ fn row_bytes<C: Cells>(
 {
     let mut bytes = Vec::new(alloc);
     bytes.resize(columns as usize, b'.')?;
+    if cells.are_nulls(start, columns) {
+        return Ok(bytes);
+    }
     let mut ruling = cells.ruling(previous(cells.len(), start));
     'places: for at in start..start + columns {
         let (ruled, byte) = cells.print(at, ruling);
