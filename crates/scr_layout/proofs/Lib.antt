@@ -12,3 +12,5 @@ pub mod SaysLaw
 pub mod ReadLaw
 pub mod LocatedLaws
 pub mod PlainLaws
+pub mod SectionLaws
+pub mod FieldsLaws

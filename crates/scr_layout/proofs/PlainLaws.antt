@@ -1,22 +1,25 @@
 -- What the lines of a text in the usual form make of a document.
-use Rattle.std.proofs.Common.{◌≡◌, ℕ, suc, ◌-◌, ◌<◌, is_some, length, arith, Ordering, Less, Equal, Greater, true, false, ◌==◌, slice_index, drop, nat_cmp, is_eq, cond, List, [], ◌∷◌, ◌++◌, BTreeMap, Option, Some, None, option_map, String, Global, string_bytes, refl, sym, ap, ◌∙◌, inl, inr, ◌⊎◌}
+use Rattle.std.proofs.Common.{◌≡◌, ℕ, suc, ◌-◌, ◌<◌, is_some, length, arith, Ordering, Less, Equal, Greater, true, false, ◌==◌, slice_index, take, drop, nat_cmp, is_eq, cond, List, [], ◌∷◌, Option, Some, None, option_map, String, Global, string_bytes, refl, sym, subst, ap, ◌∙◌, inl, inr, ◌⊎◌}
 use Rattle.std.proofs.lemmas.Bool.Decides.{nat_tests}
+use Rattle.std.proofs.lemmas.List.Sums.{prefix_len_passes}
 use Rattle.std.specs.BTreeMap.{insert_entry, is_at}
 use Rattle.std.specs.Cmp.Lexicographic.{slice_cmp}
 use Rattle.std.specs.Map.{lookup}
 use Rattle.std.specs.Ordering.{match_ordering}
 use Rattle.std.specs.String.{string_cmp}
-use Rattle.toml_parser.specs.Lexical.{first, skip_ws, skip_blank}
-use Rattle.toml_parser.specs.Strings.{key, recursion_limit}
+use Rattle.std.specs.List.{prefix_len}
+use Rattle.toml_parser.specs.Lexical.{first, skip_ws, skip_blank, is_bare}
+use Rattle.toml_parser.specs.Strings.{key, starts_string, key_after, simple_key, recursion_limit}
 use Rattle.toml.specs.Data.{Data, array, table, Items, no_items, Members, no_members, member, push_item}
-use Rattle.toml.specs.View.{view, table_view, items_view, members_view}
-use Rattle.toml.specs.declared.value.Value.{Value, Table}
+use Rattle.toml.specs.View.{view, members_view}
+use Rattle.toml.specs.declared.value.Value.{Value}
 use Rattle.toml.specs.Tables.{Node, Nodes, no_nodes, node, value, open_array, get_node, insert, replace, Document, along_header, along_dots, put, define, close, close_node, key_value, array_table}
 use Rattle.toml.specs.Parse.{val, line, lines, skip_bom, parse_document, expression, key_equals, header_key}
 use Rattle.toml.proofs.NodeLaws.{get_node-insert, replace-insert, along_found}
 use Rattle.toml.proofs.Turns.{at_key_ok, at_key_new, document_some, lines_more}
-use Rattle.toml.proofs.Views.{Entry, at_text, items_view-push, view-Table}
-use Rattle.scr_layout.specs.Plain.{valued, IsPlace, with_fields, field_key, field_header, is_end, pair_view}
+use Rattle.toml.proofs.Views.{Entry, at_text}
+use Rattle.scr_layout.specs.Plain.{valued, IsPlace, with_fields, field_key, field_header, is_end}
+use Rattle.scr_layout.specs.Section.{IsPut}
 
 -- what is complete stands for itself
 pub close-valued : (ms : Members) → close (valued ms) ≡ ms
@@ -48,7 +51,7 @@ unfolding valued
 get_node-missing k [] h = refl
 get_node-missing k (e ∷ es) h = missing_or (at_text k e.0) e.1 _ _ (get_node-missing k es) h
 
-cases_ordering : (o : Ordering) → (o ≡ Less) ⊎ ((o ≡ Equal) ⊎ (o ≡ Greater))
+pub cases_ordering : (o : Ordering) → (o ≡ Less) ⊎ ((o ≡ Equal) ⊎ (o ≡ Greater))
 cases_ordering Less = inl refl
 cases_ordering Equal = inr (inl refl)
 cases_ordering Greater = inr (inr refl)
@@ -127,18 +130,21 @@ none_of (Some x) h = cc
 not_empty : (n m : ℕ) → n < m → (m == 0) ≡ false
 not_empty n m h = grind (arith, nat_tests)
 
+-- a pair of a map
+pub map_put : (es : List Entry) (k : String Global) (name : List ℕ) (v : Value) → string_bytes k ≡ name → lookup (is_at (string_cmp k)) es ≡ None
+    → IsPut (members_view es) name (view v) (members_view (insert_entry string_cmp es k v))
+map_put es k name v named missing =
+    subst (λ n. IsPut (members_view es) n (view v) (members_view (insert_entry string_cmp es k v))) named
+    (get_node-missing (string_bytes k) es missing, sym (valued-insert_entry es k v))
+
 -- one more pair, wherever it stands
-pub pair_goes_on : (around : Nodes → Nodes) (section : List (List ℕ)) → IsPlace around section → (es : List Entry) (k : String Global) (v : Value) (m : ℕ) (text after : List ℕ)
-    → 0 < m → line (skip_blank text) ≡ Some (pair_view (k, v), after) → length after < length (skip_blank text)
-    → lookup (is_at (string_cmp k)) es ≡ None
-    → lines m (around (valued (members_view es)), section) text
-    ≡ lines (m - 1) (around (valued (members_view (insert_entry string_cmp es k v))), section) after
-pair_goes_on around section place es k v m text after some read shorter missing =
-    let ms = members_view es in
-    let now = insert (string_bytes k) (value (view v)) (valued ms) in
-    rw (valued-insert_entry es k v)
-    (lines_more m (around (valued ms), section) (around now, section) text (pair_view (k, v)) after some (not_empty _ _ shorter) read
-    (defines_pair around section place ms (string_bytes k) (view v) (get_node-missing (string_bytes k) es missing)))
+pub pair_goes_on : (around : Nodes → Nodes) (section : List (List ℕ)) → IsPlace around section → (ms now : Members) (k : List ℕ) (d : Data) (m : ℕ) (text after : List ℕ)
+    → 0 < m → line (skip_blank text) ≡ Some ((([], k), key_value d), after) → length after < length (skip_blank text) → IsPut ms k d now
+    → lines m (around (valued ms), section) text ≡ lines (m - 1) (around (valued now), section) after
+pair_goes_on around section place ms now k d m text after some read shorter put =
+    lines_more m (around (valued ms), section) (around (insert k (value d) (valued ms)), section) text (([], k), key_value d) after some (not_empty _ _ shorter) read
+    (defines_pair around section place ms k d put.0)
+    ∙ ap (λ ns. lines (m - 1) (around ns, section) after) put.1
 
 -- the next table under `field`, and the one before complete
 pub header_goes_on : (top : Members) (done : Items) (last : Members) (m : ℕ) (text behind : List ℕ)
@@ -163,16 +169,6 @@ first_header top m text behind missing some read shorter =
     lines_more m (valued top, []) (with_fields top no_items no_nodes, field_key ∷ []) text field_header behind some (not_empty _ _ shorter) read
     (defines_first top missing)
 
--- the members under `field` too, once all is read
-pub all_closed : (es : List Entry) (k : String Global) (v : Value) (fields : Items) → string_bytes k ≡ field_key → view v ≡ array fields
-    → close (insert field_key (value (array fields)) (valued (members_view es))) ≡ members_view (insert_entry string_cmp es k v)
-all_closed es k v fields named seen =
-    sym (ap close (rw (valued-insert_entry es k v, named, seen))) ∙ close-valued (members_view (insert_entry string_cmp es k v))
-
-pub pushed : (vs : List Value) (m : BTreeMap (String Global) Value) (now : List Value) → now ≡ vs ++ Table m ∷ []
-    → items_view now ≡ push_item (items_view vs) (table (table_view m))
-pushed vs m now is = rw (is, items_view-push vs (Table m), view-Table m)
-
 no_bom : (text : List ℕ) → (first text == 0xEF) ≡ false → skip_bom text ≡ text
 unfolding skip_bom
 no_bom text other = rw other
@@ -181,3 +177,15 @@ no_bom text other = rw other
 pub document_of : (text : List ℕ) (doc : Document) → (first text == 0xEF) ≡ false → lines (suc (length text)) (no_nodes, []) text ≡ Some doc
     → parse_document text ≡ Some (close doc.0)
 document_of text doc other read = document_some text doc (rw (no_bom text other) read)
+
+-- a key without quotes and dots
+pub bare_read : (text word rest after : List ℕ) (count : ℕ) → count ≡ prefix_len is_bare text → 0 < count → starts_string text ≡ false → word ≡ take count text → rest ≡ drop count text
+    → after ≡ skip_ws rest → (first after == 46) ≡ false → key text ≡ Some (([], word), after)
+unfolding key_after simple_key
+bare_read text word rest after count same some no_string is_word is_rest is_after no_dot =
+    let more : 0 < prefix_len is_bare text = omega (arith, same, some) in
+    let word_is : word ≡ take (prefix_len is_bare text) text = is_word ∙ ap (λ n. take n text) same in
+    let after_is : after ≡ skip_ws (drop (prefix_len is_bare text) text) = is_after ∙ ap skip_ws (is_rest ∙ ap (λ n. drop n text) same) in
+    let here = rw after_is at no_dot in
+    let bare : is_bare (first text) ≡ true = prefix_len_passes is_bare text 0 0 more in
+    rw (no_string, bare, here, word_is, after_is) refl

@@ -68,29 +68,29 @@ screen_of-read geometry top s (inr (word, same)) = rw word (ap Ok (sym same))
 
 -- ---- a field
 
-name_of-read : (field : Members) (name : List ℕ) → HasText Name name field → is_name name ≡ true → name_of field ≡ Ok name
+pub name_of-read : (field : Members) (name : List ℕ) → HasText Name name field → is_name name ≡ true → name_of field ≡ Ok name
 unfolding name_of
 name_of-read field name h good = rw (h, good)
 
-integer_at-read : (key : LayoutKey) (field : Members) (z : ℤ) → value_at key field ≡ Some (integer z) → integer_at key field ≡ Ok z
+pub integer_at-read : (key : LayoutKey) (field : Members) (z : ℤ) → value_at key field ≡ Some (integer z) → integer_at key field ≡ Ok z
 unfolding integer_at
 integer_at-read key field z h = rw h
 
 from_one_to-read : (most n : ℕ) → 1 ≤ n → n ≤ most → from_one_to most (pos n) ≡ Some n
 from_one_to-read most n low high = rw (le-leb 1 n low, le-leb n most high)
 
-place_of-read : (size : Size) (r c : ℕ) → r < size.rows → c < size.cols → place_of size (pos (r + 1)) (pos (c + 1)) ≡ Ok (r * size.cols + c)
+pub place_of-read : (size : Size) (r c : ℕ) → r < size.rows → c < size.cols → place_of size (pos (r + 1)) (pos (c + 1)) ≡ Ok (r * size.cols + c)
 unfolding place_of
 place_of-read size r c in_rows in_cols =
     let row : (r + 1) - 1 ≡ r = omega arith in
     let col : (c + 1) - 1 ≡ c = omega arith in
     rw (from_one_to-read size.rows (r + 1) (omega arith) (omega arith), from_one_to-read size.cols (c + 1) (omega arith) (omega arith), row, col)
 
-length_of-read : (size : Size) (field : Members) (n : ℕ) → HasNumber Length n field → 1 ≤ n → n < cells_of size → length_of size field ≡ Ok n
+pub length_of-read : (size : Size) (field : Members) (n : ℕ) → HasNumber Length n field → 1 ≤ n → n < cells_of size → length_of size field ≡ Ok n
 unfolding length_of
 length_of-read size field n h low high = rw (integer_at-read Length field (pos n) h, from_one_to-read (cells_of size - 1) n low (omega arith))
 
-kind_of-read : (field : Members) (k : EntryKind) → SaysKind field k → kind_of field ≡ Ok k
+pub kind_of-read : (field : Members) (k : EntryKind) → SaysKind field k → kind_of field ≡ Ok k
 unfolding kind_of
 kind_of-read field Input (inl absent) = rw absent
 kind_of-read field Input (inr word) = rw word
@@ -104,7 +104,7 @@ down_or-read : (field : Members) (n : ℕ) → SaysDown field n → 1 ≤ n → 
 down_or-read field n (inl absent) low high = rw absent.0 (ap Ok (sym absent.1))
 down_or-read field n (inr there) low high = rw there (number_of-read Down n low high)
 
-rows_of-read : (field : Members) (rows : Option Rows) → SaysRows field rows → rows_of field ≡ Ok rows
+pub rows_of-read : (field : Members) (rows : Option Rows) → SaysRows field rows → rows_of field ≡ Ok rows
 unfolding rows_of
 rows_of-read field None said = rw (said.0, said.1) refl
 rows_of-read field (Some rows) said = rw (said.0, number_of-read Count rows.count said.2 said.3, down_or-read field rows.down said.1 said.4 said.5) refl
@@ -243,7 +243,7 @@ entries_of-read version size n before (item (boolean b) rest) es said law few = 
 entries_of-read version size n before (item (datetime t) rest) es said law few = let is = said.3 in cc
 entries_of-read version size n before (item (array ds) rest) es said law few = let is = said.3 in cc
 
-tables_of-read : (items : Items) → are_tables items ≡ true → length (tables_in items) ≤ 1000 → tables_of (array items) ≡ Ok (tables_in items)
+pub tables_of-read : (items : Items) → are_tables items ≡ true → length (tables_in items) ≤ 1000 → tables_of (array items) ≡ Ok (tables_in items)
 unfolding tables_of
 tables_of-read items all few = rw (all, le-leb _ 1000 few)
 

@@ -10,3 +10,4 @@ pub mod Layout
 pub mod Says
 pub mod Located
 pub mod Plain
+pub mod Section

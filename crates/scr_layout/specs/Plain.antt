@@ -1,7 +1,6 @@
 -- A text in the usual form of layouts beside the grammar of TOML: what stands on a line, and how the document goes on behind it.
-use Rattle.std.specs.Prelude.{◌≡◌, ℕ, ◌<◌, ◌≤◌, Bool, true, List, [], ◌∷◌, length, String, string_bytes, Option, Some, option_map, Result, IfOk, IfSome, codes}
+use Rattle.std.specs.Prelude.{◌≡◌, ℕ, ◌<◌, ◌≤◌, Bool, true, List, [], ◌∷◌, length, Option, Some, option_map, Result, IfOk, IfSome, codes}
 use Rattle.std.specs.Borrow.{Bor}
-use Rattle.std.specs.declared.alloc.Global.{Global}
 use Rattle.std.specs.declared.alloc.AllocError.{AllocError}
 use Rattle.toml_parser.specs.Lexical.{Read, skip_ws}
 use Rattle.toml_parser.specs.Strings.{recursion_limit}
@@ -24,8 +23,8 @@ abbrev pub IsLast : List ℕ → Value × Bor (List ℕ) → Type 0
 IsLast text p = (val recursion_limit text ≡ Some (view p.0, p.1.now)) × (is_end p.1.now ≡ true) × (length p.1.now < length text)
 
 -- a pair under a key without dots
-abbrev pub pair_view : String Global × Value → Expression
-pair_view p = (([], string_bytes p.0), key_value (view p.1))
+abbrev pub pair_view : Bor (List ℕ) × Value → Expression
+pair_view p = (([], p.0.now), key_value (view p.1))
 
 abbrev pub field_key : List ℕ
 field_key = codes "field"

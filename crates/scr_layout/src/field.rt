@@ -96,7 +96,7 @@ fn length_of(size: Size, field: &Table) -> Result<u32, LayoutFault>
     }
 }
 
-fn named_kind(word: &str) -> Result<Kind, LayoutFault>
+pub(crate) fn named_kind(word: &str) -> Result<Kind, LayoutFault>
     ensures { result ≡ named_kind word.now }
 {
     match word {

@@ -13,9 +13,9 @@ use crate::fault::{LayoutError, LayoutFault};
 use crate::field::with_table;
 use crate::listed::Listed;
 use crate::located::Located;
-use crate::plain::plain_table;
+use crate::plain::plain_parts;
 use crate::top::{
-    Version, alternate_of, default_of, fields_of, mode_of, screen_of, top_of, version_of,
+    Head, Version, alternate_of, default_of, fields_of, mode_of, screen_of, top_of, version_of,
 };
 use ds_codec::{Geometry, Size};
 use ds_places::{held, held_near};
@@ -52,6 +52,7 @@ impl Layout {
     ghost use Rattle.scr_layout.specs.Results.{IsRefused};
     ghost use Rattle.scr_layout.specs.Layout.{Declaration, declaration_of, layout_of, IsLayout};
     ghost use Rattle.scr_layout.specs.Says.{TextSays};
+    ghost use Rattle.scr_layout.specs.Section.{declared};
 
     /// The layout that a text says. Each name is looked for in a set of those before it, each place by
     /// halving: with 1,000 entries about ten comparisons of either.
@@ -83,8 +84,26 @@ impl Layout {
         ensures only_toml { parse_document text.now ≡ None → IsRefused result not_toml }
         ensures law { IfOk result IsLayout }
     {
+        if let Some((head, listed)) = plain_parts(alloc, text)? {
+            return Ok(Layout::of_parts(head, listed));
+        }
         let table = table_of(alloc, text)?;
         Layout::from_table(alloc, &table)
+    }
+
+    /// The layout of a top and of its fields.
+    fn of_parts(head: Head, listed: Listed) -> Layout
+        requires { IsLayout (declared head listed) }
+        ensures { result ≡ declared head listed }
+    {
+        let (entries, table) = listed.parts();
+        let geometry = Geometry::new(head.default, head.alternate, head.mode).unwrap();
+        Layout {
+            geometry,
+            size: head.size,
+            entries,
+            table,
+        }
     }
 
     #[tactic(auto, unfolding(crate::specs::Layout::declaration_of))]
@@ -99,14 +118,14 @@ impl Layout {
         let size = screen_of(default, alternate, top)?;
         let fields = fields_of(top)?;
         let listed = entries_of(alloc, version, size, fields)?;
-        let (entries, table) = listed.parts();
-        let geometry = Geometry::new(default, alternate, mode).unwrap();
-        Ok(Layout {
-            geometry,
+        let head = Head {
+            version,
+            mode,
+            default,
+            alternate,
             size,
-            entries,
-            table,
-        })
+        };
+        Ok(Layout::of_parts(head, listed))
     }
 
     /// The same layout once more, for less than its text is read for.
@@ -186,9 +205,6 @@ fn copied(alloc: Global, entries: &[Entry]) -> Result<Vec<Entry>, AllocError>
 fn table_of(alloc: Global, text: &str) -> Result<Table, LayoutError>
     ensures { Gives table_view result (table_of text.now) }
 {
-    if let Some(table) = plain_table(alloc, text)? {
-        return Ok(table);
-    }
     match toml::table_from_str(alloc, text) {
         Ok(table) => Ok(table),
         Err(error) => {

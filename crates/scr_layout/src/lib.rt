@@ -10,6 +10,7 @@ mod located;
 mod name;
 mod plain;
 mod rows;
+mod section;
 mod size_text;
 mod top;
 mod values;

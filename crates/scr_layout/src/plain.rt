@@ -1,19 +1,28 @@
 //! A text in the usual form of layouts, read in one walk: pairs of a key and a string or a scalar, and behind them the tables under
 //! `[[field]]`, each of such pairs. A text of another form is left to TOML's own reader, which keeps a tree for all that may still come.
 
-ghost use Rattle.std.specs.Prelude.{◌≡◌, [], true, false, Some, string_bytes, IfOk, IfSome};
+ghost use Rattle.std.specs.Prelude.{◌≡◌, ◌<◌, ◌≤◌, [], true, false, Ok, Some, length, IfOk, IfSome};
+ghost use Rattle.std.specs.List.{prefix_len};
+ghost use Rattle.toml_parser.specs.Lexical.{is_bare};
 ghost use Rattle.toml_parser.specs.Strings.{key, starts_string};
-ghost use Rattle.toml.specs.View.{view, table_view, array_view};
-ghost use Rattle.toml.specs.Parse.{atom, scalar_data, line, parse_document};
-ghost use Rattle.scr_layout.specs.Plain.{Found, IsLast, is_end, pair_view, field_header, IsBehind, GoesOn, AreFields};
+ghost use Rattle.toml.specs.View.{view, table_view};
+ghost use Rattle.toml.specs.Parse.{atom, scalar_data, line};
+ghost use Rattle.scr_layout.specs.Plain.{Found, IsLast, is_end, pair_view, field_header, IsBehind, GoesOn};
+ghost use Rattle.scr_layout.specs.Rows.{IsSmall};
+ghost use Rattle.scr_layout.specs.Layout.{layout_of};
+ghost use Rattle.scr_layout.specs.Section.{members_of, HasFields, declared};
 
 use crate::fault::LayoutKey;
+use crate::listed::Listed;
+use crate::section::{Section, with_section};
+use crate::top::{Head, Version, head_of};
+use ds_codec::Size;
 use std::alloc::{AllocError, Global};
 use toml::map::Map;
-use toml::value::Array;
 use toml::{Table, Value};
+use toml_parser::bytes::is_bare;
 use toml_parser::text::{byte_at, first, skip, skip_blank, skip_ws};
-use toml_parser::{Key, ParseError, Scalar, dotted_key, quoted, starts_string, unquoted};
+use toml_parser::{ParseError, Scalar, quoted, starts_string, unquoted};
 
 /// A fault other than want of memory is TOML's own reader's to tell.
 fn unless_memory(error: ParseError) -> Result<(), AllocError> {
@@ -23,23 +32,28 @@ fn unless_memory(error: ParseError) -> Result<(), AllocError> {
     }
 }
 
-/// A key without dots, and what follows it and the white space after it.
-fn one_key(alloc: Global, s: &str) -> Result<Option<(String, &str)>, AllocError>
-    ensures { Found (λ k. ([], string_bytes k)) result s.now (key s.now) }
+/// How many bytes at the front are those of a key without quotes.
+fn bare_length(bytes: &[u8]) -> usize
+    ensures value { result ≡ prefix_len is_bare bytes.now }
+    ensures within { result ≤ length bytes.now }
 {
-    match dotted_key(alloc, s) {
-        Ok((Key { path, last }, rest)) => {
-            if path.is_empty() {
-                Ok(Some((last, rest)))
-            } else {
-                Ok(None)
-            }
-        }
-        Err(error) => {
-            unless_memory(error)?;
-            Ok(None)
-        }
+    bytes.iter().take_while(|byte| is_bare(**byte)).count()
+}
+
+/// A key without dots and quotes, and what follows it and the white space after it.
+fn bare_key(s: &str) -> Option<(&str, &str)>
+    ensures { IfSome result (λ p. (key s.now ≡ Some (([], p.0.now), p.1.now)) × (length p.1.now < length s.now)) }
+{
+    let count = bare_length(s.as_bytes());
+    if count == 0 || starts_string(s) {
+        return None;
     }
+    let (word, rest) = s.split_at(count);
+    let after = skip_ws(rest);
+    if first(after) == b'.' {
+        return None;
+    }
+    Some((word, after))
 }
 
 fn text(alloc: Global, s: &str) -> Result<Option<(Value, &str)>, AllocError>
@@ -119,13 +133,13 @@ fn last_value(alloc: Global, s: &str) -> Result<Option<(Value, &str)>, AllocErro
 }
 
 /// A key and its string or scalar, on a line of their own.
-fn pair(alloc: Global, s: &str) -> Result<Option<((String, Value), &str)>, AllocError>
+fn pair<'a>(alloc: Global, s: &'a str) -> Result<Option<((&'a str, Value), &'a str)>, AllocError>
     ensures { Found pair_view result s.now (line s.now) }
 {
     if first(s) == b'[' {
         return Ok(None);
     }
-    let Some((key, rest)) = one_key(alloc, s)? else {
+    let Some((key, rest)) = bare_key(s) else {
         return Ok(None);
     };
     if first(rest) != b'=' {
@@ -138,28 +152,24 @@ fn pair(alloc: Global, s: &str) -> Result<Option<((String, Value), &str)>, Alloc
 }
 
 /// What follows the header `[[field]]` on a line of its own.
-fn header<'a>(alloc: Global, s: &'a str) -> Result<Option<&'a str>, AllocError>
-    ensures { IfOk result (λ found. IfSome found (IsBehind field_header s.now)) }
+fn header(s: &str) -> Option<&str>
+    ensures { IfSome result (IsBehind field_header s.now) }
 {
     if first(s) != b'[' || byte_at(s, 1) != b'[' {
-        return Ok(None);
+        return None;
     }
-    let Some((key, rest)) = one_key(alloc, skip_ws(skip(s, 2)))? else {
-        return Ok(None);
+    let Some((key, rest)) = bare_key(skip_ws(skip(s, 2))) else {
+        return None;
     };
-    if key.as_str() != LayoutKey::Field.word() || first(rest) != b']' {
-        return Ok(None);
+    if key != LayoutKey::Field.word() || first(rest) != b']' {
+        return None;
     }
     let closed = skip(rest, 1);
     if first(closed) != b']' {
-        return Ok(None);
+        return None;
     }
     let rest = skip(closed, 1);
-    if is_end(rest) {
-        Ok(Some(rest))
-    } else {
-        Ok(None)
-    }
+    if is_end(rest) { Some(rest) } else { None }
 }
 
 /// Reads pairs into the table for as long as they come, and gives what follows them: none where a key comes twice.
@@ -173,44 +183,77 @@ fn pairs<'a>(alloc: Global, s: &'a str, table: &mut Table) -> Result<Option<&'a 
             return Ok(Some(rest));
         };
         let (key, value) = found;
-        if table.insert(key, value)?.is_some() {
+        let name = String::from_str(alloc, key)?;
+        if table.insert(name, value)?.is_some() {
             return Ok(None);
         }
         rest = after;
     }
 }
 
-/// The tables under `[[field]]` behind the first such header, up to the end of the text.
-fn fields(alloc: Global, s: &str) -> Result<Option<Array>, AllocError>
-    ensures { IfOk result (λ found. IfSome found (λ fields. AreFields s.now (array_view fields))) }
+/// Reads pairs into a field for as long as they come, and gives what follows them: none where one isn't of the usual form.
+fn field_pairs<'a>(
+    alloc: Global,
+    s: &'a str,
+    section: &mut Section,
+) -> Result<Option<&'a str>, AllocError>
+    ensures { IfOk result (λ found. IfSome found (λ rest.
+        GoesOn (members_of section.old) s.now (members_of section.new) rest.now)) }
 {
-    let mut done = Vec::new(alloc);
     let mut rest = s;
-    'fields: loop {
-        let mut table = Map::new(alloc);
-        let Some(after) = pairs(alloc, rest, &mut table)? else {
-            return Ok(None);
+    'pairs: loop {
+        let Some((found, after)) = pair(alloc, skip_blank(rest, true))? else {
+            return Ok(Some(rest));
         };
-        done.push(Value::Table(table))?;
-        let start = skip_blank(after, true);
-        if start.is_empty() {
-            return Ok(Some(done));
+        let (key, value) = found;
+        if !section.put(key, value) {
+            return Ok(None);
         }
-        let Some(behind) = header(alloc, start)? else {
-            return Ok(None);
-        };
-        rest = behind;
+        rest = after;
     }
 }
 
-/// The table that the text is, where it has the usual form.
+/// The entries of the fields behind the first header `[[field]]`, up to the end of the text: none where one isn't of the usual form.
+fn entries(
+    alloc: Global,
+    version: Version,
+    size: Size,
+    s: &str,
+) -> Result<Option<Listed>, AllocError>
+    requires { IsSmall size }
+    ensures { IfOk result (λ found. IfSome found (HasFields version size s.now)) }
+{
+    let mut listed = Listed::new(alloc);
+    let mut rest = s;
+    'fields: for count in 0..1000u32 {
+        let mut section = Section::new();
+        let Some(after) = field_pairs(alloc, rest, &mut section)? else {
+            return Ok(None);
+        };
+        let Some(more) = with_section(alloc, version, size, listed, &section)? else {
+            return Ok(None);
+        };
+        let start = skip_blank(after, true);
+        if start.is_empty() {
+            return Ok(Some(more));
+        }
+        let Some(behind) = header(start) else {
+            return Ok(None);
+        };
+        listed = more;
+        rest = behind;
+    }
+    Ok(None)
+}
+
+/// What the text says, where it has the usual form and nothing of it is to be refused.
 ///
 /// # Errors
 ///
 /// Where a request for memory was refused.
-pub(crate) fn plain_table(alloc: Global, text: &str) -> Result<Option<Table>, AllocError>
-    ensures { IfOk result (λ found. IfSome found (λ table.
-        parse_document text.now ≡ Some (table_view table))) }
+pub(crate) fn plain_parts(alloc: Global, text: &str) -> Result<Option<(Head, Listed)>, AllocError>
+    ensures { IfOk result (λ found. IfSome found (λ parts.
+        layout_of text.now ≡ Ok (declared parts.0 parts.1))) }
 {
     if first(text) == 0xEF {
         return Ok(None);
@@ -219,19 +262,14 @@ pub(crate) fn plain_table(alloc: Global, text: &str) -> Result<Option<Table>, Al
     let Some(rest) = pairs(alloc, text, &mut top)? else {
         return Ok(None);
     };
-    let start = skip_blank(rest, true);
-    if start.is_empty() {
-        return Ok(Some(top));
-    }
-    let Some(behind) = header(alloc, start)? else {
+    let Some(head) = head_of(&top) else {
         return Ok(None);
     };
-    let Some(fields) = fields(alloc, behind)? else {
+    let Some(behind) = header(skip_blank(rest, true)) else {
         return Ok(None);
     };
-    let key = String::from_str(alloc, LayoutKey::Field.word())?;
-    if top.insert(key, Value::Array(fields))?.is_some() {
-        return Ok(None);
+    match entries(alloc, head.version, head.size, behind)? {
+        Some(listed) => Ok(Some((head, listed))),
+        None => Ok(None),
     }
-    Ok(Some(top))
 }

@@ -1,9 +1,10 @@
 //! The keys at the top of a layout.
 
-ghost use Rattle.std.specs.Prelude.{◌≡◌, option_map};
+ghost use Rattle.std.specs.Prelude.{◌≡◌, None, option_map, IfOk, IfSome};
 ghost use Rattle.toml.specs.View.{view, table_view, items_view};
 ghost use Rattle.scr_layout.specs.Results.{Tells};
-ghost use Rattle.scr_layout.specs.Values.{with_only};
+ghost use Rattle.scr_layout.specs.Values.{value_at, with_only};
+ghost use Rattle.scr_layout.specs.Section.{IsHead};
 ghost use Rattle.scr_layout.specs.Top.{top_keys, numbered_version, named_version, version_of, mode_of_bits, named_mode, mode_of, size_of, default_of, alternate_of, named_size, screen_of, tables_in, are_tables, tables_of, fields_of};
 
 use crate::fault::{LayoutFault, LayoutKey, Why};
@@ -19,6 +20,16 @@ pub(crate) enum Version {
     One,
     /// A field may stand for entries in rows.
     Two,
+}
+
+/// What the keys at the top say beside the fields.
+#[derive(Clone, Copy)]
+pub(crate) struct Head {
+    pub version: Version,
+    pub mode: Mode,
+    pub default: Size,
+    pub alternate: Size,
+    pub size: Size,
 }
 
 const TOP_KEYS: [LayoutKey; 6] = [
@@ -186,4 +197,33 @@ pub(crate) fn fields_of(top: &Table) -> Result<&[Value], LayoutFault>
         Some(value) => tables_of(value),
         None => Ok(&[]),
     }
+}
+
+fn read_head(table: &Table) -> Result<Head, LayoutFault>
+    ensures { IfOk result (IsHead (table_view table.now)) }
+{
+    let top = top_of(table)?;
+    let version = version_of(top)?;
+    let mode = mode_of(top)?;
+    let default = default_of(mode, top)?;
+    let alternate = alternate_of(mode, default, top)?;
+    let size = screen_of(default, alternate, top)?;
+    Ok(Head {
+        version,
+        mode,
+        default,
+        alternate,
+        size,
+    })
+}
+
+/// What a top without `field` says, where nothing of it is to be refused.
+pub(crate) fn head_of(top: &Table) -> Option<Head>
+    ensures head { IfSome result (IsHead (table_view top.now)) }
+    ensures alone { IfSome result (λ _. value_at LayoutKey.Field (table_view top.now) ≡ None) }
+{
+    if value_at(LayoutKey::Field, top).is_some() {
+        return None;
+    }
+    read_head(top).ok()
 }

@@ -1,4 +1,4 @@
-use Rattle.std.proofs.Common.{◌≡◌, ◌==◌, [], Some, true, ap, ◌∙◌, drop, slice_index, string_bytes, rules, arith}
+use Rattle.std.proofs.Common.{◌≡◌, ◌==◌, [], Some, true, ap, ◌∙◌, drop, slice_index, rules, arith}
 use Rattle.std.proofs.lemmas.Bool.Decides.{nat_tests}
 use Rattle.std.proofs.lemmas.Grind.{common_steps}
 use Rattle.toml_parser.specs.Lexical.{first, skip_ws}
@@ -16,8 +16,8 @@ returns-then-is_end c =
     let close_one : (first inside == 93) ≡ true = grind (arith, nat_tests, common_steps) in
     let close_two : (first (drop 1 inside) == 93) ≡ true = rw (← c.skip-closed.ensures.rest) (grind (arith, nat_tests, common_steps)) in
     let over : is_end c.skip-rest.result.now ≡ true = grind (arith, nat_tests, common_steps) in
-    let read = rw c.in-Some.is at c.in_ok-key.ensures in
-    let name : string_bytes c.in-Some.key ≡ field_key = search rules in
+    let read = c.in-Some.ensures in
+    let name : c.in-Some.key.now ≡ field_key = search rules in
     let named : key (skip_ws (drop 2 s)) ≡ Some (([], field_key), inside) = rw (← c.skip.ensures.rest, ← c.skip_ws.ensures.rest, ← name) read.0 in
     let same = c.skip-rest.ensures.rest ∙ ap (drop 1) c.skip-closed.ensures.rest in (
       header_line s inside c.skip-rest.result.now open_one open_two named close_one close_two same over,

@@ -1,4 +1,4 @@
-use Rattle.std.proofs.Common.{◌≡◌, ◌==◌, true, false, ap, ◌∙◌, string_bytes, arith}
+use Rattle.std.proofs.Common.{◌≡◌, ◌==◌, true, false, ap, ◌∙◌, arith}
 use Rattle.std.proofs.lemmas.Bool.Decides.{nat_tests}
 use Rattle.std.proofs.lemmas.Grind.{common_steps}
 use Rattle.toml_parser.specs.Lexical.{first, skip_ws}
@@ -12,9 +12,9 @@ returns c =
     let behind = c.in-Some.rest.now in
     let no_header : (first s == 91) ≡ false = grind (arith, nat_tests, common_steps) in
     let equal : (first behind == 61) ≡ true = grind (arith, nat_tests, common_steps) in
-    let named = rw c.in-Some.is at c.in_ok-key.ensures in
+    let named = c.in-Some.ensures in
     let (read, over, shorter) = rw c.in-Some-2.is at c.in_ok-value.ensures in
     let same = c.skip_ws.ensures.rest ∙ ap skip_ws c.skip.ensures.rest in (
-      pair_line s behind _ c.in-Some-2.rest.now (string_bytes c.in-Some.key) (view c.in-Some-2.value) no_header named.0 equal same read over,
+      pair_line s behind _ c.in-Some-2.rest.now c.in-Some.key.now (view c.in-Some-2.value) no_header named.0 equal same read over,
       omega (arith, named.1, shorter, c.skip.ensures.shorter, c.skip_ws.ensures.within),
     )

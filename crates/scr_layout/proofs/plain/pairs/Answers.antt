@@ -1,5 +1,8 @@
-use Rattle.std.proofs.Common.{◌-◌, ◌∙◌, refl, sym, rules, arith}
-use Rattle.scr_layout.proofs.PlainLaws.{none_of, pair_goes_on}
+use Rattle.std.proofs.Common.{◌≡◌, ◌-◌, ◌∙◌, string_bytes, refl, sym, rules, arith}
+use Rattle.std.specs.BTreeMap.{insert_entry}
+use Rattle.std.specs.String.{string_cmp}
+use Rattle.toml.specs.View.{view, members_view}
+use Rattle.scr_layout.proofs.PlainLaws.{none_of, map_put, pair_goes_on}
 use Rattle.scr_layout.proofs.plain.pairs.Goals as goal
 
 pub pairs-init : goal.pairs-init
@@ -16,9 +19,12 @@ pairs-smaller c =
 pub pairs-preserved : goal.pairs-preserved
 pairs-preserved c =
     let l = c.pairs in
+    let key = c.in-Some.found.0 in
+    let value = c.in-Some.found.1 in
     let (shorter, goes_on) = l.invariant.1 in
     let within = rw c.skip_blank.ensures.rest at c.skip_blank.ensures.within in
     let read = rw (c.in-Some.is, c.skip_blank.ensures.rest) at c.in_ok-found.ensures in
+    let same : string_bytes c.in_ok-name.name ≡ key.now = c.in_ok-name.ensures.ok in
     let missing = sym c.in_ok-insert.ensures.old ∙ none_of c.in_ok-insert.field-0 (sym c.if-is_some.ensures) in (
       search rules,
       (
@@ -28,7 +34,9 @@ pairs-preserved c =
               m - 1,
               omega (arith, room, read.1, within),
               rw c.in_ok-insert.ensures.entries
-                  (so_far ∙ pair_goes_on around section place l.table.entries c.in-Some.found.0 c.in-Some.found.1 m l.rest.now c.in-Some.after.now (omega (arith, room)) read.0 read.1 missing),
+                  (so_far
+                  ∙ pair_goes_on around section place (members_view l.table.entries) (members_view (insert_entry string_cmp l.table.entries c.in_ok-name.name value)) key.now (view value)
+                  m l.rest.now c.in-Some.after.now (omega (arith, room)) read.0 read.1 (map_put l.table.entries c.in_ok-name.name key.now value same missing)),
             ),
       ),
     )
