@@ -27,6 +27,7 @@ fn push_own_answer<C: Cells>(row: &mut Row, setup: &Setup, verb: &str, words: &s
         "take" => terminal::push_two::<C>(row, setup, words),
         "reserved" => searches::push_reserved::<C>(row, words),
         "filled" => searches::push_filled::<C>(row, words),
+        "nulls" => searches::push_nulls::<C>(row, words),
         _ => return false,
     }
     true

@@ -104,8 +104,8 @@ fn push_printed<C: Cells>(row: &mut Row, cells: &C) {
     }
 }
 
-/// A buffer of an attribute and characters, as it is printed.
-pub(crate) fn push_filled<C: Cells>(row: &mut Row, words: &str) {
+/// A buffer of an attribute and characters.
+fn filled<C: Cells>(row: &mut Row, words: &str) -> Option<C> {
     let (attribute, codes) = row.cut(words, " ");
     let attribute = row.read_byte(attribute);
     let codes = row.read_bytes(codes);
@@ -114,9 +114,33 @@ pub(crate) fn push_filled<C: Cells>(row: &mut Row, words: &str) {
         Ok(mut cells) => {
             cells.clear(count);
             put_all(row, &mut cells, attribute, &codes);
-            push_printed(row, &cells);
+            Some(cells)
         }
-        Err(_) => row.spoil(),
+        Err(_) => {
+            row.spoil();
+            None
+        }
+    }
+}
+
+/// A buffer of an attribute and characters, as it is printed.
+pub(crate) fn push_filled<C: Cells>(row: &mut Row, words: &str) {
+    if let Some(cells) = filled::<C>(row, words) {
+        push_printed(row, &cells);
+    }
+}
+
+/// Whether so many positions of such a buffer hold nulls alone, from one on.
+pub(crate) fn push_nulls<C: Cells>(row: &mut Row, words: &str) {
+    let (buffer, places) = row.cut(words, "; ");
+    let (from, count) = row.cut(places, " ");
+    let from = row.read_number(from);
+    let count = row.read_number(count);
+    match filled::<C>(row, buffer) {
+        Some(cells) if from.saturating_add(count) <= cells.len() => {
+            row.truth(cells.are_nulls(from, count));
+        }
+        _ => row.spoil(),
     }
 }
 
