@@ -99,7 +99,9 @@ fn push_rows(alloc: Global, out: &mut String, screen: &Screen<PlaneCells>) -> Re
 pub fn screen_text(alloc: Global, screen: &Screen<PlaneCells>) -> Result<String, AllocError>
     ensures { IfOk result (λ text. string_bytes text ≡ screen_text screen.now) }
 {
-    let mut out = String::new(alloc);
+    // A byte for each position, and what most screens need beside.
+    let room = (screen.position_count() as usize).saturating_add(1024);
+    let mut out = String::with_capacity(alloc, room)?;
     push_screen_line(&mut out, screen)?;
     push_field_lines(&mut out, screen)?;
     push_rows(alloc, &mut out, screen)?;
