@@ -1,9 +1,11 @@
 //! Lines of records in hexadecimal.
 
-ghost use Rattle.std.specs.Prelude.{◌≡◌, ◌==◌, not, IfOk, IfSome, OnOk, false};
+ghost use Rattle.std.specs.Prelude.{◌≡◌, ◌==◌, not, IfOk, IfSome, OnOk, true, false};
 ghost use Rattle.std.specs.List.{filter};
 ghost use Rattle.hex.specs.Hex.{decode_of};
+ghost use Rattle.cli_commands.specs.declared.input.sizes.SizeLine.{SizeLine};
 ghost use Rattle.cli_commands.specs.Causes.{ToldBy};
+ghost use Rattle.cli_commands.specs.Lines.{is_ignored};
 ghost use Rattle.cli_commands.specs.Fault.{Gives, GivesOrFails};
 ghost use Rattle.cli_commands.specs.Records.{line_told, digits_told, record_told, without_spaces, no_records, one_more, after_line, take_record, records_in};
 ghost use Rattle.cli_commands.specs.Taking.{taken_in};
@@ -48,11 +50,13 @@ fn strip_spaces(buffer: &mut Vec<u8>, line: &[u8]) -> Result<(), AllocError>
     ensures { OnOk result (buffer.new.items ≡ without_spaces line.now) }
 {
     buffer.clear();
-    for byte in line {
-        if *byte != b' ' {
-            buffer.push(*byte)?;
-        }
+    buffer.reserve(line.len())?;
+    let mut rest = line;
+    'words: while let Some(at) = memchr(b' ', rest) {
+        buffer.extend_from_slice(&rest[..at])?;
+        rest = &rest[at + 1..];
     }
+    buffer.extend_from_slice(rest)?;
     Ok(())
 }
 
@@ -113,6 +117,17 @@ fn other_line(
     told_by(alloc, size_line, text, digits.as_slice())
 }
 
+/// What a line tells that is empty or begins as a comment: nothing, where it is text.
+fn line_ignored(line: &[u8]) -> Line
+    requires { is_ignored line.now ≡ true }
+    ensures { (size_line : SizeLine) → line_seen result ≡ line_told size_line line.now }
+{
+    match text_of(line) {
+        Some(_) => Line::Ignored,
+        None => Line::Bad,
+    }
+}
+
 /// What a line tells. One of digits alone is a record, and nothing else is looked for in it.
 pub(crate) fn line_told(
     alloc: Global,
@@ -122,6 +137,9 @@ pub(crate) fn line_told(
 ) -> Result<Line, AllocError>
     ensures { IfOk result (λ told. line_seen told ≡ line_told size_line line.now) }
 {
+    if is_ignored(line) {
+        return Ok(line_ignored(line));
+    }
     match bytes_of_digits(alloc, line)? {
         Some(bytes) if !bytes.is_empty() => Ok(Line::Record(bytes)),
         _ => other_line(alloc, size_line, line, digits),
