@@ -109,7 +109,7 @@ unfolding rows_of
 rows_of-read field None said = rw (said.0, said.1) refl
 rows_of-read field (Some rows) said = rw (said.0, number_of-read Count rows.count said.2 said.3, down_or-read field rows.down said.1 said.4 said.5) refl
 
-names_of-read : (before : List Declared) (name : List ℕ) (rows : Option Rows) → length before + count_of rows ≤ 1000 → list_all is_name (names_in name rows) ≡ true → has_any (names_in name rows) before ≡ false
+pub names_of-read : (before : List Declared) (name : List ℕ) (rows : Option Rows) → length before + count_of rows ≤ 1000 → list_all is_name (names_in name rows) ≡ true → has_any (names_in name rows) before ≡ false
     → names_of before name rows ≡ Ok (names_in name rows)
 unfolding names_of new_names
 names_of-read before name rows few all new = rw (le-leb (length before + count_of rows) 1000 few, all, new) refl

@@ -1,5 +1,5 @@
 -- The members of a field: a pair is put at its place in their order, and looked up there.
-use Rattle.std.proofs.Common.{◌≡◌, ℕ, ◌+◌, ◌-◌, ◌*◌, ◌≤◌, IfSome, Result, Ok, Err, arith, true, false, Ordering, Less, Equal, Greater, nat_cmp, is_eq, List, ◌++◌, Option, Some, None, refl, sym, ap, ◌∙◌}
+use Rattle.std.proofs.Common.{IfOk, is_some, ◌<◌, length, ◌≡◌, ℕ, ◌+◌, ◌-◌, ◌*◌, ◌≤◌, IfSome, Result, Ok, Err, arith, true, false, Ordering, Less, Equal, Greater, nat_cmp, is_eq, List, [], ◌∷◌, ◌++◌, Option, Some, None, refl, sym, ap, ◌∙◌}
 use Rattle.std.specs.Prelude.{pos}
 use Rattle.std.specs.Result.{result_ok, is_err}
 use Rattle.std.specs.Cmp.Lexicographic.{slice_cmp}
@@ -21,9 +21,10 @@ use Rattle.scr_layout.specs.Field.{field_keys, place_of, named_kind, kind_of, wi
 use Rattle.scr_layout.specs.Plain.{valued}
 use Rattle.scr_layout.specs.Entry.{Declared}
 use Rattle.scr_layout.specs.declared.rows.Rows.{Rows}
-use Rattle.scr_layout.specs.Rows.{names_of, step_of, are_free, count_of, entries_from}
+use Rattle.scr_layout.specs.Rows.{names_of, step_of, are_free, count_of, entries_from, has_name, has_place}
 use Rattle.scr_layout.specs.Section.{slot, slots, IsPut, IsPlaced, IsSaid}
-use Rattle.scr_layout.proofs.ReadLaw.{integer_at-read, place_of-read}
+use Rattle.scr_layout.proofs.ReadLaw.{integer_at-read, place_of-read, names_of-read}
+use Rattle.scr_layout.proofs.Made.{all_free-read}
 
 -- ---- a pair is put
 
@@ -221,3 +222,20 @@ said_table version size before field name rows place long kind names step now sa
     let clear = rw same at free in
     let all = rw same at is in
     rw (said.keys, said.named, said.counted, named, in_row, in_col, at_place, clear, said.is_long, said.is_kind) (ap Ok (sym all))
+
+-- a field of one entry
+pub said_one : (version : Version) (size : Size) (before : List Declared) (field : Members) (rows : Option Rows) (entry : Declared)
+    → IsSaid version size field entry.name rows entry.place entry.length entry.kind → is_some rows ≡ false → length before < 1000 → has_name entry.name before ≡ false
+    → has_place entry.place before ≡ false → with_table version size before field ≡ Ok (before ++ entry ∷ [])
+unfolding with_table
+said_one version size before field (Some rows) entry said alone few name place = absurd cc
+said_one version size before field None entry said alone few name place =
+    let (row, col, in_row, in_col, at_place, inside) = said.placed in
+    let named = names_of-read before entry.name None (omega arith) (rw said.good refl) (rw name refl) in
+    let free = all_free-read size before size.cols entry.place 1 (inside, place, tt) in
+    rw (said.keys, said.named, said.counted, named, in_row, in_col, at_place, free, said.is_long, said.is_kind) refl
+
+pub told_as : {A E : Type 0} (P Q : A → Type 0) → ((x : A) → P x → Q x) → (r : Result (Option A) E) → IfOk r (λ found. IfSome found P) → IfOk r (λ found. IfSome found Q)
+told_as P Q more (Ok (Some x)) h = more x h
+told_as P Q more (Ok None) h = tt
+told_as P Q more (Err e) h = tt

@@ -12,7 +12,7 @@ use Rattle.scr_layout.specs.declared.rows.Rows.{Rows}
 use Rattle.scr_layout.specs.declared.section.Section.{Section}
 use Rattle.scr_layout.specs.declared.top.Version.{Version}
 use Rattle.scr_layout.specs.declared.top.Head.{Head}
-use Rattle.scr_layout.specs.Entry.{Declared}
+use Rattle.scr_layout.specs.Entry.{Declared, is_name}
 use Rattle.scr_layout.specs.Fault.{key_text}
 use Rattle.scr_layout.specs.Values.{has_only}
 use Rattle.scr_layout.specs.Field.{field_keys, name_of, integer_at, place_of, length_of, kind_of}
@@ -54,6 +54,7 @@ IsPlaced size field place =
 pub record IsSaid (version : Version) (size : Size) (field : Members) (name : List ℕ) (rows : Option Rows) (place long : ℕ) (kind : EntryKind) : Type 0 where
   pub keys : has_only (field_keys version) field ≡ true
   pub named : name_of field ≡ Ok name
+  pub good : is_name name ≡ true
   pub counted : rows_of field ≡ Ok rows
   pub placed : IsPlaced size field place
   pub is_long : length_of size field ≡ Ok long

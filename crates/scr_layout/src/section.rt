@@ -1,12 +1,14 @@
 //! A field of the usual form: each of its keys at most once, with a value of its type.
 
-ghost use Rattle.std.specs.Prelude.{◌≡◌, ◌≤◌, None, Some, Ok, true, IfOk, IfSome};
+ghost use Rattle.std.specs.Prelude.{◌≡◌, ◌≤◌, ◌<◌, ◌++◌, [], ◌∷◌, ℕ, List, length, None, Some, Ok, true, false, IfOk, IfSome};
 ghost use Rattle.toml.specs.View.{view};
-ghost use Rattle.scr_layout.specs.Rows.{IsSmall};
+ghost use Rattle.ds_codec.specs.Geometry.{cells_of};
+ghost use Rattle.scr_layout.specs.Entry.{is_name};
+ghost use Rattle.scr_layout.specs.Rows.{IsSmall, has_name, has_place, names_of, are_free, step_of, count_of, entries_from};
 ghost use Rattle.scr_layout.specs.Field.{with_table};
 ghost use Rattle.scr_layout.specs.Section.{text_data, number_data, members_of};
 
-use crate::entry::Kind;
+use crate::entry::{Entry, Kind};
 use crate::fault::LayoutError;
 use crate::field::named_kind;
 use crate::listed::Listed;
@@ -130,7 +132,8 @@ impl Section {
     }
 
     fn name(&self) -> Option<&str>
-        ensures { IfSome result (λ name. name_of (members_of self.now) ≡ Ok name.now) }
+        ensures { IfSome result (λ name. (name_of (members_of self.now) ≡ Ok name.now)
+            × (is_name name.now ≡ true)) }
     {
         match &self.name {
             Some(name) if is_name(name.as_str()) => Some(name.as_str()),
@@ -208,22 +211,32 @@ impl Section {
     }
 }
 
-/// The entries before, and behind them those that a field stands for on a screen of this size: none where something of it is to be
-/// refused.
-pub(crate) fn with_section(
+/// The entries before, and behind them one more: none where they are too many, or its name or its place is taken.
+fn with_entry(alloc: Global, before: Listed, entry: Entry) -> Result<Option<Listed>, AllocError>
+    ensures { IfOk result (λ found. IfSome found (λ listed. (length before < 1000)
+        × (has_name entry.name before ≡ false) × (has_place entry.place before ≡ false)
+        × (listed ≡ before ++ entry ∷ []))) }
+{
+    if before.len() >= 1000 || before.has_name(&entry.name) || before.has_place(entry.place) {
+        return Ok(None);
+    }
+    Ok(Some(before.with(alloc, entry)?))
+}
+
+/// The entries before, and behind them those of the rows of a field: none where something of them is to be refused.
+fn with_rows(
     alloc: Global,
-    version: Version,
     size: Size,
     before: Listed,
-    section: &Section,
+    said: &Said<'_>,
 ) -> Result<Option<Listed>, AllocError>
-    requires { IsSmall size }
-    ensures { IfOk result (λ found. IfSome found (λ listed.
-        with_table version size before (members_of section.now) ≡ Ok listed)) }
+    requires small { IsSmall size }
+    requires inside { said.now.place < cells_of size }
+    ensures { IfOk result (λ found. IfSome found (λ listed. (names : List (List ℕ))
+        × (names_of before said.now.name.now said.now.rows ≡ Ok names)
+        × (are_free size before (step_of size said.now.rows) said.now.place (count_of said.now.rows) ≡ Ok tt)
+        × (listed ≡ before ++ entries_from (step_of size said.now.rows) said.now.place said.now.length said.now.kind names))) }
 {
-    let Some(said) = section.said(version, size) else {
-        return Ok(None);
-    };
     let names = match names_of(alloc, &before, said.name, said.rows) {
         Ok(names) => names,
         Err(LayoutError::OutOfMemory) => return Err(AllocError),
@@ -243,4 +256,32 @@ pub(crate) fn with_section(
         said.kind,
     )?;
     Ok(Some(listed))
+}
+
+/// The entries before, and behind them those that a field stands for on a screen of this size: none where something of it is to be
+/// refused.
+pub(crate) fn with_section(
+    alloc: Global,
+    version: Version,
+    size: Size,
+    before: Listed,
+    section: &Section,
+) -> Result<Option<Listed>, AllocError>
+    requires { IsSmall size }
+    ensures { IfOk result (λ found. IfSome found (λ listed.
+        with_table version size before (members_of section.now) ≡ Ok listed)) }
+{
+    let Some(said) = section.said(version, size) else {
+        return Ok(None);
+    };
+    if said.rows.is_some() {
+        return with_rows(alloc, size, before, &said);
+    }
+    let entry = Entry {
+        name: String::from_str(alloc, said.name)?,
+        place: said.place,
+        length: said.length,
+        kind: said.kind,
+    };
+    with_entry(alloc, before, entry)
 }

@@ -8,6 +8,9 @@ use Rattle.scr_layout.proofs.section.Section.name.Goals as goal
 
 pub returns-in-Some : goal.returns-in-Some
 returns-in-Some c =
-    name_of-read (members_of c.args.self.now) c.as_str-in-Some.result.now
-    (at_name _ _ _ _ _ _ _ ∙ ap text_data c.in-Some.is ∙ ap (λ bytes. Some (string bytes)) (sym c.as_str-in-Some.ensures.value))
-    (ap is_name (c.as_str-in-Some.ensures.value ∙ sym c.as_str.ensures.value) ∙ sym c.if-is_name.ensures)
+    let good = ap is_name (c.as_str-in-Some.ensures.value ∙ sym c.as_str.ensures.value) ∙ sym c.if-is_name.ensures in (
+      name_of-read (members_of c.args.self.now) c.as_str-in-Some.result.now
+          (at_name _ _ _ _ _ _ _ ∙ ap text_data c.in-Some.is ∙ ap (λ bytes. Some (string bytes)) (sym c.as_str-in-Some.ensures.value))
+          good,
+      good,
+    )
