@@ -42,7 +42,8 @@ fn bare_length(bytes: &[u8]) -> usize
 
 /// A key without dots and quotes, and what follows it and the white space after it.
 fn bare_key(s: &str) -> Option<(&str, &str)>
-    ensures { IfSome result (λ p. (key s.now ≡ Some (([], p.0.now), p.1.now)) × (length p.1.now < length s.now)) }
+    ensures { IfSome result (λ p. (key s.now ≡ Some (([], p.0.now), p.1.now))
+        × (length p.1.now < length s.now)) }
 {
     let count = bare_length(s.as_bytes());
     if count == 0 || starts_string(s) {

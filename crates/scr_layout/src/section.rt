@@ -60,7 +60,8 @@ fn put_text(slot: &mut Option<String>, value: Value) -> bool
 
 /// Puts a number of 1 or more where none is; whether it did.
 fn put_number(slot: &mut Option<u32>, value: &Value) -> bool
-    ensures put { (result ≡ true) → (slot.old ≡ None) × (number_data slot.new ≡ Some (view value.now)) }
+    ensures put { (result ≡ true) → (slot.old ≡ None)
+        × (number_data slot.new ≡ Some (view value.now)) }
 {
     if slot.is_some() {
         return false;
@@ -107,7 +108,8 @@ impl Section {
 
     /// Puts a pair of a key of a field that isn't there yet; whether it did.
     pub(crate) fn put(&mut self, key: &str, value: Value) -> bool
-        ensures { (result ≡ true) → IsPut (members_of self.old) key.now (view value) (members_of self.new) }
+        ensures { (result ≡ true) → IsPut (members_of self.old) key.now (view value)
+            (members_of self.new) }
     {
         match key {
             "name" => put_text(&mut self.name, value),
@@ -234,8 +236,10 @@ fn with_rows(
     requires inside { said.now.place < cells_of size }
     ensures { IfOk result (λ found. IfSome found (λ listed. (names : List (List ℕ))
         × (names_of before said.now.name.now said.now.rows ≡ Ok names)
-        × (are_free size before (step_of size said.now.rows) said.now.place (count_of said.now.rows) ≡ Ok tt)
-        × (listed ≡ before ++ entries_from (step_of size said.now.rows) said.now.place said.now.length said.now.kind names))) }
+        × (are_free size before (step_of size said.now.rows) said.now.place
+        (count_of said.now.rows) ≡ Ok tt)
+        × (listed ≡ before ++ entries_from (step_of size said.now.rows) said.now.place
+        said.now.length said.now.kind names))) }
 {
     let names = match names_of(alloc, &before, said.name, said.rows) {
         Ok(names) => names,
