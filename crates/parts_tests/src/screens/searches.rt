@@ -137,7 +137,7 @@ pub(crate) fn push_nulls<C: Cells>(row: &mut Row, words: &str) {
     let from = row.read_number(from);
     let count = row.read_number(count);
     match filled::<C>(row, buffer) {
-        Some(cells) if from.saturating_add(count) <= cells.len() => {
+        Some(cells) if from <= cells.len() && count <= cells.len() - from => {
             row.truth(cells.are_nulls(from, count));
         }
         _ => row.spoil(),
