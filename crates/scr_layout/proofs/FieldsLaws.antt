@@ -70,7 +70,7 @@ pushed_entries version size done ms es now read more =
 
 -- ---- the fields beside the keys at the top
 
-passed : (o : Ordering) (a : Option Data) (d : Data) → is_eq o ≡ false → match_ordering o a (Some d) a ≡ a
+pub passed : (o : Ordering) (a : Option Data) (d : Data) → is_eq o ≡ false → match_ordering o a (Some d) a ≡ a
 passed Less a d h = refl
 passed Equal a d h = absurd cc
 passed Greater a d h = refl

@@ -4,7 +4,6 @@ use Rattle.std.specs.Prelude.{pos}
 use Rattle.std.specs.Result.{result_ok, is_err}
 use Rattle.std.specs.Cmp.Lexicographic.{slice_cmp}
 use Rattle.std.proofs.lemmas.Nat.{mul-add-lt}
-use Rattle.std.specs.Ordering.{match_ordering}
 use Rattle.toml.specs.Data.{Data, Members, no_members}
 use Rattle.toml.specs.Tables.{Node, node, value, get_node, insert}
 use Rattle.scr_layout.specs.declared.fault.LayoutKey.{LayoutKey}
@@ -25,6 +24,7 @@ use Rattle.scr_layout.specs.Rows.{names_of, step_of, are_free, count_of, entries
 use Rattle.scr_layout.specs.Section.{slot, slots, IsPut, IsPlaced, IsSaid}
 use Rattle.scr_layout.proofs.ReadLaw.{integer_at-read, place_of-read, names_of-read}
 use Rattle.scr_layout.proofs.Made.{all_free-read}
+use Rattle.scr_layout.proofs.FieldsLaws.{passed}
 
 -- ---- a pair is put
 
@@ -106,11 +106,6 @@ put_row key d was now col count down kind length name is none some =
     (past Row Col col d _ _ refl (past Row Count count d _ _ refl (past Row Down down d _ _ refl (past Row Kind kind d _ _ refl (past Row Length length d _ _ refl (past Row Name name d _ _ refl (here Row d _ (first_of_none Row))))))))
 
 -- ---- and looked up
-
-passed : (o : Ordering) (a : Option Data) (d : Data) → is_eq o ≡ false → match_ordering o a (Some d) a ≡ a
-passed Less a d h = refl
-passed Equal a d h = absurd cc
-passed Greater a d h = refl
 
 beside : (key other : LayoutKey) (o : Option Data) (rest : Members) → is_eq (slice_cmp nat_cmp (key_text key) (key_text other)) ≡ false
     → value_at key (slot other o rest) ≡ value_at key rest
