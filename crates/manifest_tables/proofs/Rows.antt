@@ -1,7 +1,7 @@
 -- The tables among the values of a list.
-use Rattle.std.proofs.Common.{◌≡◌, ℕ, suc, true, ◌&&◌, is_some, Some, None, List, [], ◌∷◌, length, refl, ap, ◌∙◌}
+use Rattle.std.proofs.Common.{◌≡◌, ℕ, suc, true, ◌&&◌, is_some, Some, None, List, [], ◌∷◌, ◌++◌, length, refl, ap, ◌∙◌}
 use Rattle.std.specs.List.{list_all}
-use Rattle.toml.specs.Data.{Data, string, integer, float, boolean, datetime, array, table, Items, item, Members, as_table}
+use Rattle.toml.specs.Data.{Data, string, integer, float, boolean, datetime, array, table, Items, no_items, item, Members, push_item, as_table}
 use Rattle.toml.specs.View.{view, items_view}
 use Rattle.toml.specs.declared.value.Value.{Value}
 use Rattle.manifest_tables.specs.Tables.{tables_in, are_tables}
@@ -52,3 +52,24 @@ tables_in-other (float x) rest h = refl
 tables_in-other (boolean b) rest h = refl
 tables_in-other (datetime t) rest h = refl
 tables_in-other (array ds) rest h = refl
+
+-- one more table behind all items
+pub tables_in-push : (done : Items) (ms : Members) → tables_in (push_item done (table ms)) ≡ tables_in done ++ ms ∷ []
+tables_in-push no_items ms = refl
+tables_in-push (item (table fields) rest) ms = ap (λ l. fields ∷ l) (tables_in-push rest ms)
+tables_in-push (item (string s) rest) ms = tables_in-push rest ms
+tables_in-push (item (integer z) rest) ms = tables_in-push rest ms
+tables_in-push (item (float x) rest) ms = tables_in-push rest ms
+tables_in-push (item (boolean b) rest) ms = tables_in-push rest ms
+tables_in-push (item (datetime t) rest) ms = tables_in-push rest ms
+tables_in-push (item (array ds) rest) ms = tables_in-push rest ms
+
+pub are_tables-push : (done : Items) (ms : Members) → are_tables (push_item done (table ms)) ≡ are_tables done
+are_tables-push no_items ms = refl
+are_tables-push (item (table fields) rest) ms = are_tables-push rest ms
+are_tables-push (item (string s) rest) ms = refl
+are_tables-push (item (integer z) rest) ms = refl
+are_tables-push (item (float x) rest) ms = refl
+are_tables-push (item (boolean b) rest) ms = refl
+are_tables-push (item (datetime t) rest) ms = refl
+are_tables-push (item (array ds) rest) ms = refl

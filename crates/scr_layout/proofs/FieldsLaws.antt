@@ -18,10 +18,10 @@ use Rattle.scr_layout.specs.Values.{value_at, is_key, has_only}
 use Rattle.scr_layout.specs.Top.{top_keys, version_of, mode_of, default_of, alternate_of, screen_of, fields_of, tables_in, are_tables}
 use Rattle.scr_layout.specs.Field.{with_table}
 use Rattle.scr_layout.specs.Layout.{entries_of, declaration_of}
-use Rattle.scr_layout.specs.Plain.{valued, field_key}
+use Rattle.plain_tables.specs.Plain.{valued}
 use Rattle.scr_layout.specs.Section.{IsHead, declared}
 use Rattle.scr_layout.proofs.Steps.{bind_ok, same_ok}
-use Rattle.scr_layout.proofs.PlainLaws.{close-valued, cases_ordering}
+use Rattle.plain_tables.proofs.Laws.{close-valued, cases_ordering}
 use Rattle.scr_layout.proofs.ReadLaw.{tables_of-read}
 
 -- ---- one table more
@@ -125,14 +125,14 @@ keys_there keys k d (member l e rest) one all =
 -- the document says what its top and its fields say
 pub says_all : (top : Members) (items : Items) (head : Head) (entries : List Declared) → value_at Field top ≡ None → IsHead top head
     → are_tables items ≡ true → length (tables_in items) ≤ 1000 → entries_of head.version head.size 0 [] (tables_in items) ≡ Ok entries
-    → declaration_of (with_key field_key (array items) top) ≡ Ok (declared head entries)
+    → declaration_of (with_key (key_text Field) (array items) top) ≡ Ok (declared head entries)
 unfolding declaration_of version_of mode_of default_of alternate_of screen_of fields_of
 says_all top items head entries none is all few read =
-    let missing = missing_node field_key top none in
-    let at : (q : List ℕ) → same_key q field_key ≡ false → get_member q (with_key field_key (array items) top) ≡ get_member q top =
-    λ q apart. other_there q field_key (array items) top missing apart in
+    let missing = missing_node (key_text Field) top none in
+    let at : (q : List ℕ) → same_key q (key_text Field) ≡ false → get_member q (with_key (key_text Field) (array items) top) ≡ get_member q top =
+    λ q apart. other_there q (key_text Field) (array items) top missing apart in
     rw (
-      keys_there top_keys field_key (array items) top refl is.keys,
+      keys_there top_keys (key_text Field) (array items) top refl is.keys,
       at (key_text VersionKey) refl,
       at (key_text Addresses) refl,
       at (key_text Default) refl,
@@ -143,7 +143,7 @@ says_all top items head entries none is all few read =
       is.is_default,
       is.is_alternate,
       is.is_screen,
-      same_there field_key (array items) top,
+      same_there (key_text Field) (array items) top,
       tables_of-read items all few,
       read,
     )

@@ -11,6 +11,5 @@ pub mod SizeLaw
 pub mod SaysLaw
 pub mod ReadLaw
 pub mod LocatedLaws
-pub mod PlainLaws
 pub mod SectionLaws
 pub mod FieldsLaws

@@ -17,11 +17,11 @@ use Rattle.scr_layout.specs.Fault.{key_text}
 use Rattle.scr_layout.specs.Values.{value_at, has_only, is_key}
 use Rattle.scr_layout.specs.Says.{HasText, HasNumber}
 use Rattle.scr_layout.specs.Field.{field_keys, place_of, named_kind, kind_of, with_table}
-use Rattle.scr_layout.specs.Plain.{valued}
+use Rattle.plain_tables.specs.Plain.{valued, IsPut}
 use Rattle.scr_layout.specs.Entry.{Declared}
 use Rattle.scr_layout.specs.declared.rows.Rows.{Rows}
 use Rattle.scr_layout.specs.Rows.{names_of, step_of, are_free, count_of, entries_from, has_name, has_place}
-use Rattle.scr_layout.specs.Section.{slot, slots, IsPut, IsPlaced, IsSaid}
+use Rattle.scr_layout.specs.Section.{slot, slots, IsPlaced, IsSaid}
 use Rattle.scr_layout.proofs.ReadLaw.{integer_at-read, place_of-read, names_of-read}
 use Rattle.scr_layout.proofs.Made.{all_free-read}
 use Rattle.scr_layout.proofs.FieldsLaws.{passed}

@@ -9,5 +9,4 @@ pub mod Field
 pub mod Layout
 pub mod Says
 pub mod Located
-pub mod Plain
 pub mod Section

@@ -4,9 +4,8 @@ use Rattle.std.specs.declared.alloc.Global.{Global}
 use Rattle.ds_codec.specs.declared.size.Size.{Size}
 use Rattle.ds_codec.specs.Geometry.{cells_of}
 use Rattle.toml.specs.Data.{Data, string, integer, Items, Members, no_members, member}
-use Rattle.toml.specs.Tables.{value, get_node, insert}
 use Rattle.scr_layout.specs.declared.fault.LayoutKey.{LayoutKey}
-use Rattle.scr_layout.specs.declared.fault.LayoutKey.TheVariants.{Name, Row, Col, Length, Kind, Count, Down}
+use Rattle.scr_layout.specs.declared.fault.LayoutKey.TheVariants.{Name, Row, Col, Length, Kind, Count, Down, Field}
 use Rattle.scr_layout.specs.declared.entry.Kind.{Kind as EntryKind}
 use Rattle.scr_layout.specs.declared.rows.Rows.{Rows}
 use Rattle.scr_layout.specs.declared.section.Section.{Section}
@@ -19,7 +18,7 @@ use Rattle.scr_layout.specs.Field.{field_keys, name_of, integer_at, place_of, le
 use Rattle.scr_layout.specs.Rows.{rows_of}
 use Rattle.scr_layout.specs.Top.{top_keys, version_of, mode_of, default_of, alternate_of, screen_of, tables_in, are_tables}
 use Rattle.scr_layout.specs.Layout.{Declaration, entries_of}
-use Rattle.scr_layout.specs.Plain.{valued, AreFields}
+use Rattle.plain_tables.specs.Plain.{AreTables}
 
 abbrev pub text_data : Option (String Global) → Option Data
 text_data found = option_map (λ text. string (string_bytes text)) found
@@ -41,10 +40,6 @@ abbrev pub members_of : Section → Members
 members_of s =
     slots (number_data s.col) (number_data s.count) (number_data s.down) (text_data s.kind) (number_data s.length) (text_data s.name) (number_data s.row)
 
--- the members now are those before with a pair of a new key, at its place in their order
-abbrev pub IsPut : Members → List ℕ → Data → Members → Type 0
-IsPut ms key d now = (get_node key (valued ms) ≡ None) × (insert key (value d) (valued ms) ≡ valued now)
-
 -- a row and a column of the field lead to the place, which is on the screen
 abbrev pub IsPlaced : Size → Members → ℕ → Type 0
 IsPlaced size field place =
@@ -63,7 +58,7 @@ pub record IsSaid (version : Version) (size : Size) (field : Members) (name : Li
 -- the text behind the first header `field` has tables that stand for these entries, and nothing else
 abbrev pub HasFields : Version → Size → List ℕ → List Declared → Type 0
 HasFields version size text entries =
-    (items : Items) × AreFields text items × (are_tables items ≡ true) × (length (tables_in items) ≤ 1000) × (entries_of version size 0 [] (tables_in items) ≡ Ok entries)
+    (items : Items) × AreTables (key_text Field) text items × (are_tables items ≡ true) × (length (tables_in items) ≤ 1000) × (entries_of version size 0 [] (tables_in items) ≡ Ok entries)
 
 -- what the keys at the top say beside the fields
 pub record IsHead (top : Members) (head : Head) : Type 0 where

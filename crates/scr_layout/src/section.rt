@@ -89,7 +89,8 @@ impl Section {
     ghost use Rattle.scr_layout.specs.Values.{has_only};
     ghost use Rattle.scr_layout.specs.Rows.{rows_of};
     ghost use Rattle.scr_layout.specs.Field.{field_keys, name_of, length_of, kind_of};
-    ghost use Rattle.scr_layout.specs.Section.{IsPut, IsPlaced, IsSaid};
+    ghost use Rattle.plain_tables.specs.Plain.{IsPut};
+    ghost use Rattle.scr_layout.specs.Section.{IsPlaced, IsSaid};
 
     /// No pair.
     pub(crate) fn new() -> Section

@@ -38,6 +38,7 @@ mod of_ds_terminal;
 mod of_host_server;
 mod of_manifest_tables;
 mod of_order_lines;
+mod of_plain_tables;
 mod of_scr_check;
 mod of_scr_draft;
 mod of_scr_layout;

@@ -1,7 +1,7 @@
-use Rattle.std.proofs.Common.{◌-◌, ◌∙◌, refl, rules, arith}
+use Rattle.std.proofs.Common.{refl, rules, arith}
 use Rattle.toml.specs.View.{view}
+use Rattle.plain_tables.proofs.Laws.{put_goes_on, both_go_on}
 use Rattle.scr_layout.specs.Section.{members_of}
-use Rattle.scr_layout.proofs.PlainLaws.{pair_goes_on}
 use Rattle.scr_layout.proofs.plain.field_pairs.Goals as goal
 
 pub pairs-init : goal.pairs-init
@@ -18,21 +18,12 @@ pairs-smaller c =
 pub pairs-preserved : goal.pairs-preserved
 pairs-preserved c =
     let l = c.pairs in
-    let key = c.in-Some.found.0 in
-    let (shorter, goes_on) = l.invariant.1 in
+    let key = c.in-Some.found.0.now in
     let within = rw c.skip_blank.ensures.rest at c.skip_blank.ensures.within in
-    let read = rw (c.in-Some.is, c.skip_blank.ensures.rest) at c.in_ok-found.ensures in
-    let put = c.put.ensures c.if-not-put.false in (
+    let (read, shorter) = rw (c.in-Some.is, c.skip_blank.ensures.rest) at c.in_ok-found.ensures in
+    let put = c.put.ensures c.if-not-put.false in
+    let before = members_of l.section in
+    let now = members_of c.put.new.self in (
       search rules,
-      (
-        omega (arith, shorter, within, read.1),
-        λ around section place n few.
-            let (m, room, so_far) = goes_on around section place n few in (
-              m - 1,
-              omega (arith, room, read.1, within),
-              so_far
-                  ∙ pair_goes_on around section place (members_of l.section) (members_of c.put.new.self) key.now (view c.in-Some.found.1) m l.rest.now c.in-Some.after.now
-                  (omega (arith, room)) read.0 read.1 put,
-            ),
-      ),
+      both_go_on _ before now _ _ _ l.invariant.1 (put_goes_on before now key (view c.in-Some.found.1) l.rest.now c.in-Some.after.now read shorter within put),
     )

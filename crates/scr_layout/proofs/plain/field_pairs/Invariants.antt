@@ -1,7 +1,7 @@
 use Rattle.std.proofs.Common.{length}
 use denote.Text.{Utf8}
 use denote.Shadow.{shadow}
-use Rattle.scr_layout.specs.Plain.{GoesOn}
+use Rattle.plain_tables.specs.Plain.{GoesOn}
 use Rattle.scr_layout.specs.Section.{members_of}
 use Rattle.scr_layout.proofs.plain.field_pairs.Given as goal
 

@@ -1,6 +1,6 @@
 use Rattle.std.proofs.Common.{not, ap, ◌∙◌}
 use Rattle.scr_layout.specs.Section.{number_data}
-use Rattle.scr_layout.proofs.PlainLaws.{none_of}
+use Rattle.plain_tables.proofs.Laws.{none_of}
 use Rattle.scr_layout.proofs.SectionLaws.{only_all, only_one}
 use Rattle.scr_layout.proofs.section.Section.has_keys_of.Goals as goal
 

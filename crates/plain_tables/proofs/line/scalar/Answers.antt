@@ -1,6 +1,6 @@
 use Rattle.std.proofs.Common.{rules}
 use Rattle.toml.specs.Parse.{atom}
-use Rattle.scr_layout.proofs.plain.scalar.Goals as goal
+use Rattle.plain_tables.proofs.line.scalar.Goals as goal
 
 pub returns-in-Some : goal.returns-in-Some
 unfolding atom

@@ -4,8 +4,8 @@ use Rattle.std.proofs.lemmas.Grind.{common_steps}
 use Rattle.toml_parser.specs.Lexical.{first}
 use Rattle.toml_parser.specs.Strings.{recursion_limit}
 use Rattle.toml.proofs.Turns.{val_atom}
-use Rattle.scr_layout.specs.Plain.{is_end}
-use Rattle.scr_layout.proofs.plain.last_value.Goals as goal
+use Rattle.plain_tables.specs.Plain.{is_end}
+use Rattle.plain_tables.proofs.line.last_value.Goals as goal
 
 pub returns-then-is_end : goal.returns-then-is_end
 returns-then-is_end c =

@@ -1,7 +1,7 @@
 use Rattle.std.proofs.Common.{rules}
 use Rattle.toml.specs.Parse.{atom}
 use Rattle.toml.proofs.Views.{view-String}
-use Rattle.scr_layout.proofs.plain.text.Goals as goal
+use Rattle.plain_tables.proofs.line.text.Goals as goal
 
 pub returns-in-Ok : goal.returns-in-Ok
 unfolding atom

@@ -2,8 +2,8 @@ use Rattle.std.proofs.Common.{length}
 use denote.Text.{Utf8}
 use denote.Shadow.{shadow}
 use Rattle.toml.specs.View.{table_view}
-use Rattle.scr_layout.specs.Plain.{GoesOn}
-use Rattle.scr_layout.proofs.plain.pairs.Given as goal
+use Rattle.plain_tables.specs.Plain.{GoesOn}
+use Rattle.plain_tables.proofs.table.pairs.Given as goal
 
 abbrev pub invariant-pairs : goal.invariant-pairs
 invariant-pairs l = shadow (Utf8 l.rest) × GoesOn (table_view l.fn.table) l.fn.s (table_view l.table) l.rest

@@ -4,8 +4,8 @@ use Rattle.std.proofs.lemmas.Grind.{common_steps}
 use Rattle.std.specs.List.{prefix_len}
 use Rattle.toml_parser.specs.Lexical.{first, is_bare}
 use Rattle.toml_parser.proofs.LexicalLemmas.{IsCharBoundary-ascii_run}
-use Rattle.scr_layout.proofs.PlainLaws.{bare_read}
-use Rattle.scr_layout.proofs.plain.bare_key.Goals as goal
+use Rattle.plain_tables.proofs.Laws.{bare_read}
+use Rattle.plain_tables.proofs.line.bare_key.Goals as goal
 
 pub split_at-requires : goal.split_at-requires
 split_at-requires c =

@@ -1,5 +1,5 @@
 -- What the lines of a text in the usual form make of a document.
-use Rattle.std.proofs.Common.{◌≡◌, ℕ, suc, ◌-◌, ◌<◌, is_some, length, arith, Ordering, Less, Equal, Greater, true, false, ◌==◌, slice_index, take, drop, nat_cmp, is_eq, cond, List, [], ◌∷◌, Option, Some, None, option_map, String, Global, string_bytes, refl, sym, subst, ap, ◌∙◌, inl, inr, ◌⊎◌}
+use Rattle.std.proofs.Common.{◌≡◌, ℕ, suc, ◌-◌, ◌<◌, ◌≤◌, is_some, length, arith, Ordering, Less, Equal, Greater, true, false, ◌==◌, slice_index, take, drop, nat_cmp, is_eq, cond, List, [], ◌∷◌, Option, Some, None, option_map, String, Global, string_bytes, refl, sym, subst, ap, ◌∙◌, inl, inr, ◌⊎◌}
 use Rattle.std.proofs.lemmas.Bool.Decides.{nat_tests}
 use Rattle.std.proofs.lemmas.List.Sums.{prefix_len_passes}
 use Rattle.std.specs.BTreeMap.{insert_entry, is_at}
@@ -16,10 +16,9 @@ use Rattle.toml.specs.declared.value.Value.{Value}
 use Rattle.toml.specs.Tables.{Node, Nodes, no_nodes, node, value, open_array, get_node, insert, replace, Document, along_header, along_dots, put, define, close, close_node, key_value, array_table}
 use Rattle.toml.specs.Parse.{val, line, lines, skip_bom, parse_document, expression, key_equals, header_key}
 use Rattle.toml.proofs.NodeLaws.{get_node-insert, replace-insert, along_found}
-use Rattle.toml.proofs.Turns.{at_key_ok, at_key_new, document_some, lines_more}
+use Rattle.toml.proofs.Turns.{at_key_ok, at_key_new, document_some, lines_end, lines_more}
 use Rattle.toml.proofs.Views.{Entry, at_text}
-use Rattle.scr_layout.specs.Plain.{valued, IsPlace, with_fields, field_key, field_header, is_end}
-use Rattle.scr_layout.specs.Section.{IsPut}
+use Rattle.plain_tables.specs.Plain.{valued, IsPlace, IsPut, GoesOn, HasDone, AreTables, with_tables, header_of, is_end}
 
 -- what is complete stands for itself
 pub close-valued : (ms : Members) → close (valued ms) ≡ ms
@@ -76,16 +75,16 @@ pub at_top : IsPlace (λ ns. ns) []
 unfolding along_header
 at_top edit ns = kept (edit ns)
 
-edited : (top : Members) (done : Items) (ns : Nodes) (o : Option Nodes)
-    → option_map (λ new. replace field_key new (with_fields top done ns)) (option_map (open_array done) o) ≡ option_map (with_fields top done) o
-edited top done ns None = refl
-edited top done ns (Some new) = ap Some (replace-insert field_key (open_array done ns) (open_array done new) (valued top))
+edited : (under : List ℕ) (top : Members) (done : Items) (ns : Nodes) (o : Option Nodes)
+    → option_map (λ new. replace under new (with_tables under top done ns)) (option_map (open_array done) o) ≡ option_map (with_tables under top done) o
+edited under top done ns None = refl
+edited under top done ns (Some new) = ap Some (replace-insert under (open_array done ns) (open_array done new) (valued top))
 
-pub in_last : (top : Members) (done : Items) → IsPlace (with_fields top done) (field_key ∷ [])
+pub in_last : (under : List ℕ) (top : Members) (done : Items) → IsPlace (with_tables under top done) (under ∷ [])
 unfolding along_header
-in_last top done edit ns =
-    along_found field_key [] edit (with_fields top done ns) (open_array done ns) (get_node-insert field_key (open_array done ns) (valued top))
-    ∙ edited top done ns (edit ns)
+in_last under top done edit ns =
+    along_found under [] edit (with_tables under top done ns) (open_array done ns) (get_node-insert under (open_array done ns) (valued top))
+    ∙ edited under top done ns (edit ns)
 
 pub defines_pair : (around : Nodes → Nodes) (section : List (List ℕ)) → IsPlace around section → (ms : Members) (k : List ℕ) (d : Data)
     → get_node k (valued ms) ≡ None
@@ -93,22 +92,22 @@ pub defines_pair : (around : Nodes → Nodes) (section : List (List ℕ)) → Is
 unfolding define along_dots
 defines_pair around section place ms k d none = rw (place (put ([], k) d) (valued ms), at_key_new k (key_value d) (valued ms) none)
 
-pub defines_first : (top : Members) → get_node field_key (valued top) ≡ None
-    → define (valued top, []) field_header ≡ Some (with_fields top no_items no_nodes, field_key ∷ [])
+pub defines_first : (under : List ℕ) (top : Members) → get_node under (valued top) ≡ None
+    → define (valued top, []) (header_of under) ≡ Some (with_tables under top no_items no_nodes, under ∷ [])
 unfolding define along_header
-defines_first top none = rw (at_key_new field_key array_table (valued top) none)
+defines_first under top none = rw (at_key_new under array_table (valued top) none)
 
-pub defines_next : (top : Members) (done : Items) (last : Members)
-    → define (with_fields top done (valued last), field_key ∷ []) field_header
-    ≡ Some (with_fields top (push_item done (table last)) no_nodes, field_key ∷ [])
+pub defines_next : (under : List ℕ) (top : Members) (done : Items) (last : Members)
+    → define (with_tables under top done (valued last), under ∷ []) (header_of under)
+    ≡ Some (with_tables under top (push_item done (table last)) no_nodes, under ∷ [])
 unfolding define along_header
-defines_next top done last =
-    let ns = with_fields top done (valued last) in
+defines_next under top done last =
+    let ns = with_tables under top done (valued last) in
     let before = open_array done (valued last) in
     let more = open_array (push_item done (table last)) no_nodes in
     let same : open_array (push_item done (table (close (valued last)))) no_nodes ≡ more = rw (close-valued last) in
-    rw (at_key_ok field_key array_table ns (with_fields top (push_item done (table last)) no_nodes) before more
-    (get_node-insert field_key before (valued top)) (ap Some same) (sym (replace-insert field_key before more (valued top))))
+    rw (at_key_ok under array_table ns (with_tables under top (push_item done (table last)) no_nodes) before more
+    (get_node-insert under before (valued top)) (ap Some same) (sym (replace-insert under before more (valued top))))
 
 pub pair_line : (text at_equals at_value rest k : List ℕ) (d : Data) → (first text == 91) ≡ false → key text ≡ Some (([], k), at_equals)
     → (first at_equals == 61) ≡ true → at_value ≡ skip_ws (drop 1 at_equals) → val recursion_limit at_value ≡ Some (d, rest) → is_end rest ≡ true
@@ -116,12 +115,12 @@ pub pair_line : (text at_equals at_value rest k : List ℕ) (d : Data) → (firs
 unfolding line expression key_equals
 pair_line text at_equals at_value rest k d no_header named equal same read over = rw (no_header, named, equal, ← same, read, over)
 
-pub header_line : (text inside rest : List ℕ) → (first text == 91) ≡ true → (slice_index text 1 == 91) ≡ true
-    → key (skip_ws (drop 2 text)) ≡ Some (([], field_key), inside) → (first inside == 93) ≡ true → (first (drop 1 inside) == 93) ≡ true
+pub header_line : (under text inside rest : List ℕ) → (first text == 91) ≡ true → (slice_index text 1 == 91) ≡ true
+    → key (skip_ws (drop 2 text)) ≡ Some (([], under), inside) → (first inside == 93) ≡ true → (first (drop 1 inside) == 93) ≡ true
     → rest ≡ drop 1 (drop 1 inside) → is_end rest ≡ true
-    → line text ≡ Some (field_header, rest)
+    → line text ≡ Some (header_of under, rest)
 unfolding line expression header_key
-header_line text inside rest open_one open_two named close_one close_two same over = rw (open_one, open_two, named, close_one, close_two, ← same, over)
+header_line under text inside rest open_one open_two named close_one close_two same over = rw (open_one, open_two, named, close_one, close_two, ← same, over)
 
 pub none_of : {A : Type 0} (o : Option A) → is_some o ≡ false → o ≡ None
 none_of None h = refl
@@ -146,28 +145,28 @@ pair_goes_on around section place ms now k d m text after some read shorter put 
     (defines_pair around section place ms k d put.0)
     ∙ ap (λ ns. lines (m - 1) (around ns, section) after) put.1
 
--- the next table under `field`, and the one before complete
-pub header_goes_on : (top : Members) (done : Items) (last : Members) (m : ℕ) (text behind : List ℕ)
-    → 0 < m → line (skip_blank text) ≡ Some (field_header, behind) → length behind < length (skip_blank text)
-    → lines m (with_fields top done (valued last), field_key ∷ []) text
-    ≡ lines (m - 1) (with_fields top (push_item done (table last)) no_nodes, field_key ∷ []) behind
-header_goes_on top done last m text behind some read shorter =
-    lines_more m (with_fields top done (valued last), field_key ∷ []) (with_fields top (push_item done (table last)) no_nodes, field_key ∷ [])
-    text field_header behind some (not_empty _ _ shorter) read (defines_next top done last)
+-- the next table under the key, and the one before complete
+pub header_goes_on : (under : List ℕ) (top : Members) (done : Items) (last : Members) (m : ℕ) (text behind : List ℕ)
+    → 0 < m → line (skip_blank text) ≡ Some (header_of under, behind) → length behind < length (skip_blank text)
+    → lines m (with_tables under top done (valued last), under ∷ []) text
+    ≡ lines (m - 1) (with_tables under top (push_item done (table last)) no_nodes, under ∷ []) behind
+header_goes_on under top done last m text behind some read shorter =
+    lines_more m (with_tables under top done (valued last), under ∷ []) (with_tables under top (push_item done (table last)) no_nodes, under ∷ [])
+    text (header_of under) behind some (not_empty _ _ shorter) read (defines_next under top done last)
 
 -- the last table complete at the end of the text
-pub last_closed : (top : Members) (done : Items) (last : Members)
-    → close (with_fields top done (valued last)) ≡ close (insert field_key (value (array (push_item done (table last)))) (valued top))
-last_closed top done last =
-    close-insert field_key (open_array done (valued last)) (value (array (push_item done (table last)))) (valued top) (rw (close-valued last))
+pub last_closed : (under : List ℕ) (top : Members) (done : Items) (last : Members)
+    → close (with_tables under top done (valued last)) ≡ close (insert under (value (array (push_item done (table last)))) (valued top))
+last_closed under top done last =
+    close-insert under (open_array done (valued last)) (value (array (push_item done (table last)))) (valued top) (rw (close-valued last))
 
--- the first table under `field`
-pub first_header : (top : Members) (m : ℕ) (text behind : List ℕ) → get_node field_key (valued top) ≡ None
-    → 0 < m → line (skip_blank text) ≡ Some (field_header, behind) → length behind < length (skip_blank text)
-    → lines m (valued top, []) text ≡ lines (m - 1) (with_fields top no_items no_nodes, field_key ∷ []) behind
-first_header top m text behind missing some read shorter =
-    lines_more m (valued top, []) (with_fields top no_items no_nodes, field_key ∷ []) text field_header behind some (not_empty _ _ shorter) read
-    (defines_first top missing)
+-- the first table under the key
+pub first_header : (under : List ℕ) (top : Members) (m : ℕ) (text behind : List ℕ) → get_node under (valued top) ≡ None
+    → 0 < m → line (skip_blank text) ≡ Some (header_of under, behind) → length behind < length (skip_blank text)
+    → lines m (valued top, []) text ≡ lines (m - 1) (with_tables under top no_items no_nodes, under ∷ []) behind
+first_header under top m text behind missing some read shorter =
+    lines_more m (valued top, []) (with_tables under top no_items no_nodes, under ∷ []) text (header_of under) behind some (not_empty _ _ shorter) read
+    (defines_first under top missing)
 
 no_bom : (text : List ℕ) → (first text == 0xEF) ≡ false → skip_bom text ≡ text
 unfolding skip_bom
@@ -189,3 +188,57 @@ bare_read text word rest after count same some no_string is_word is_rest is_afte
     let here = rw after_is at no_dot in
     let bare : is_bare (first text) ≡ true = prefix_len_passes is_bare text 0 0 more in
     rw (no_string, bare, here, word_is, after_is) refl
+
+-- a pair on the next line
+pub put_goes_on : (ms now : Members) (k : List ℕ) (d : Data) (text after : List ℕ) → line (skip_blank text) ≡ Some ((([], k), key_value d), after)
+    → length after < length (skip_blank text) → length (skip_blank text) ≤ length text → IsPut ms k d now → GoesOn ms text now after
+put_goes_on ms now k d text after read shorter within put = (
+  omega (arith, shorter, within),
+  λ around section place n few. (
+    n - 1,
+    omega (arith, few, shorter, within),
+    pair_goes_on around section place ms now k d n text after (omega (arith, few)) read shorter put,
+  ),
+)
+
+-- some pairs, and behind them some more
+pub both_go_on : (ms more all : Members) (text rest after : List ℕ) → GoesOn ms text more rest → GoesOn more rest all after → GoesOn ms text all after
+both_go_on ms more all text rest after one two = (
+  omega (arith, one.0, two.0),
+  λ around section place n few.
+      let (m, room, here) = one.1 around section place n few in
+      let (k, left, there) = two.1 around section place m room in
+      (k, left, here ∙ there),
+)
+
+-- ---- the tables under a key, one after the other
+
+pub none_done : (under text : List ℕ) → HasDone under text no_items text
+none_done under text top n few = (n, few, refl)
+
+-- one more is complete where the header of the next comes
+pub one_done : (under text rest after behind : List ℕ) (done : Items) (last : Members) → HasDone under text done rest → GoesOn no_members rest last after
+    → line (skip_blank after) ≡ Some (header_of under, behind) → length behind < length (skip_blank after) → length (skip_blank after) ≤ length after
+    → HasDone under text (push_item done (table last)) behind
+unfolding valued
+one_done under text rest after behind done last so_far more read shorter within =
+    λ top n few.
+    let (m, room, here) = so_far top n few in
+    let (k, left, with_last) = more.1 (with_tables under top done) (under ∷ []) (in_last under top done) m room in (
+      k - 1,
+      omega (arith, left, within, shorter),
+      here ∙ with_last ∙ header_goes_on under top done last k after behind (omega (arith, left)) read shorter,
+    )
+
+-- the last is complete where the text is over
+pub all_done : (under text rest after : List ℕ) (done : Items) (last : Members) → HasDone under text done rest → GoesOn no_members rest last after
+    → length (skip_blank after) ≡ 0 → AreTables under text (push_item done (table last))
+unfolding valued
+all_done under text rest after done last so_far more over =
+    λ top n few.
+    let (m, room, here) = so_far top n few in
+    let (k, left, with_last) = more.1 (with_tables under top done) (under ∷ []) (in_last under top done) m room in (
+      (with_tables under top done (valued last), under ∷ []),
+      here ∙ with_last ∙ lines_end k (with_tables under top done (valued last), under ∷ []) after (omega (arith, left)) over,
+      last_closed under top done last,
+    )

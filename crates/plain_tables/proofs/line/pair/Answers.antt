@@ -3,8 +3,8 @@ use Rattle.std.proofs.lemmas.Bool.Decides.{nat_tests}
 use Rattle.std.proofs.lemmas.Grind.{common_steps}
 use Rattle.toml_parser.specs.Lexical.{first, skip_ws}
 use Rattle.toml.specs.View.{view}
-use Rattle.scr_layout.proofs.PlainLaws.{pair_line}
-use Rattle.scr_layout.proofs.plain.pair.Goals as goal
+use Rattle.plain_tables.proofs.Laws.{pair_line}
+use Rattle.plain_tables.proofs.line.pair.Goals as goal
 
 pub returns : goal.returns
 returns c =
