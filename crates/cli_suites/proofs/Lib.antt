@@ -6,3 +6,4 @@ mod Ruled
 mod PathLaws
 mod NameLaws
 mod SameLaws
+mod ScreensLaws

@@ -1,5 +1,5 @@
 -- The set of the names of jobs, where one more job comes to them.
-use Rattle.std.proofs.Common.{◌≡◌, ◌∙◌, ℕ, Bool, true, false, ◌||◌, cond, bytes_eq, String, List, [], ◌∷◌, ◌++◌, refl, sym, ap}
+use Rattle.std.proofs.Common.{◌≡◌, ◌∙◌, Bool, true, false, ◌||◌, cond, bytes_eq, String, List, [], ◌∷◌, ◌++◌, refl, sym, ap}
 use Rattle.std.specs.BTreeSet.{BTreeSet, Updates}
 use Rattle.std.specs.String.{string_cmp, string_bytes}
 use Rattle.std.proofs.lemmas.List.Folds.{list_any-append}

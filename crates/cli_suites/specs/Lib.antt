@@ -4,6 +4,7 @@ pub mod Job
 pub mod Values
 pub mod Tables
 pub mod Manifest
+pub mod Plain
 pub mod Count
 pub mod Answers
 pub mod Settled

@@ -17,6 +17,7 @@ mod last_layout;
 mod manifest;
 mod named_jobs;
 mod paths;
+mod plain;
 mod report;
 mod rule;
 mod settled;

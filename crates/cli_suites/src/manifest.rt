@@ -10,6 +10,7 @@ ghost use Rattle.cli_suites.specs.Manifest.{accepted_from, accepted_with, accept
 use crate::fault::{ManifestError, ManifestFault, ManifestKey, Why};
 use crate::job::{Accepted, Job, Kind};
 use crate::named_jobs::NamedJobs;
+use crate::plain::plain_manifest;
 use crate::tables::{JobTable, accepted_of, job_of, tables_at};
 use manifest_tables::{text_in, with_only};
 use std::alloc::Global;
@@ -282,6 +283,9 @@ fn table_of(alloc: Global, text: &str) -> Result<Table, ManifestError>
 fn manifest_of(alloc: Global, text: &str) -> Result<Manifest, ManifestError>
     ensures { Gives manifest_seen result (manifest_of text.now) }
 {
+    if let Some(manifest) = plain_manifest(alloc, text)? {
+        return Ok(manifest);
+    }
     let table = table_of(alloc, text)?;
     declaration_of(alloc, &table)
 }

@@ -57,7 +57,7 @@ const ACCEPTED_KEYS: [ManifestKey; 3] = [
 ];
 
 /// One path.
-fn single(alloc: Global, path: String) -> Result<Vec<String>, AllocError>
+pub(crate) fn single(alloc: Global, path: String) -> Result<Vec<String>, AllocError>
     ensures { IfOk result
         (λ paths. map string_bytes paths.items ≡ string_bytes path ∷ []) }
 {

@@ -7,3 +7,6 @@ mod table;
 
 pub use line::{header, pair};
 pub use table::pairs;
+
+#[cfg(test)]
+mod tests;
