@@ -1,6 +1,6 @@
 mod Rows
 mod Loop
-mod Plain
+mod FloatLaws
 mod Known
 mod Ruled
 mod PathLaws

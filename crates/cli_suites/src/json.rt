@@ -76,7 +76,7 @@ fn case_value(alloc: Global, name: &str, settled: &Settled) -> Result<Value, All
 }
 
 /// The line of a screen.
-#[tactic(auto, using(crate::proofs::Plain::case_plain))]
+#[tactic(auto, using(crate::proofs::FloatLaws::case_plain))]
 pub(crate) fn push_json_case(
     alloc: Global,
     out: &mut String,
